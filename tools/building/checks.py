@@ -29,7 +29,8 @@ class Check(NamedTuple):
 
 
 def run_check(words: List[str], folder: Path) -> Check:
-    """Runs a command of `rt` in the folder of a crate to its end, with both outputs in one."""
+    """Runs a command of `rt` in the folder of a crate to its end, with both outputs in one. A
+    status that isn't 0 isn't an error here; OSError if the command isn't there."""
     with subprocess.Popen(
         words,
         cwd=folder,
@@ -44,14 +45,15 @@ def run_check(words: List[str], folder: Path) -> Check:
 
 
 def wait_for(process: int) -> Tuple[int, int]:
-    """Waits for a child; its status, negative for a signal, and the most bytes that one process,
-    the child or one below it that was waited for, had."""
+    """Waits for a child to end. Returns its status, negative for a signal, and the most bytes that
+    a single process had: the child, or one below it that was waited for."""
     _, status, used = os.wait4(process, 0)
     return os.waitstatus_to_exitcode(status), used.ru_maxrss * 1024
 
 
 def memory_of_machine() -> int:
-    """How many bytes of memory the machine has."""
+    """How many bytes of memory the machine has, in use or not; a container's limit isn't looked
+    at."""
     with open(MEMORY, encoding='ascii') as file:
         fields = dict(line.split(':') for line in file)
     return int(fields['MemTotal'].split()[0]) * 1024

@@ -12,7 +12,7 @@ import time
 from pathlib import Path
 
 from .order import TOP, Work, chain_lengths, libraries
-from .proving import build_program, copy_to, prove_in
+from .proving import build_program, copy_to, error_text, keep_libraries, prove_in
 
 DESCRIPTION = """\
 Proves all that crashfs uses, several crates side by side, and builds the program.
@@ -22,10 +22,11 @@ repository as there are processors (4 at most) take a crate each: the lowest cra
 these the one with the longest chain of crates above it. That crate has two processors, and also
 those that no other crate can use, unless it is above many crates. The copies are in a temporary
 folder that is removed at the end. A copy gets the libraries that it lacks from the copies that
-proved them.
+proved them, and at the end the repository gets all, also if a crate was not proved.
 
 Status 0: the program is crates/crashfs/out/crashfs. Else a crate was not proved: what its check
-printed is printed, and the status is 1. If memory ran out, the last line says so."""
+printed is printed, and the status is 1. If memory ran out, or there was another error, as a full
+disk, the last line says so."""
 MOST_PROCESSORS = 4
 NO_RT = (
     'tools/build: rt: command not found; it is in the toolchain of Rattle, which the README names'
@@ -33,7 +34,9 @@ NO_RT = (
 
 
 def main() -> int:
-    """Runs tools/build with the words of its command line, and returns its status."""
+    """Runs tools/build with the words of its command line, and returns its status: 1 if there is no
+    `rt`, or a crate isn't proved. An error of the system, as a full disk, is a line with status 1.
+    A wrong word ends the program (SystemExit); fewer than one processor count as one."""
     parser = argparse.ArgumentParser(
         description=DESCRIPTION, formatter_class=argparse.RawDescriptionHelpFormatter
     )
@@ -49,12 +52,17 @@ def main() -> int:
     if shutil.which('rt') is None:
         print(NO_RT, file=sys.stderr)
         return 1
-    return build_all(max(1, given.processors))
+    try:
+        return build_all(max(1, given.processors))
+    except OSError as error:
+        print(f'tools/build: {error_text(error)}', file=sys.stderr)
+        return 1
 
 
 def build_all(processors: int) -> int:
     """Proves the libraries on so many processors, then the program, and returns the status: 0 if
-    all is proved and built."""
+    all is proved and built. After a crate that isn't proved no other is begun, and those that are
+    being proved are finished. All libraries that are proved are kept in the repository itself."""
     below, begun = libraries(), time.monotonic()
     work = Work(below, chain_lengths(below), processors)
     with tempfile.TemporaryDirectory(prefix='crashfs-build-') as room:
@@ -64,5 +72,6 @@ def build_all(processors: int) -> int:
             thread.start()
         for thread in threads:
             thread.join()
-        # The copies, from which the program gets the libraries, still exist.
-        return 1 if work.failed else build_program(work, begun)
+        # After a failure too: the next build then proves only what is left.
+        keep_libraries(work)
+    return 1 if work.failed else build_program(begun)

@@ -6,23 +6,29 @@ import shutil
 import sys
 import time
 from pathlib import Path
+from typing import Tuple
+
+from crashfs_tools.common.command import shortened
+from crashfs_tools.common.printable import printable
 
 from .checks import Check, killed_text, run_check
-from .order import PROGRAM, TOP, Work, crates_below
+from .order import PROGRAM, TOP, Work, crates_below, texts_of
 from .sharing import give_library
 
 
 def is_library_current(top: Path, name: str) -> bool:
     """Whether the library of a crate in a copy is newer than all texts of the crate: `rt` then only
-    needs a second to look."""
+    needs a second to look. False if there is none. The texts of crates below aren't looked at."""
     crate = top / 'crates' / name
     library = crate / 'out' / 'rlib' / 'stamp'
-    texts = (it for part in ('src', 'specs', 'proofs') for it in (crate / part).rglob('*'))
-    return library.is_file() and all(it.stat().st_mtime <= library.stat().st_mtime for it in texts)
+    return library.is_file() and all(
+        it.stat().st_mtime <= library.stat().st_mtime for it in texts_of(crate)
+    )
 
 
 def copy_to(folder: Path) -> Path:
-    """Copies what `rt` reads of the repository into a new folder, and returns that."""
+    """Copies what `rt` reads of the repository, without what it made, into a new folder, and
+    returns that. FileExistsError if the folder has crates already."""
     (folder / 'crates').mkdir(parents=True)
     for name in ('crates.txt', 'HANDLES'):
         shutil.copy2(TOP / name, folder / name)
@@ -32,8 +38,8 @@ def copy_to(folder: Path) -> Path:
 
 
 def report_failure(name: str, check: Check, jobs: int, processors: int) -> None:
-    """Prints what the check of a crate printed that has failed, and why, if the system killed
-    it."""
+    """Prints on standard error what a check that failed has printed. If the system killed it,
+    killed_text follows."""
     sys.stderr.buffer.write(check.output)
     sys.stderr.buffer.flush()
     if check.is_killed:
@@ -41,32 +47,52 @@ def report_failure(name: str, check: Check, jobs: int, processors: int) -> None:
 
 
 def prove_in(copy: Path, work: Work, begun: float) -> None:
-    """Proves one crate after the other in a copy of the repository, until nothing is left, and
-    prints a line for each with the minutes since `begun`. A crate whose library in the repository
-    itself is current is checked there, which takes a second."""
+    """Proves one crate after the other in a copy of the repository, until nothing is left or one
+    isn't proved, and prints a line for each with the minutes since `begun`."""
     while True:
         chosen = work.next_crate()
         if chosen is None:
             return
         name, jobs = chosen
-        top = TOP if is_library_current(TOP, name) else copy
-        for library in crates_below(work.below, name):
-            give_library(work.places[library], top, library)
-        check = run_check(['rt', 'lib', '--jobs', str(jobs)], top / 'crates' / name)
+        top, check = check_in(copy, work, name, jobs)
         work.end_crate(name, top if check.status == 0 else None)
-        said = 'proved' if check.status == 0 else 'NOT PROVED'
+        result = 'proved' if check.status == 0 else 'NOT PROVED'
         minutes = (time.monotonic() - begun) / 60
         count = f'{len(work.places)} of {len(work.below)}'
-        print(f'{minutes:5.1f} min: {name} {said} ({count})', flush=True)
+        print(f'{minutes:5.1f} min: {name} {result} ({count})', flush=True)
         if check.status:
             report_failure(name, check, jobs, work.processors)
 
 
-def build_program(work: Work, begun: float) -> int:
-    """Builds the program over libraries that are all proved, and returns the status: 0, or 1 if it
-    isn't built."""
+def check_in(copy: Path, work: Work, name: str, jobs: int) -> Tuple[Path, Check]:
+    """Checks a crate in a copy of the repository, or, which takes a second, in the repository
+    itself if the crate's library there is current. Returns where, and the check. Any error, as a
+    full disk, is a check that failed and printed that: other threads wait for the crate's end."""
+    top = copy
+    try:
+        if is_library_current(TOP, name):
+            top = TOP
+        for library in crates_below(work.below, name):
+            give_library(work.places[library], top, library)
+        return top, run_check(['rt', 'lib', '--jobs', str(jobs)], top / 'crates' / name)
+    except Exception as error:
+        return top, Check(1, f'{name}: {error_text(error)}\n'.encode(), 0)
+
+
+def error_text(error: Exception) -> str:
+    """An error as a line: its type and its text, without control characters, and shortened."""
+    return shortened(printable(f'{type(error).__name__}: {error}'))
+
+
+def keep_libraries(work: Work) -> None:
+    """Copies each library that is proved to the repository itself; OSError if one can't be."""
     for name, place in work.places.items():
         give_library(place, TOP, name)
+
+
+def build_program(begun: float) -> int:
+    """Builds the program in the repository itself, which has all libraries. Returns the status: 0,
+    or 1 if it isn't built; what `rt` printed is printed then."""
     words = ['rt', 'run', '--jobs', '1', '--', '--help']
     check = run_check(words, TOP / 'crates' / PROGRAM)
     if check.status:

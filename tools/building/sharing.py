@@ -12,15 +12,16 @@ def library_of(top: Path, name: str) -> Path:
 
 
 def stamp_of(library: Path) -> bytes:
-    """What `rt` writes once a library is whole: a sum of all texts that it was made from. Empty if
-    there is no whole library."""
+    """What `rt` writes once a library is whole: a checksum of all texts that it was made from.
+    Empty if there is no library, or it isn't whole."""
     stamp = library / 'stamp'
     return stamp.read_bytes() if stamp.is_file() else b''
 
 
 def give_library(source: Path, target: Path, name: str) -> None:
-    """Copies the proved library of a crate from a copy of the repository to another, unless it is
-    there, so that `rt` doesn't prove it again. It is never seen half copied."""
+    """Copies the proved library of a crate from one copy of the repository to another, so that `rt`
+    doesn't prove it again. Nothing is done if both have the same one, or none. One that differs is
+    removed first; a half copied library is never in its place."""
     proved, library = library_of(source, name), library_of(target, name)
     if stamp_of(proved) == stamp_of(library):
         return

@@ -22,7 +22,7 @@ OTHERS = pytest.StashKey[List[str]]()
 
 
 def pytest_addoption(parser: pytest.Parser) -> None:
-    """Adds the options of this plugin, as pytest calls it."""
+    """The hook by which pytest asks for options: adds --crash-states and --crash-accept."""
     group = parser.getgroup('crash states (crashfs)')
     group.addoption(
         '--crash-states',
@@ -37,7 +37,8 @@ def pytest_addoption(parser: pytest.Parser) -> None:
 
 
 class CrashStates:
-    """Records a session, and runs a recovery in its crash states; for one test."""
+    """What the fixture gives a test, which calls it once: it records a session, and runs a recovery
+    in its crash states."""
 
     def __init__(self, item: pytest.Item, folder: Path) -> None:
         self.item = item
@@ -55,10 +56,13 @@ class CrashStates:
         accept: Optional[PathLike] = None,
         **options: Any,
     ) -> Report:
-        """Fails the test if a state fails, with each entry of the report; returns the report.
+        """Records the session, runs the recovery in its crash states, and returns the report. The
+        test fails with one failure for each entry that isn't accepted. It also fails if a state has
+        no answer, if the trace isn't complete, or if record() or check() refuses something.
 
-        start fills the directory before the session begins. The options are those of
-        crashfs_tools.record and, the others, of crashfs_tools.check."""
+        start is called with the directory before the session begins. ignore, mapped and block are
+        options of crashfs_tools.record, all others of crashfs_tools.check; accept takes the place
+        of --crash-accept. A second call in the same test is a FileExistsError."""
         store = self.folder / 'store'
         store.mkdir()
         if start is not None:
@@ -76,8 +80,9 @@ class CrashStates:
         return report
 
     def fail_if_bad(self, report: Report, trace: Path) -> None:
-        """Fails the test with the first entry, and keeps the others; or with the whole report if
-        not all states have an answer."""
+        """Fails the test with the first failure of the report; pytest_runtest_protocol reports the
+        others, which are kept. If there is none but the status isn't 0, as for a state that wasn't
+        tried, the test fails with the whole report. Returns only for the status 0."""
         texts = [failure_text(entry, trace) for entry in report.failures]
         if texts:
             self.item.stash[OTHERS] = texts[1:]
@@ -87,7 +92,7 @@ class CrashStates:
 
 
 def failure_text(entry: Entry, trace: Path) -> str:
-    """An entry as the text of a test's failure."""
+    """An entry as the text of a test's failure, with its example's number and the trace."""
     return f'{entry}\n  state {entry.example} of {trace}'
 
 
@@ -98,7 +103,8 @@ def fail(*lines: str) -> None:
 
 @pytest.fixture
 def crash_states(request: pytest.FixtureRequest, tmp_path: Path) -> CrashStates:
-    """Call it with a session and a recovery: functions of the test's module, or commands."""
+    """The fixture: the test calls it with a session and a recovery, each a function or a command
+    (CrashStates). Without --crash-states the test is skipped."""
     if not request.config.getoption('--crash-states'):
         pytest.skip('needs --crash-states')
     return CrashStates(request.node, tmp_path)
@@ -106,7 +112,8 @@ def crash_states(request: pytest.FixtureRequest, tmp_path: Path) -> CrashStates:
 
 @pytest.hookimpl(hookwrapper=True)
 def pytest_runtest_protocol(item: pytest.Item) -> Iterator[None]:
-    """Reports the further failures of a test after its own."""
+    """After a test has run, reports each further failure that CrashStates kept as a failed test of
+    its own: pytest itself has one failure for a test."""
     yield
     others = item.stash[OTHERS] if OTHERS in item.stash else []
     for number, text in enumerate(others, 2):
@@ -114,7 +121,8 @@ def pytest_runtest_protocol(item: pytest.Item) -> Iterator[None]:
 
 
 def failure_report(item: pytest.Item, number: int, text: str) -> pytest.TestReport:
-    """The report of a further failure of a test, whose name has a number."""
+    """The report of a further failure of a test, as if another test at its place had failed. Its
+    name is that of the test with the number after it, as `test_store (2)`."""
     try:
         fail(text)
     except pytest.fail.Exception:

@@ -27,8 +27,8 @@ class Prover:
 
 
 def kind_of_work(words: List[str], folder: str) -> str:
-    """What a prover with these arguments works on in a folder: tests, programs, edits or proof. An
-    edit is tried in a copy of its crate, which isn't below a folder `crates`."""
+    """What a prover with these arguments works on in this folder: `tests`, `programs`, `edits` or
+    `proof`. An edit is tried in a copy of its crate, which isn't below a folder `crates`."""
     if '--test' in words:
         return 'tests'
     if '--crate-checked' in words:
@@ -40,13 +40,14 @@ def kind_of_work(words: List[str], folder: str) -> str:
 
 def fields_of(process: Path) -> List[str]:
     """The fields of proc(5)'s stat of a process from field 3, its state, on: so the parent is at 1,
-    the times at 11 to 14, the begin at 19, the memory at 21. OSError if it has ended. Field 2, the
-    name, may have any bytes."""
+    the times at 11 to 14, the begin at 19, the memory at 21. Field 2, the name, may have any bytes.
+    OSError or IndexError if the process has ended."""
     return (process / 'stat').read_text('ascii', 'replace').rsplit(')', 1)[1].split()
 
 
 def parent_of(process: Path) -> int:
-    """The number of the process that started it; 0 if it has ended."""
+    """The number of the process that started this one, or that took it over when that ended; 0 if
+    it has ended itself."""
     try:
         return int(fields_of(process)[1])
     except (OSError, IndexError):
@@ -54,7 +55,8 @@ def parent_of(process: Path) -> int:
 
 
 def prover_of(process: Path) -> Optional[Prover]:
-    """What a process proves; None if it is no prover of a crate, or has ended."""
+    """What a process proves, as it is now; None if it is no prover of a crate, has ended, or may
+    not be read."""
     try:
         words = (process / 'cmdline').read_bytes().decode(errors='replace').split('\0')
         if not words[0].endswith('/rattle') or '--crate-name' not in words:
@@ -75,15 +77,17 @@ def prover_of(process: Path) -> Optional[Prover]:
 
 
 def ancestors(number: int, parents: Dict[int, int]) -> Iterator[int]:
-    """A process, the one that started it, and so on, as far as they are known."""
+    """A process, the one that started it, and so on upwards. `parents` has the parent of each known
+    process by number: the first that it doesn't have isn't among them."""
     while number in parents:
         yield number
         number = parents[number]
 
 
 def provers_below(top: int) -> List[List[Prover]]:
-    """The provers below a process, in groups: first one that no other prover started, then those
-    that it started."""
+    """The provers that run below a process, in groups: in each first one that no other prover
+    started, then those that came from it. Empty if there are none, also if the process has
+    ended."""
     processes = [path for path in PROCESSES.iterdir() if path.name.isdigit()]
     parents = {int(path.name): parent_of(path) for path in processes}
     running = {prover.number: prover for prover in map(prover_of, processes) if prover}

@@ -34,7 +34,8 @@ QUICK = (
 
 
 def tests_to_run(is_quick: bool) -> unittest.TestSuite:
-    """All tests, or those of the quick modules that are there."""
+    """All tests of the tools, or those of the quick modules: a quick module that isn't there is
+    left out. A module that can't be imported is a test that fails."""
     if not is_quick:
         return unittest.defaultTestLoader.discover(str(TOOLS), top_level_dir=str(TOOLS))
     names = [f'test_{name}' for name in QUICK if (TOOLS / 'tests' / f'test_{name}.py').is_file()]
@@ -47,7 +48,9 @@ def skipped_for_program(result: unittest.TestResult) -> int:
 
 
 def summary_line(result: unittest.TestResult, needs_program: bool) -> str:
-    """How many tests ran, failed and were skipped, and why."""
+    """How many tests ran, failed and were skipped, and why they were: the commonest reason first.
+    An unexpected success counts as failed. needs_program: those that are skipped because there is
+    no `crashfs` are counted once more, as a fault."""
     failed = len(result.failures) + len(result.errors) + len(result.unexpectedSuccesses)
     line = f'{result.testsRun} run, {failed} failed, {len(result.skipped)} skipped'
     reasons = Counter(reason for _, reason in result.skipped)
@@ -58,13 +61,16 @@ def summary_line(result: unittest.TestResult, needs_program: bool) -> str:
 
 
 def has_passed(result: unittest.TestResult, needs_program: bool) -> bool:
-    """Whether tests ran, none failed, and none was skipped that must run."""
+    """Whether at least one test ran, none failed, and none was skipped that must run: with
+    needs_program none may be skipped because there is no `crashfs`."""
     is_complete = not (needs_program and skipped_for_program(result))
     return result.wasSuccessful() and result.testsRun > 0 and is_complete
 
 
 def main(words: Optional[List[str]] = None) -> int:
-    """Runs the tests as the words, or the command line, ask for; returns 0 if they have passed."""
+    """Runs the tests as the words, or the command line, ask for, and prints what unittest prints
+    and then a line that counts them. Returns 0 if they have passed, else 1. A wrong word ends the
+    program (SystemExit)."""
     parser = argparse.ArgumentParser(prog='gating.suite', description=__doc__)
     parser.add_argument('--program', action='store_true', help='crashfs is built')
     parser.add_argument('--quick', action='store_true', help='run a few modules only')

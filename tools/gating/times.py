@@ -34,7 +34,9 @@ class Share:
 
     def add(self, group: List[Prover], now: float) -> None:
         """Counts a group, a prover and those that it started, as it is at the time `now`, in
-        seconds since the system began. Seconds never fall: those of an ended child come later."""
+        seconds since the system began: it takes the place of an earlier sample of this group.
+        Seconds never fall: those of a process that ended are missing until the prover has waited
+        for it."""
         first = group[0]
         process = first.number, first.begun
         seconds = sum(prover.seconds for prover in group)
@@ -47,14 +49,15 @@ Shares = Dict[Tuple[str, str], Share]
 
 
 def add_sample(shares: Shares, groups: List[List[Prover]], now: float) -> None:
-    """Adds what each group of running provers has taken so far to its crate and kind."""
+    """Adds a sample of all groups of running provers to `shares`. A group counts for the crate and
+    the kind of its first prover."""
     for group in groups:
         shares.setdefault((group[0].crate, group[0].kind), Share()).add(group, now)
 
 
 def crate_row(crate: str, shares: Shares) -> List[str]:
     """A crate's row of the table: seconds by kind, their sum, the wall seconds of the prover that
-    ran longest, and megabytes."""
+    ran longest, and megabytes. ValueError if `shares` has nothing of the crate."""
     own = {kind: share for (name, kind), share in shares.items() if name == crate}
     taken = [sum(own[kind].seconds.values()) if kind in own else 0.0 for kind in KINDS]
     longest = max(wall for share in own.values() for wall in share.walls.values())
@@ -63,7 +66,8 @@ def crate_row(crate: str, shares: Shares) -> List[str]:
 
 
 def table_of(shares: Shares, wall: float) -> str:
-    """A line for each crate, those with the most seconds first, and the sum of all."""
+    """The table: a line for each crate, those with the most seconds first, and the sum of all.
+    `wall` is how many seconds it was sampled."""
     crates: Dict[str, float] = defaultdict(float)
     for (crate, _), share in shares.items():
         crates[crate] += sum(share.seconds.values())
@@ -80,7 +84,8 @@ def is_running(process: int) -> bool:
 
 
 def sample_until_end(process: int, every: float, has_ended: threading.Event) -> str:
-    """Samples until the event or the process's end, and returns the table."""
+    """Takes a sample, and then one each `every` seconds, until the event is set or the process has
+    ended, and returns the table. If the process has ended before, the table has no crate."""
     shares: Shares = {}
     begun = time.monotonic()
     while is_running(process):
@@ -91,7 +96,9 @@ def sample_until_end(process: int, every: float, has_ended: threading.Event) -> 
 
 
 def main(words: Optional[List[str]] = None) -> int:
-    """Runs gate-times with these words, or those of its command line, and returns its status."""
+    """Runs gate-times with these words, or those of its command line, until the process ends or a
+    signal comes, and returns 0, also if there is no such process. SIGTERM and SIGINT no longer end
+    this process itself. A wrong word ends the program (SystemExit)."""
     parser = argparse.ArgumentParser(
         prog='gate-times', description=ABOUT, formatter_class=argparse.RawDescriptionHelpFormatter
     )

@@ -23,7 +23,7 @@ class Verdict:
 
     def reasons_against(self, commit: str, toolchain: str) -> List[str]:
         """Why a release of this commit and toolchain can't rest on it, a sentence for each reason;
-        none if it can."""
+        none if it can. The counts must have no failed test and at least one that passed."""
         counts = COUNTS.fullmatch(self.counts)
         passed, failed = (int(counts[1]), int(counts[2])) if counts else (0, 0)
         rows = [
@@ -37,7 +37,8 @@ class Verdict:
 
 
 def verdict_of(log: str) -> Verdict:
-    """The verdict of what `.ci/run` printed; ValueError if the last lines aren't the gate's."""
+    """The verdict of what `.ci/run` printed, from its last lines. ValueError if they aren't the
+    gate's, in its order, with the counts last."""
     lines = log.rstrip('\n').split('\n')
     fields: Dict[str, str] = {}
     for name, line in zip(FIELDS, lines[-len(FIELDS) - 1 : -1]):
@@ -57,7 +58,9 @@ def verdict_of(log: str) -> Verdict:
 
 
 def counts_of_gate(log: str, commit: str, toolchain: str) -> str:
-    """The counts of a gate of this commit and toolchain that passed; ValueError otherwise."""
+    """The counts of a gate of this commit and toolchain that passed, as `N passed, 0 failed`, from
+    what `.ci/run` printed. ValueError if it is of others, didn't pass, or isn't what a gate
+    prints."""
     verdict = verdict_of(log)
     reasons = verdict.reasons_against(commit, toolchain)
     if reasons:

@@ -21,12 +21,14 @@ Exit status 0, or 1 with --check if a file is missing or older than the sources.
 
 
 def made_files() -> Dict[Path, str]:
-    """Each file that is made from the sources, with the text that it should have now."""
+    """Each file that is made from the sources, with the text that it should have now. ValueError if
+    docs/RESULTS.md doesn't have its marks."""
     return {**completion_files(), PAGE: page_with(PAGE.read_text('utf-8'), results_part())}
 
 
 def older_files(made: Optional[Dict[Path, str]] = None) -> List[Path]:
-    """Which of the files that are made (by default all) are missing, or have another text."""
+    """The files of `made` that are missing, or that have another text than it gives them; in its
+    order. By default it has all files that are made from the sources."""
     return [
         path
         for path, text in (made_files() if made is None else made).items()
@@ -35,7 +37,9 @@ def older_files(made: Optional[Dict[Path, str]] = None) -> List[Path]:
 
 
 def main(words: Optional[List[str]] = None) -> int:
-    """Writes, compares or prints, as the words of the command line say; returns the status."""
+    """Writes, compares or prints, as the words of the command line say; returns the status: 1 only
+    if --check finds a file that differs. A file that is as it should be isn't written again. A
+    wrong word ends the program (SystemExit)."""
     parser = argparse.ArgumentParser(
         prog='inventories', description=ABOUT, formatter_class=argparse.RawDescriptionHelpFormatter
     )

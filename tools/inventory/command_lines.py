@@ -42,7 +42,8 @@ VERSION = Option(('-V', '--version'), 'Prints the version')
 
 
 def options_of_tool(command: str) -> List[Option]:
-    """The options that the parser of a command of TOOLS takes, as its --help lists them."""
+    """The options that the parser of a command of TOOLS takes, in the order of its --help, without
+    those that this hides. KeyError for any other command."""
     # argparse has no public list of a parser's options. A test looks for each in --help.
     actions = TOOLS[command]()._actions
     return [
@@ -54,28 +55,29 @@ def options_of_tool(command: str) -> List[Option]:
 
 def option_of(action: argparse.Action) -> Option:
     """An option of a parser. Its value is named as --help does, by the metavar or else by the
-    attribute in which it is kept; an action of no values takes none."""
+    attribute in which it is kept, in capitals; a flag has no value."""
     value = str(action.metavar or action.dest).upper() if action.nargs != 0 else None
     choices = tuple(str(it) for it in action.choices or ())
     return Option(tuple(action.option_strings), first_sentence(action), value, choices)
 
 
 def first_sentence(action: argparse.Action) -> str:
-    """The first sentence of an option's help. What is in brackets is left out: a default may differ
-    on another machine, as the number of processors does."""
+    """The first sentence of an option's help, which also ends before a semicolon or colon; empty if
+    there is no help. What is in brackets is left out: a default may differ on another machine, as
+    the number of processors does."""
     text = ' '.join((action.help or '').split()) % {**vars(action), 'prog': ''}
     return re.split(r'; |\. |: ', re.sub(r' \([^)]*\)', '', text))[0].rstrip('.')
 
 
 def functions_of_program() -> Dict[str, str]:
-    """The functions of SOURCE by name, each with the text up to the next one's head."""
+    """The functions of SOURCE by name, each with the text from its name to the next one's head."""
     parts = re.split(r'^(?:pub )?fn (\w+)', SOURCE.read_text('utf-8'), flags=re.M)
     return dict(zip(parts[1::2], parts[2::2]))
 
 
 def argument_text(body: str, argument: str) -> str:
-    """The text that a call in a function's body is given: a literal, or the name of a variable that
-    the body sets to one. Empty if it sets no such variable."""
+    """The value of an argument in a function's body: the argument is a literal, with its quotes, or
+    the name of a variable that the body sets to one. Empty if the body sets no such variable."""
     if argument.startswith('"'):
         return argument.strip('"')
     found = re.search(rf'let {argument} =\s*"([^"]*)"', body)
@@ -84,7 +86,8 @@ def argument_text(body: str, argument: str) -> str:
 
 def options_in(function: str, functions: Dict[str, str]) -> List[Option]:
     """The options that a function of SOURCE adds, by itself and by the functions `with_..` that it
-    calls. KeyError if there is no such function."""
+    calls. They are in the order of the four kinds below, not in that of the source, and those of
+    other functions come last. KeyError if there is no such function."""
     body, found = functions[function], []
     text = r'("[^"]*"|\w+)'
     for name, about in re.findall(rf'flag\(alloc, "([\w-]+)", {text}', body):
@@ -104,13 +107,15 @@ def options_in(function: str, functions: Dict[str, str]) -> List[Option]:
 
 
 def command_help(command: str) -> str:
-    """What the program's help says of a command; empty if it says nothing."""
+    """What the program's help says of a command; empty if it says nothing. KeyError if there is no
+    such command."""
     found = re.search(r'\.about\("([^"]*)"\)', functions_of_program()[f'{command}_command'])
     return found[1] if found else ''
 
 
 def commands_of_program() -> Dict[str, List[Option]]:
-    """The options of each command of the program, by its name, as SOURCE has them."""
+    """The options of each command of the program, by its name, as SOURCE has them; without --help,
+    which each has."""
     functions = functions_of_program()
     return {
         name.replace('_command', ''): options_in(name, functions)

@@ -28,7 +28,8 @@ def option_names(options: List[Option]) -> str:
 
 
 def wrapped_lines(words: str, indent: str) -> str:
-    """Words as lines that begin with the indent, of at most COLUMNS unless a word is longer."""
+    """Words, which are separated by blanks, as lines that begin with the indent. A line has at most
+    COLUMNS letters, unless a single word needs more."""
     lines, line = [], ''
     for word in words.split():
         if line and len(indent) + len(line) + 1 + len(word) > COLUMNS:
@@ -39,8 +40,9 @@ def wrapped_lines(words: str, indent: str) -> str:
 
 
 def bash_value_branches(options: List[Option]) -> str:
-    """The branches of a `case` of bash for options that take a value, when one of them is the word
-    before: it offers the values that are accepted, or else nothing, so that bash offers files."""
+    """The branches of a `case` of bash on the word before the one to complete, for options that
+    take a value. A branch offers the only values that are accepted; if an option has no such list,
+    its branch returns, and bash offers files. Empty if no option takes a value."""
     known = [it for it in options if it.choices]
     cases = [f'        {" | ".join(it.names)}) words=\'{" ".join(it.choices)}\' ;;' for it in known]
     taking = ' | '.join(name for it in options if it.value and not it.choices for name in it.names)
@@ -50,7 +52,8 @@ def bash_value_branches(options: List[Option]) -> str:
 
 
 def bash_of_tool(command: str) -> str:
-    """The completion file of a command of TOOLS for bash."""
+    """The text of the completion file of a command of TOOLS for bash. After `--` it offers files
+    only."""
     options, name = options_of_tool(command), command.replace('-', '_')
     return f'''\
 # Completion for bash of {command}. {MADE}
@@ -75,7 +78,8 @@ complete -o default -F _{name} {command}
 
 
 def bash_of_program() -> str:
-    """The completion file of crashfs for bash: its commands, and then the options of one."""
+    """The text of the completion file of crashfs for bash: first it offers the commands, then the
+    options of the command that is given."""
     commands = commands_of_program()
     every = {name: it for options in commands.values() for it in options for name in it.names}
     cases = '\n'.join(
@@ -110,13 +114,15 @@ complete -o default -F _crashfs crashfs
 
 
 def quoted_text(text: str) -> str:
-    """A text as it is within single quotes of zsh and fish. An apostrophe would end the quotes, so
-    it becomes a typographic one."""
+    """A text as it is within single quotes of zsh and fish, without these quotes. An apostrophe
+    would end the quotes, so it becomes a typographic one."""
     return text.replace('\\', '\\\\').replace("'", "’")
 
 
 def zsh_option(option: Option) -> str:
-    """An option as `_arguments` of zsh takes it; its names exclude each other."""
+    """An option as `_arguments` of zsh takes it: after one of its names the others aren't offered.
+    Square brackets of the help become round ones. A value without a list of choices is completed as
+    a file."""
     about = quoted_text(option.help).replace('[', '(').replace(']', ')').replace(':', '\\:')
     value = ''
     if option.value:
@@ -130,13 +136,15 @@ def zsh_option(option: Option) -> str:
 
 
 def zsh_of_tool(command: str) -> str:
-    """The completion file of a command of TOOLS for zsh. -S: options end at `--`."""
+    """The text of the completion file of a command of TOOLS for zsh. -S: options end at `--`, after
+    which files are offered."""
     lines = ' \\\n    '.join(zsh_option(it) for it in options_of_tool(command))
     return f"#compdef {command}\n# {MADE}\n_arguments -S \\\n    {lines} \\\n    '*:file:_files'\n"
 
 
 def zsh_of_program() -> str:
-    """The completion file of crashfs for zsh."""
+    """The text of the completion file of crashfs for zsh. The first word is a command; with any of
+    them but `help`, a file is offered as TRACE."""
     commands = commands_of_program()
     cases = []
     for name, options in commands.items():
@@ -170,8 +178,9 @@ fi
 
 
 def fish_option(command: str, option: Option, condition: str = '') -> str:
-    """A line for fish that offers an option of a command, if the words ` -n ..` of the condition
-    hold."""
+    """A line for fish that offers an option of a command. The condition is a text ` -n ..` that
+    says when; it is always offered if that is empty. A value without a list of choices is completed
+    as a file."""
     names = ' '.join(
         f'-l {it[2:]}' if it.startswith('--') else f'-s {it[1:]}' for it in option.names
     )
@@ -182,13 +191,14 @@ def fish_option(command: str, option: Option, condition: str = '') -> str:
 
 
 def fish_of_tool(command: str) -> str:
-    """The completion file of a command of TOOLS for fish."""
+    """The text of the completion file of a command of TOOLS for fish: a line for each option."""
     lines = [fish_option(command, it) for it in options_of_tool(command)]
     return '\n'.join([f'# {MADE}', *lines]) + '\n'
 
 
 def fish_of_program() -> str:
-    """The completion file of crashfs for fish."""
+    """The text of the completion file of crashfs for fish: commands as long as none is given, then
+    the options of the one that is."""
     lines = [
         f'# {MADE}',
         fish_option('crashfs', HELP),
@@ -205,7 +215,8 @@ def fish_of_program() -> str:
 
 
 def completion_files() -> Dict[Path, str]:
-    """The completion file of each command for each shell, by its path."""
+    """The texts of the completion files, for each command and each shell, by their paths. Nothing
+    is written."""
     made = {
         FOLDER / 'crashfs.bash': bash_of_program(),
         FOLDER / 'crashfs.zsh': zsh_of_program(),

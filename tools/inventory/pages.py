@@ -32,8 +32,8 @@ def table_cell(text: str) -> str:
 
 
 def tests_of(crate: str) -> List[str]:
-    """The lines that list a crate's tests: a table for each file that has some. None if it has no
-    test."""
+    """The lines that list a crate's tests: a heading, and a table for each file that has tests.
+    Empty if the crate has none."""
     lines: List[str] = []
     for path in files_of(crate, 'src', '.rt'):
         examples = examples_in(path)
@@ -47,13 +47,14 @@ def tests_of(crate: str) -> List[str]:
 
 
 def tests_of_tools() -> List[str]:
-    """The lines of the table of tools/tests, a row for each file."""
+    """The lines that list tools/tests: a heading, and a table with a row for each file. A file is
+    listed even if it says nothing."""
     rows = [f'| {table_cell(it.sentence)} | `{it.name}` |' for it in tools_tests()]
     return ['', '### tools/tests', '', '| What it shows | File |', '|---|---|', *rows]
 
 
 def tests_as_data() -> List[str]:
-    """The lines that list tools/tests/data/cases: a table for each folder."""
+    """The lines that list tools/tests/data/cases: a heading and a table for each folder."""
     lines: List[str] = []
     for area in case_areas():
         lines += ['', f'### tools/tests/data/cases/{area}', '', '| Example | File |', '|---|---|']
@@ -62,7 +63,8 @@ def tests_as_data() -> List[str]:
 
 
 def must_fail_edits() -> List[str]:
-    """The lines of the table of must-fail edits, a row for each crate that has some."""
+    """The lines that list the must-fail edits: a heading, and a table with a row for each crate
+    that has some."""
     lines = [
         '',
         '## Wrong bodies that the prover refuses',
@@ -78,13 +80,15 @@ def must_fail_edits() -> List[str]:
 
 
 def tests_list() -> str:
-    """The list of all tests (of crates, as data, of tools) and of must-fail edits, as Markdown."""
+    """The list of all tests and of must-fail edits, as Markdown: the crates' tests first, then
+    those that are data, those of the tools, and the edits."""
     crates = [line for crate in crate_names() for line in tests_of(crate)]
     return '\n'.join(crates + tests_as_data() + tests_of_tools() + must_fail_edits()).strip()
 
 
 def calls_shown(calls: List[str]) -> str:
-    """The first MOST_CALLS of some calls, and how many more there are; empty if there are none."""
+    """The first MOST_CALLS of some calls, and how many more there are; empty if there are no
+    calls."""
     shown = ', '.join(f'`{call}`' for call in calls[:MOST_CALLS])
     more = len(calls) - MOST_CALLS
     return f'{shown} and {more} more' if more > 0 else shown
@@ -92,7 +96,8 @@ def calls_shown(calls: List[str]) -> str:
 
 def words_list() -> str:
     """The list of the words of `specs/` of all crates, as Markdown: what each says, its file, and
-    the calls whose contracts cite it."""
+    the calls whose contracts cite it. Crates without words are left out; words that nothing cites
+    aren't."""
     cited, lines = citations(), []
     for crate in crate_names():
         own_words, calls = words_of(crate), cited.get(crate, {})
@@ -113,8 +118,8 @@ def words_list() -> str:
 
 
 def page_with(page: str, part: str) -> str:
-    """A page with this part between its lines BEGIN and END. ValueError if it doesn't have both
-    once, in this order."""
+    """A page with this part between its marks BEGIN and END, in the place of what is there.
+    ValueError if it doesn't have each mark once, in this order."""
     between = re.compile(f'{re.escape(BEGIN)}.*{re.escape(END)}', re.DOTALL)
     made, count = between.subn(lambda _: f'{BEGIN}\n\n{part}\n\n{END}', page)
     if (count, page.count(BEGIN), page.count(END)) != (1, 1, 1):

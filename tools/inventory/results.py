@@ -20,13 +20,15 @@ Row = Dict[str, Any]
 
 
 def results_part() -> str:
-    """The made part of the page: the table, and of each store the first entry of a report."""
+    """The made part of the page, from DATA: the table of all sessions, and the first failure of
+    each store."""
     rows: List[Row] = json.loads(DATA.read_text('utf-8'))
     return '\n'.join([*table_lines(rows), *failure_lines(rows)])
 
 
 def table_lines(rows: List[Row]) -> Iterator[str]:
-    """The lines of the table of all sessions."""
+    """The lines of the table of sessions in Markdown, in the order of the rows: its head, and a
+    line for each."""
     columns = ['Store', 'Session', 'Crash states (sets)', 'Fail']
     columns += [f'`{name}`' for name in PROFILES]
     columns += list(DISKS.values())
@@ -37,7 +39,8 @@ def table_lines(rows: List[Row]) -> Iterator[str]:
 
 
 def row_cells(row: Row) -> Iterator[str]:
-    """The cells of a session in the table."""
+    """The cells of a session in the table, in the order of its columns. Those of the profiles are
+    empty if no state fails."""
     yield f'{row["store"]} {row["version"]}'
     yield f'[{row["session"]}]({STORES}/{row["key"].partition("/")[0]})'
     yield states_cell(row)
@@ -54,8 +57,8 @@ def number_text(count: int) -> str:
 
 
 def states_cell(row: Row) -> str:
-    """How many different states a session has, and how many sets leave them; or, if not all states
-    were tried, how many were."""
+    """How many different states a session has, and in brackets how many sets leave them, or
+    `uncounted`. If not all states were tried, it says how many were."""
     sets = 'uncounted' if row['sets'] is None else number_text(row['sets'])
     if row['is_whole']:
         return f'{row["tried"]:,} ({sets})'
@@ -63,8 +66,9 @@ def states_cell(row: Row) -> str:
 
 
 def failing_cell(row: Row) -> str:
-    """In how many different states the recovery fails, by the first word of the cause: the
-    commonest one first."""
+    """In how many different states the recovery fails, with the first word of the cause; if there
+    are several such words, how many states have each, the commonest first. `none` if it fails in
+    none."""
     if not row['failing']:
         return 'none'
     causes = sorted(row['causes'].items(), key=lambda one: -int(one[1]))
@@ -74,8 +78,9 @@ def failing_cell(row: Row) -> str:
 
 
 def disk_cell(row: Row, name: str) -> str:
-    """In how many of the different trees on disks of a file system the recovery fails, and in
-    brackets how many of these are outside the model. Empty if the session wasn't tried there."""
+    """In how many of the different trees on disks of a file system the recovery fails, or `none`,
+    and in brackets how many of these are outside the model. Empty if the session wasn't tried
+    there."""
     found = row['disks'].get(name)
     if found is None:
         return ''
@@ -84,8 +89,8 @@ def disk_cell(row: Row, name: str) -> str:
 
 
 def failure_lines(rows: List[Row]) -> Iterator[str]:
-    """The lines with the first entry of a report of each store: of its first session that has
-    one. The data has those of all sessions."""
+    """The lines below the table: for each store with a session that fails, the report of the first
+    such session, as far as DATA has it. A store that doesn't fail isn't named."""
     yield from ('', '## The first failure of each store', '')
     shown: Set[str] = set()
     for row in rows:

@@ -48,13 +48,15 @@ def crate_names() -> List[str]:
 
 
 def files_of(crate: str, folder: str, suffix: str) -> List[Path]:
-    """The files of a folder of a crate, and of folders in it, that end in a suffix; sorted."""
+    """The files whose names end in a suffix, in a folder of a crate and the folders in it; sorted.
+    Empty if the crate has no such folder."""
     return sorted((CRATES / crate / folder).rglob(f'*{suffix}'))
 
 
 def comment_above(lines: List[str], at: int, mark: str) -> str:
-    """The comment of lines that begin with the mark and end above line number `at`, as one text.
-    Attributes below it are passed over. Empty if there is none."""
+    """The comment that ends above a line, as one text: `at` is the line's place from 0, and each
+    line of the comment begins with the mark. Attributes between the two are passed over. Empty if
+    there is no comment."""
     found: List[str] = []
     for line in reversed(lines[:at]):
         text = line.strip()
@@ -66,7 +68,8 @@ def comment_above(lines: List[str], at: int, mark: str) -> str:
 
 
 def examples_in(path: Path) -> List[Example]:
-    """The tests of a file of a crate, in their order. A function must follow each `#[test]`."""
+    """The tests of a file of a crate, in their order; a test without a comment has an empty
+    sentence. A function must follow each `#[test]` (else StopIteration)."""
     lines = path.read_text(encoding='utf-8').splitlines()
     found: List[Example] = []
     for at, line in enumerate(lines):
@@ -78,7 +81,8 @@ def examples_in(path: Path) -> List[Example]:
 
 
 def comment_of_file(path: Path) -> str:
-    """The comment that a source file begins with, as one text; empty if it begins otherwise."""
+    """The comment `//!` that a source file begins with, as one text; empty if it begins
+    otherwise."""
     found: List[str] = []
     for line in path.read_text(encoding='utf-8').splitlines():
         if not line.startswith('//!'):
@@ -88,7 +92,8 @@ def comment_of_file(path: Path) -> str:
 
 
 def tools_tests() -> List[Example]:
-    """The files of the tools' tests, each with its docstring; empty if it has none."""
+    """The files of the tools' tests, sorted, each with its docstring as one line; the sentence is
+    empty if it has none."""
     found: List[Example] = []
     for path in sorted(TOOLS_TESTS.glob('test_*.py')):
         text = ast.get_docstring(ast.parse(path.read_text(encoding='utf-8'))) or ''
@@ -97,12 +102,13 @@ def tools_tests() -> List[Example]:
 
 
 def case_areas() -> List[str]:
-    """The names of the folders of tools/tests/data/cases."""
+    """The names of the folders of CASES, sorted: each is an area of what is tested."""
     return sorted(path.name for path in CASES.iterdir() if path.is_dir())
 
 
 def cases_of(area: str) -> List[Example]:
-    """The examples of a folder of CASES, each with the text before its first section."""
+    """The examples of a folder of CASES, sorted by file, each with the text before its first
+    section."""
     paths = sorted((CASES / area).glob('*.case'))
     texts = (path.read_text(encoding='utf-8').partition('\n== ')[0] for path in paths)
     return [Example(path.stem, ' '.join(text.split())) for path, text in zip(paths, texts)]
@@ -114,14 +120,16 @@ def edits_of(crate: str) -> List[str]:
 
 
 def words_in(path: Path, name: str) -> List[Word]:
-    """The public words of a file, in their order. The name is that of the file in `specs/`."""
+    """The public words of a file, in their order, each with the comment above it, and with `name`
+    as its file."""
     lines = path.read_text(encoding='utf-8').splitlines()
     heads = ((at, WORD.match(line)) for at, line in enumerate(lines))
     return [Word(head.group(1), name, comment_above(lines, at, '--')) for at, head in heads if head]
 
 
 def words_of(crate: str) -> List[Word]:
-    """The public words of a crate's `specs/`, file by file, in their order."""
+    """The public words of a crate's `specs/`: files are sorted, and words in the order of their
+    file. Empty if the crate has no such folder."""
     folder = CRATES / crate / 'specs'
     return [
         word
@@ -131,8 +139,9 @@ def words_of(crate: str) -> List[Word]:
 
 
 def contracts_in(path: Path) -> Iterator[Tuple[str, str]]:
-    """Each public function of a file, and each method of an `impl` or `trait`, with the text of its
-    contract: `name`, or `Type::name`."""
+    """Each public function of a file, and each method of an `impl` or `trait`, public or not, with
+    the text of its contract, which may be empty. A function is named `name`, a method `Type::name`,
+    or `Trait::name` in a trait."""
     owner, lines = '', path.read_text(encoding='utf-8').splitlines()
     for at, line in enumerate(lines):
         if line and not line[0].isspace():
@@ -147,8 +156,8 @@ def contracts_in(path: Path) -> Iterator[Tuple[str, str]]:
 
 
 def contract_at(lines: List[str], at: int, indent: str) -> str:
-    """The lines from number `at` on, up to the brace of the body of a function with that indent, up
-    to an empty line, or to the file's end."""
+    """The lines from the place `at` on that are the contract of a function with this indent: up to
+    the brace of its body, an empty line, or the file's end."""
     clauses: List[str] = []
     for line in lines[at:]:
         if line.startswith((f'{indent}{{', f'{indent}}}')) or not line.strip():
@@ -159,7 +168,8 @@ def contract_at(lines: List[str], at: int, indent: str) -> str:
 
 def citations() -> Dict[str, Dict[str, List[str]]]:
     """By crate and by its word, the calls of all crates whose contracts cite the word. A call of
-    another crate has this crate's name before it."""
+    another crate has that crate's name before it. What a contract cites by a module's name, and not
+    by the word's own, isn't found."""
     found: Dict[str, Dict[str, List[str]]] = {}
     for crate in crate_names():
         for path in files_of(crate, 'src', '.rt'):
@@ -175,7 +185,8 @@ def citations() -> Dict[str, Dict[str, List[str]]]:
 
 
 def homes_of_words(crate: str, text: str) -> Dict[str, str]:
-    """The crate of each word that a source file of a crate imports by `ghost use`."""
+    """The crate of each word that a source file of a crate imports by its name, as `ghost use
+    ..{word, word}`. Words that are imported in any other way are left out."""
     homes: Dict[str, str] = {}
     for match in re.finditer(r'ghost use (?:Rattle\.)?(\w+)[.:]+specs[\w.:]*\.\{([^}]*)\}', text):
         home = crate if match.group(1) == 'crate' else match.group(1)

@@ -44,8 +44,8 @@ LINTERS: Dict[str, Callable[[], Faults]] = {
 
 
 def summary_line(found: Dict[str, Faults]) -> str:
-    """The last line that is printed: how many linters passed, which failed, and which were
-    skipped, by what each found."""
+    """The last line that is printed: how many linters passed, which failed, and which were skipped.
+    found has the faults by linter; None is a linter that isn't installed."""
     failed = [name for name, faults in found.items() if faults]
     skipped = [name for name, faults in found.items() if faults is None]
     line = f'lint: {len(found) - len(failed) - len(skipped)} passed, {len(failed)} failed'
@@ -56,7 +56,8 @@ def summary_line(found: Dict[str, Faults]) -> str:
 
 def run_linters(linters: Dict[str, Callable[[], Faults]]) -> int:
     """Runs linters, by their names, prints what they find, and returns the status: 1 if one found a
-    fault."""
+    fault. A linter that isn't installed doesn't change the status. Nothing is printed before all
+    have run."""
     found = {name: linter() for name, linter in linters.items()}
     for name, faults in found.items():
         for fault in faults or []:
@@ -66,7 +67,9 @@ def run_linters(linters: Dict[str, Callable[[], Faults]]) -> int:
 
 
 def main(words: Optional[List[str]] = None) -> int:
-    """Runs lint with these words, or those of its command line, and returns its status."""
+    """Runs lint with these words, or those of its command line, and returns its status. With
+    --install it tries to install what is missing first; if that fails, those linters are skipped. A
+    wrong word ends the program (SystemExit)."""
     parser = argparse.ArgumentParser(
         prog='lint', description=ABOUT, formatter_class=argparse.RawDescriptionHelpFormatter
     )

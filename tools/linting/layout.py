@@ -18,8 +18,8 @@ FUNCTION = (ast.FunctionDef, ast.AsyncFunctionDef)
 
 
 def long_lines(text: str, columns: int) -> List[str]:
-    """The lines of the text of a crate's file that have more columns than that, except those that
-    may (MAY_BE_LONG)."""
+    """The lines of the text of a crate's file that have more than so many columns. Lines that
+    MAY_BE_LONG finds are left out, unless they are comments."""
     return [
         line
         for line in text.splitlines()
@@ -33,15 +33,17 @@ def lines_in(node: ast.stmt) -> int:
 
 
 def adds_option(node: ast.stmt) -> bool:
-    """Whether a statement adds an option to a parser: a row of a table."""
+    """Whether a statement adds an option to a parser, `parser.add_argument(..)`: it counts as a row
+    of a table, not as code."""
     call = node.value if isinstance(node, ast.Expr) else None
     function = call.func if isinstance(call, ast.Call) else None
     return isinstance(function, ast.Attribute) and function.attr == 'add_argument'
 
 
 def long_functions(source: str) -> Iterator[str]:
-    """A sentence for each function of a Python source that has too many lines, not counting added
-    options."""
+    """A sentence for each function of a Python source that has more than MOST_LINES_OF_FUNCTION
+    lines, not counting the statements of its body that add options. The lines of a nested function
+    count for both."""
     for node in ast.walk(ast.parse(source)):
         if isinstance(node, FUNCTION):
             lines = lines_in(node) - sum(lines_in(one) for one in node.body if adds_option(one))
@@ -50,8 +52,8 @@ def long_functions(source: str) -> Iterator[str]:
 
 
 def wide_lines() -> Iterator[str]:
-    """A sentence for each line of crates and of Python that is too wide; in Python a text is split
-    by hand."""
+    """A sentence for each line of crates and of Python that is too wide. A long text in Python is
+    no exception: it must be split by hand."""
     for path in crate_sources():
         # Laws are proved lemmas that crates above use.
         is_proof = bool({'proofs', 'Laws'} & set(path.relative_to(CRATES).parts[1:-1]))
@@ -65,7 +67,7 @@ def wide_lines() -> Iterator[str]:
 
 
 def long_files() -> Iterator[str]:
-    """A sentence for each file that has too many lines."""
+    """A sentence for each file of the crates and of tools/ that has more than MOST_LINES lines."""
     for path in [*crate_sources(), *TOOLS.rglob('*.py')]:
         lines = len(path.read_text('utf-8').splitlines())
         if lines > MOST_LINES:
@@ -73,7 +75,8 @@ def long_files() -> Iterator[str]:
 
 
 def layout_faults() -> List[str]:
-    """A sentence for each thing that is too long: lines, functions of Python, files."""
+    """A sentence for each thing that is too long: a line, a function of Python (not of the tests),
+    a file."""
     functions = (
         f'{name_of(path)}: {fault}'
         for path in program_files()

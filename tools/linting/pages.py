@@ -11,7 +11,8 @@ from .sources import CRATES, name_of
 
 
 def older_pages() -> List[str]:
-    """A sentence for each file that is not as `tools/inventories` would write it now."""
+    """A sentence for each file that is missing, or isn't as `tools/inventories` would write it
+    now."""
     return [
         f'{name_of(path)} is older than the sources: run tools/inventories'
         for path in older_files()
@@ -19,8 +20,8 @@ def older_pages() -> List[str]:
 
 
 def silent_tests() -> List[str]:
-    """A sentence for each test of the crates, and each file of tests of the tools, that doesn't say
-    what it shows."""
+    """A sentence for each test of the crates that has no comment, and each file of the tools' tests
+    that has no docstring."""
     files = [f'tools/tests/{it.name}' for it in tools_tests() if not it.sentence]
     tests = [
         f'{name_of(path)}: {it.name}'
@@ -32,7 +33,8 @@ def silent_tests() -> List[str]:
 
 
 def edits_of_no_crate() -> List[str]:
-    """A sentence for each must-fail edit in the folder of no crate of crates.txt."""
+    """A sentence for each must-fail edit in a folder of crates/ that crates.txt doesn't name: the
+    gate would never try it."""
     listed = {(crate, name) for crate in crate_names() for name in edits_of(crate)}
     return [
         f'{name_of(path)}: crates.txt has no such crate'
@@ -42,5 +44,6 @@ def edits_of_no_crate() -> List[str]:
 
 
 def made_faults() -> List[str]:
-    """A sentence for each thing that is wrong with the pages that are made from the sources."""
+    """A sentence for each fault of what is made from the sources, or of the sources that it is made
+    from: older files, tests that say nothing, edits of no crate."""
     return [*older_pages(), *silent_tests(), *edits_of_no_crate()]

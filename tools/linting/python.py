@@ -19,12 +19,13 @@ UNEXPLAINED = re.compile(r'#\s*(?:type: ignore|noqa)(?!(?:\[[\w, -]+\]|: [A-Z]\d
 
 
 def missing_linters() -> List[str]:
-    """The linters that aren't installed."""
+    """Which linters of PACKAGES aren't installed."""
     return [name for name in PACKAGES if shutil.which(name) is None]
 
 
 def install_packages(names: List[str]) -> None:
-    """Installs Debian's packages if this user may; otherwise, and if it fails, nothing happens."""
+    """Installs Debian's packages by apt-get, if this user is root and it is there. If not, or if it
+    fails, nothing happens, and nothing is raised."""
     if names and os.geteuid() == 0 and shutil.which('apt-get'):
         line = ['apt-get', 'install', '--yes', '--no-install-recommends', *names]
         environment = {**os.environ, 'DEBIAN_FRONTEND': 'noninteractive'}
@@ -32,8 +33,9 @@ def install_packages(names: List[str]) -> None:
 
 
 def faults_of_linter(words: List[str], files: List[Path]) -> Optional[List[str]]:
-    """Runs a linter over files, and returns the lines that it prints if its status isn't 0, else
-    none; None if it isn't installed."""
+    """Runs a linter over files. Returns the lines that it prints on both outputs if its status
+    isn't 0, or its status if it prints none; an empty list if its status is 0; None if it isn't
+    installed."""
     if shutil.which(words[0]) is None:
         return None
     ran = subprocess.run(
@@ -60,23 +62,24 @@ def black_faults() -> Optional[List[str]]:
 
 
 def mypy_faults() -> Optional[List[str]]:
-    """What mypy finds in all Python but the tests, whose helpers aren't typed; None if it isn't
-    installed."""
+    """What mypy finds in all Python but the tests; None if it isn't installed. The tests aren't
+    typed: unknown_names_in_tests is for them."""
     return faults_of_linter(['mypy'], program_files())
 
 
 def unknown_names_in_tests() -> Optional[List[str]]:
     """What mypy finds in the tests of names, attributes and arguments that nothing has; None if it
-    isn't installed. The tests of the proved program run last of all, so that a name which was
-    changed without them would be seen late."""
+    isn't installed. Other faults are dropped, since the tests aren't typed. The tests of the proved
+    program run last of all: without this a name that was changed would be found late."""
     words = ['mypy', '--check-untyped-defs', '--implicit-reexport']
     faults = faults_of_linter(words, test_files())
     return None if faults is None else [it for it in faults if UNKNOWN_NAME.search(it)]
 
 
 def unexplained_in(texts: Dict[str, str]) -> List[str]:
-    """A sentence for each comment in texts, by their names, that silences a linter without its code
-    and its reason, as `# type: ignore[code]  # reason`."""
+    """A sentence for each line with a comment that silences a linter without its code and its
+    reason, as `# type: ignore[code]  # reason`. texts has the sources by the names of their
+    files."""
     return [
         f'{name}:{number}: {found[0]}: give the code, and the reason in a comment behind it'
         for name, text in texts.items()
@@ -86,5 +89,5 @@ def unexplained_in(texts: Dict[str, str]) -> List[str]:
 
 
 def unexplained_comments() -> List[str]:
-    """A sentence for each comment of all Python files that silences a linter without a reason."""
+    """The sentences of unexplained_in for all Python files, the tests too."""
     return unexplained_in({name_of(path): path.read_text('utf-8') for path in python_files()})

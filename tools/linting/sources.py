@@ -14,8 +14,8 @@ PARTS = ('src', 'specs', 'proofs')
 
 
 def is_python(path: Path) -> bool:
-    """Whether a file is a module of Python, or a script, which has no suffix and names python in
-    its first line."""
+    """Whether a path is a module of Python, by its suffix, or a script: a file without a suffix
+    that names python in its first line, after `#!`."""
     if path.suffix == '.py':
         return True
     if path.suffix or not path.is_file():
@@ -26,7 +26,8 @@ def is_python(path: Path) -> bool:
 
 
 def python_files() -> List[Path]:
-    """The modules and scripts of tools/ and of the examples."""
+    """The modules of tools/ and of the examples, and the scripts in tools/ itself; sorted. The
+    tests are among them."""
     found = [*TOOLS.iterdir(), *TOOLS.rglob('*.py'), *EXAMPLES.rglob('*.py')]
     return sorted({path for path in found if is_python(path)})
 
@@ -47,7 +48,7 @@ def test_files() -> List[Path]:
 
 
 def crate_sources() -> Iterator[Path]:
-    """The files of all crates that the prover reads."""
+    """The files of all crates that the prover reads: .rt and .antt, in the folders PARTS."""
     for part in PARTS:
         for path in sorted(CRATES.glob(f'*/{part}/**/*')):
             if path.suffix in ('.rt', '.antt'):

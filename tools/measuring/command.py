@@ -34,21 +34,23 @@ NEEDED = {'serve_bench': ['serve_bench', 'crashfs'], 'memory': ['crashfs'], 'sta
 
 
 def parsed_words(given: Optional[List[str]]) -> argparse.Namespace:
-    """The words after `measure`; wrong ones end the program with status 2."""
-    words = argparse.ArgumentParser(
+    """The words after `measure`, but for `disks` and `stores`, which parse their own; wrong ones
+    end the program with status 2. Only main() looks whether the names are of benchmarks."""
+    parser = argparse.ArgumentParser(
         prog='measure', description=__doc__, formatter_class=argparse.RawDescriptionHelpFormatter
     )
-    words.add_argument(
+    parser.add_argument(
         '--top', type=Path, default=TOP, metavar='DIR', help='the repository (this one)'
     )
-    words.add_argument(
+    parser.add_argument(
         'names', nargs='*', metavar='NAME', help='a benchmark program, `memory` or `states` (all)'
     )
-    return words.parse_args(given)
+    return parser.parse_args(given)
 
 
 def measure(programs: Programs, name: str, tally: Tally) -> None:
-    """Prints the rows of one benchmark, or which programs that it needs aren't built."""
+    """Prints the rows of one benchmark, or which programs that it needs aren't built. Its failures
+    are in the tally; the name must be of a benchmark."""
     lacking = [it for it in NEEDED.get(name, [name]) if programs.built(it) is None]
     if lacking:
         tally.add_lacking(name, lacking)
@@ -62,7 +64,8 @@ def measure(programs: Programs, name: str, tally: Tally) -> None:
 
 def main(given: Optional[List[str]] = None) -> int:
     """Runs `measure` with these words, or with those of this process, and returns its status: 1 if
-    a row is past its bound or a program failed, 2 if a name is unknown."""
+    a row is past its bound or a program failed, 2 if a name is unknown: nothing is measured then.
+    The words after `disks` or `stores` are for these commands, which return their own status."""
     given = sys.argv[1:] if given is None else given
     if given[:1] == ['disks']:
         return disks.main(given[1:])

@@ -20,6 +20,8 @@ from crashfs_tools.reading.states import States
 
 # The profile that each file system is compared with.
 PROFILE_OF = {'ext4': 'journal', 'xfs': 'journal', 'btrfs': 'blocks'}
+# With how many operations a session is drawn, unless another number is asked for.
+OPERATIONS = 7
 # Equal bytes that follow each other.
 RUN = re.compile(rb'(.)\1*', re.DOTALL)
 # A tree, by its digest, with how many lines are acknowledged when a crash leaves it.
@@ -30,8 +32,9 @@ TreeAndCount = Tuple[str, int]
 class SessionResult:
     """A session on a file system: how many disks there were and how many differ; how many of these
     are among the states that a profile allows, for each profile; and texts of those that the file
-    system's profile does not allow. states counts the different states by `blocks`. The fields are
-    those of a line of results.jsonl."""
+    system's profile does not allow. states counts the different states by `blocks`, and operations
+    those that the session was drawn with. The fields are those of a line of results.jsonl; an old
+    line that lacks operations is of a session with OPERATIONS."""
 
     filesystem: str
     seed: int
@@ -40,6 +43,7 @@ class SessionResult:
     states: int = 0
     allowed: Dict[str, int] = field(default_factory=dict)
     outside: List[str] = field(default_factory=list)
+    operations: int = OPERATIONS
 
     def fields(self) -> Dict[str, object]:
         """The result as a line of results.jsonl has it."""
@@ -52,7 +56,9 @@ def trace_text(trace: Trace) -> str:
 
 
 def allowed_trees(reading: Reading, profile: str) -> Set[TreeAndCount]:
-    """What the sets that a profile allows leave: all of them, by the second reading."""
+    """Each tree that a profile allows a crash to leave, by its digest, with the number of lines
+    that are acknowledged then. The second reading goes through all different states, so sessions
+    must be short. ReadingFault if the trace's version doesn't have the profile."""
     states, found = States(reading), set()
     for places in Classes(reading, order_in(reading, profile)).different():
         tree = entries_of(states.tree(places))
@@ -61,9 +67,10 @@ def allowed_trees(reading: Reading, profile: str) -> Set[TreeAndCount]:
 
 
 def session_result(name: str, seed: int, trace: Trace, disks: List[Disk]) -> SessionResult:
-    """Compares the different disks that a session left on the file system of this name with all
-    allowed sets. A disk is allowed if one of the numbers of lines that may be acknowledged there is
-    that of an allowed set with its tree."""
+    """The result of a session on the file system of this name, from the different disks that it
+    left there. A profile allows a disk if it allows the disk's tree with one of the numbers of
+    acknowledged lines that the disk may have. Texts are kept only of disks that the file system's
+    own profile doesn't allow. KeyError if PROFILE_OF has no such name."""
     reading = read(trace_text(trace).encode())
     allowed = {profile: allowed_trees(reading, profile) for profile in profile_names(reading)}
     result = SessionResult(name, seed, sum(len(disk.crashes) for disk in disks), len(disks))
@@ -82,7 +89,8 @@ def is_among(disk: Disk, trees: Set[TreeAndCount]) -> bool:
 
 
 def disk_text(disk: Disk) -> str:
-    """Which crash left a disk first, and each path that is on it with its content."""
+    """The first crash that left a disk, and each path on it but the root, with its content. The
+    line is that of the last operation that was made; `the start` if none was."""
     crash = disk.crashes[0]
     paths = ', '.join(f'{path} {entry_text(disk, path)}' for path in disk.tree if path != '/')
     line = f'line {crash.moment.line}' if crash.moment.done else 'the start'
@@ -90,7 +98,8 @@ def disk_text(disk: Disk) -> str:
 
 
 def entry_text(disk: Disk, path: str) -> str:
-    """What is at a path of a disk: of a file its size, and its bytes as runs of equal ones."""
+    """What is at a path of a disk: `directory`, the text of a link, or a file's size and its bytes
+    as runs of equal ones, as `4: 3*b'a' 1*b'b'`. KeyError if there is nothing."""
     entry = disk.tree[path]
     if entry.link is not None:
         return f'-> {entry.link}'
@@ -123,8 +132,9 @@ class SessionMaker:
 
 
 def table_lines(results: List[SessionResult]) -> Iterator[str]:
-    """The lines of a table of sums in Markdown, with a row for each file system that has
-    results."""
+    """The lines of a table of sums in Markdown: a row for each file system that has results, in the
+    order of PROFILE_OF. The last columns have how many of the different disks each profile
+    allows."""
     columns = ['File system', 'Sessions', 'Disks', 'Different', *(f'by `{it}`' for it in PROFILES)]
     yield f'| {" | ".join(columns)} |'
     yield f'|{"---|" * len(columns)}'

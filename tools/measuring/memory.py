@@ -28,7 +28,8 @@ Filled = Tuple[List[Client], int]
 
 
 def fill_with_connections(address: str, connections: int) -> Filled:
-    """Opens so many connections, attaches each to one run, and leaves them idle."""
+    """Opens so many connections, attaches all of them to the same run, and leaves them idle.
+    Refused if the server refuses an attach, OSError if it ends a connection."""
     clients = [Client(address) for _ in range(connections)]
     for client in clients:
         client.attach(0, '0/x')
@@ -36,7 +37,8 @@ def fill_with_connections(address: str, connections: int) -> Filled:
 
 
 def fill_with_runs(address: str, runs: int, connections: int) -> Filled:
-    """Attaches a user to each of so many runs of one state, by so many connections."""
+    """Attaches a user to each of so many runs of one state, by so many connections in turn. Refused
+    if the server refuses an attach, OSError if it ends a connection."""
     clients = [Client(address) for _ in range(connections)]
     for run in range(runs):
         clients[run % connections].attach(run // connections, f'0/r{run}')
@@ -44,8 +46,9 @@ def fill_with_runs(address: str, runs: int, connections: int) -> Filled:
 
 
 def fill_with_writes(address: str, most: int) -> Filled:
-    """Writes to a run until its journal takes no more, or has taken so many writes; counts those
-    that it took."""
+    """Writes blocks to a file of a run until the server refuses one, which means that its journal
+    is full, or until it has granted `most`. The count is of granted writes. They are sent in
+    batches, so it may be greater than `most` by less than BATCH."""
     client = Client(address)
     client.attach(0, '0/x')
     client.open(0, 1, 'f')
@@ -62,8 +65,9 @@ def fill_with_writes(address: str, most: int) -> Filled:
 def growth_of_new_server(
     programs: Programs, fill: Callable[[str], Filled], connections: int
 ) -> Tuple[int, int]:
-    """Starts a server that takes so many connections, and fills it by `fill`, which has the
-    server's address. Returns by how many bytes it grows, and how many things fill it."""
+    """Starts a server that takes so many connections, has `fill` fill it, which gets the server's
+    address, and kills it. Returns by how many bytes it grew, and how many things filled it. OSError
+    if it doesn't listen; what `fill` raises is raised."""
     address = free_address()
     with listening(serve_words(programs, address, connections)) as server:
         return growth_of(server, lambda: fill(address))
@@ -71,7 +75,7 @@ def growth_of_new_server(
 
 def growth_of(server: subprocess.Popen[str], fill: Callable[[], Filled]) -> Tuple[int, int]:
     """By how many bytes a server grows while it is filled, and how many things fill it. The
-    connections are closed after that."""
+    connections are closed after that, but not if `fill` raises."""
     before = resident_bytes(server)
     clients, count = fill()
     more = resident_bytes(server) - before
@@ -81,7 +85,8 @@ def growth_of(server: subprocess.Popen[str], fill: Callable[[], Filled]) -> Tupl
 
 
 def add_connection_rows(programs: Programs, tally: Tally) -> None:
-    """Measures and prints the rows of idle connections."""
+    """Measures and prints the rows of idle connections: what all take together, and what each
+    takes, which has a bound. Refused or OSError if the server fails."""
     more, count = growth_of_new_server(
         programs, lambda at: fill_with_connections(at, CONNECTIONS), CONNECTIONS
     )
@@ -90,7 +95,8 @@ def add_connection_rows(programs: Programs, tally: Tally) -> None:
 
 
 def add_run_rows(programs: Programs, tally: Tally) -> None:
-    """Measures and prints the rows of many runs."""
+    """Measures and prints the rows of as many runs as a server allows: what all take together, and
+    each. They have no bound. Refused or OSError if the server fails."""
     more, count = growth_of_new_server(
         programs, lambda at: fill_with_runs(at, RUNS, CONNECTIONS), CONNECTIONS
     )
@@ -100,15 +106,16 @@ def add_run_rows(programs: Programs, tally: Tally) -> None:
 
 
 def add_journal_rows(programs: Programs, tally: Tally) -> None:
-    """Measures and prints the rows of a full journal."""
+    """Measures and prints the rows of a full journal: its size, and what each write takes in
+    addition to its bytes. They have no bound. Refused or OSError if the server fails."""
     more, count = growth_of_new_server(programs, lambda at: fill_with_writes(at, WRITES), 1)
     tally.add_figure(f'a full journal, with {count} writes of 4 kB', more / 1e6, 'MB')
     tally.add_figure('each write, beside its bytes', more / count - BLOCK, 'bytes')
 
 
 def add_memory_rows(programs: Programs, tally: Tally) -> None:
-    """Measures and prints all rows of memory; one that can't be measured is a failure, and the next
-    is measured."""
+    """Measures and prints all rows of memory. What can't be measured is a failure, and the next is
+    measured. The program `crashfs` must be built."""
     for add_rows in (add_connection_rows, add_run_rows, add_journal_rows):
         try:
             add_rows(programs, tally)

@@ -57,16 +57,18 @@ SYNCS = (Fsync, Fdatasync, FsyncRange, Sync)
 
 def session(seed: int, operations: int) -> Trace:
     """The session of a seed, with so many operations. After each sync a line is acknowledged, and
-    one at the end. A seed gives the same session each time: results and pages name sessions by
-    it."""
+    one at the end; these lines aren't counted. A seed gives the same session each time: results and
+    pages name sessions by it."""
     return DrawnSession(seed).with_operations(operations)
 
 
 class DrawnSession:
     """A session that is drawn: its start tree at first, then operation by operation. tree is what
-    the operations so far leave."""
+    the operations so far leave. Each method that draws uses up random numbers, so the order of
+    calls decides what a seed gives."""
 
     def __init__(self, seed: int) -> None:
+        """Draws the start tree: /d and /e, perhaps /d/f and the link /e/c, and two files."""
         self.random = random.Random(seed)
         self.trace = Trace(Header(*ROOT, DIRECTORY_MODE), version=4)
         for path in ('/d', '/e', *(['/d/f'] if self.chance(3) else [])):
@@ -85,8 +87,9 @@ class DrawnSession:
         return self.random.randrange(times) == 0
 
     def with_operations(self, operations: int) -> Trace:
-        """Draws so many operations, and returns the whole session. One that can't be made in the
-        tree, or does nothing there, is drawn again."""
+        """Draws so many operations, and returns the whole session; to be called once. A draw that
+        the tree doesn't allow, or that only renames a file to another name of its own, isn't
+        counted and is drawn again."""
         kinds = list(KINDS)
         while operations:
             kind = self.random.choices(kinds, list(KINDS.values()))[0]
@@ -102,7 +105,8 @@ class DrawnSession:
         return self.trace
 
     def does_nothing(self, operation: Operation) -> bool:
-        """Whether it is a rename to another name of the same file, which does nothing."""
+        """Whether an operation is a rename to another name of the same file, which changes nothing.
+        The rename must be one that the tree allows."""
         return isinstance(operation, Rename) and self.tree.files[
             operation.source
         ] == self.tree.files.get(operation.target)
@@ -110,7 +114,8 @@ class DrawnSession:
     # What operations are drawn of
 
     def paths(self, kind: str) -> List[str]:
-        """The paths of each `dir`, `file` or `link`, without the root."""
+        """The paths of all entries of a kind, which is `dir`, `file` or `link`. The root isn't
+        among them."""
         return [
             path
             for path, entry in self.tree.entries.items()
@@ -127,13 +132,13 @@ class DrawnSession:
         return self.one_of(self.paths('file'))
 
     def place(self, names: str) -> str:
-        """Draws a path, of one of these names in a directory that is there. Something may have the
-        path already."""
+        """Draws a path: one of these names, in the root or another directory. Something may have
+        the path already."""
         above = self.random.choice(['', *self.paths('dir')])
         return f'{above}/{self.random.choice(names)}'
 
     def size(self, path: str) -> int:
-        """How many bytes a file has."""
+        """How many bytes the file at a path has. There must be a file."""
         data = self.tree.entries[path].data
         assert data is not None and not isinstance(data, SparseBytes)
         return len(data)
@@ -150,7 +155,8 @@ class DrawnSession:
         return Symlink(self.place(NAMES), *ROOT, self.random.choice(['a', '../b', 'd/none']))
 
     def write(self, is_append: bool = False) -> Optional[Operation]:
-        """A write inside or past the end of a file, or at its end."""
+        """Draws a write to a file: at 0, 2 or 4096, which may be past its end, or with is_append at
+        its end. None if there is no file."""
         path = self.file()
         if path is None:
             return None
@@ -162,6 +168,8 @@ class DrawnSession:
         return self.write(is_append=True)
 
     def truncate(self) -> Optional[Operation]:
+        """Draws a truncate of a file to its present length, or to a shorter or longer one; None if
+        there is no file."""
         path = self.file()
         length = self.random.choice([0, 1, 2, 4096, 6000])
         return Truncate(path, length) if path else None
@@ -195,7 +203,8 @@ class DrawnSession:
         return Fdatasync(path) if path else None
 
     def fsync_range(self) -> Optional[Operation]:
-        """A sync of the first or the second page of a file."""
+        """Draws a sync of the first or the second page of a file, which may be past its end; None
+        if there is no file."""
         path = self.file()
         return FsyncRange(path, 4096 * self.random.randrange(2), 4096) if path else None
 

@@ -15,7 +15,8 @@ KEEPING = ['forgets', 'blocks', 'large']
 
 def add_serving_rows(programs: Programs, tally: Tally) -> None:
     """Starts all four servers for each setting, and prints the rows that `serve_bench` prints of
-    them. A server that doesn't listen is a failure, and the next setting is measured."""
+    them. If a server doesn't listen, or a program can't be started, that is a failure, and the next
+    setting is measured. Both programs must be built."""
     for clients, runs in SETTINGS:
         place = 'each on a run of its own' if runs == 'own' else 'all on one run'
         tally.add_line(f'-- {clients} clients, {place}')

@@ -40,8 +40,9 @@ class Times(NamedTuple):
 def times_of(
     words: List[str], tried: int = 0, environment: Optional[Dict[str, str]] = None
 ) -> Times:
-    """Runs a command that tries states, and returns its times. How many it tries is read from what
-    it prints, unless it is given. OSError if the command fails, or prints no such number."""
+    """Runs a command that tries states, and returns its times. How many states there are, and how
+    many it tried, is what it prints; if it prints neither, both are `tried`. OSError if its status
+    isn't 0, or if it prints no numbers and `tried` is 0."""
     began = time.monotonic()
     with subprocess.Popen(
         words, stdout=subprocess.PIPE, stdin=subprocess.DEVNULL, text=True, env=environment
@@ -59,25 +60,30 @@ def times_of(
 
 
 class Checks:
-    """Checks of SQLite's example. folder is for compiled modules: a first check, which isn't
-    measured, compiles them, as a user's first one does."""
+    """Checks of SQLite's example. folder is for compiled modules: these are there before anything
+    is measured, as they are after a user's first check."""
 
     def __init__(self, programs: Programs, folder: str) -> None:
+        """Runs a first check, which isn't measured, so that Python compiles the modules. The
+        program `crashfs` must be built. OSError if the check fails."""
         self.program = str(programs.built('crashfs'))
         self.environment = {**os.environ, 'PYTHONPYCACHEPREFIX': folder}
         self.environment.pop('PYTHONDONTWRITEBYTECODE', None)
         self.times('--prefixes')
 
     def times(self, *options: str) -> Times:
-        """The times of a check of prefixes, or of prefixes and holes, as the benchmark's figures
-        always were. `-S` leaves out what this machine's Python loads by itself."""
+        """The times of one check with these options. It tries prefixes and holes (`--families`), or
+        only prefixes if `--prefixes` is among the options, so that figures can be compared with
+        those of earlier versions. `-S` leaves out what this machine's Python loads by itself.
+        OSError if a state fails, or the check does."""
         families = [] if '--prefixes' in options else ['--families']
         program = [sys.executable, '-S', str(CHECK), '--crashfs', self.program]
         words = [*program, *families, *options, str(TRACE), '--', '/bin/true']
         return times_of(words, environment=self.environment)
 
     def least_times(self, *options: str) -> Times:
-        """The least times of a few checks."""
+        """The least processor time and the least wall time of RUNS checks with these options: they
+        may be of different checks. The counts are those of the first. OSError as times()."""
         found = [self.times(*options) for _ in range(RUNS)]
         return found[0]._replace(
             processor=min(one.processor for one in found), wall=min(one.wall for one in found)
@@ -85,15 +91,17 @@ class Checks:
 
 
 def c_program_times(folder: str, count: int) -> Times:
-    """The times of the C program for so many states. It is compiled, and works, in the folder."""
+    """The times of the C program for so many states. It is compiled in the folder, and works there.
+    CalledProcessError if it can't be compiled, OSError if it fails."""
     program = os.path.join(folder, 'states')
     subprocess.run(['cc', '-O2', '-o', program, str(SOURCE)], check=True)
     return times_of([program, folder, str(count), '/bin/true', *SIZES], count)
 
 
 def add_state_rows(programs: Programs, tally: Tally) -> None:
-    """Measures and prints the rows of states. A state's own time is that by which a check of more
-    states takes longer, so that a check's beginning and end aren't counted."""
+    """Measures and prints the rows of states; if a program is missing or fails, that is a failure,
+    and no row is printed. A state's own time is that by which a check of more states takes longer,
+    so that a check's beginning and end aren't counted."""
     if shutil.which('cc') is None:
         tally.add_failure('there is no cc')
         return

@@ -25,13 +25,14 @@ Row = Dict[str, Any]
 
 
 class ResultsFile:
-    """docs/results.json, a row on each line in the order of stores.json."""
+    """The file docs/results.json, or another of its form: a row on each line, in the order of
+    stores.json."""
 
     def __init__(self, path: Path = RESULTS) -> None:
         self.path = path
 
     def rows(self) -> List[Row]:
-        """The rows of the file; none if there is no file."""
+        """The rows of the file, in its order; an empty list if there is no file."""
         if not self.path.exists():
             return []
         rows: List[Row] = json.loads(self.path.read_text('utf-8'))
@@ -39,7 +40,8 @@ class ResultsFile:
 
     def put(self, row: Row) -> None:
         """Puts a row into the file, in the place of the one with its key. Rows are in the order of
-        stores.json; those that it doesn't have come last."""
+        stores.json; those that it doesn't have are kept, and come last. The file is written in
+        place: an error meanwhile may leave a part of it."""
         rows = {one['key']: one for one in self.rows()}
         rows[row['key']] = row
         order = {key: place for place, key in enumerate(keys())}
@@ -49,15 +51,16 @@ class ResultsFile:
 
 
 def keys() -> List[str]:
-    """The keys of all sessions, in their order."""
+    """The keys FOLDER/SESSION of all sessions of stores.json, in its order."""
     known = json.loads((STORES / 'stores.json').read_text('utf-8'))
     return [f'{store["folder"]}/{name}' for store in known for name in store['sessions']]
 
 
 def row_of(about: Dict[str, Any], key: str, json_path: str, report: str) -> Row:
-    """The row of a session, but for its version: from the store's object of stores.json, the
-    session's key, and the file of --json and the text of its check. States that fail are counted,
-    each once; sets that leave equal states aren't."""
+    """The row of a session, but for its version, which is empty: from the store's object of
+    stores.json, the session's key, the file that its check wrote for --json, and the text of the
+    report. Different states that fail are counted, not the sets that leave them. ValueError if the
+    report is empty."""
     first, *lines = [line for line in report.splitlines() if not line.startswith('unproved: ')]
     windows = read_json(json_path).windows
     outcomes = [one for window in windows for one in window.outcomes.values()]
@@ -75,14 +78,15 @@ def row_of(about: Dict[str, Any], key: str, json_path: str, report: str) -> Row:
 
 
 def sets_of(windows: List[Results]) -> Optional[int]:
-    """How many sets the rules allow; None if they were not counted, or if the session was checked
-    in windows, whose sets can't be added."""
+    """How many sets the rules allow. None if they were not counted, or if the session was checked
+    in several windows: the sets of windows can't be added."""
     every = [window.plan.all_states for window in windows]
     return every[0].sets if len(every) == 1 and every[0] else None
 
 
 def profiles_of(windows: List[Results]) -> Dict[str, int]:
-    """How many failing states each profile allows, also if that is none."""
+    """How many failing states each profile of the trace allows, by its name; 0 for one that allows
+    none. A state counts for each profile that allows it."""
     counts: Counts[str] = Counter()
     for window in windows:
         counts.update({name: 0 for name in window.plan.profiles.names})
@@ -94,8 +98,9 @@ def profiles_of(windows: List[Results]) -> Dict[str, int]:
 
 
 def disks_of(fields: Dict[str, Any]) -> Dict[str, Any]:
-    """Of each file system how many different trees there were after crashes, in how many of them
-    the recovery fails, and in how many of these that no crash state has."""
+    """What a check's JSON says of disks, by file system: how many different trees crashes left
+    (trees), in how many of these the recovery fails (failing), and how many of the failing ones no
+    crash state has (outside). Empty if the check was made without --disks."""
     found = fields.get('disks')
     if not found:
         return {}
@@ -110,7 +115,8 @@ def disks_of(fields: Dict[str, Any]) -> Dict[str, Any]:
 
 
 def first_entry(lines: List[str]) -> Iterator[str]:
-    """The lines of a report's first entry: its cause, and the lines that are indented further."""
+    """The lines of a report's first entry, from the report's lines after its first: the cause, and
+    what follows with an indent of 4 or more. Nothing if there are no lines."""
     for place, line in enumerate(lines):
         if place and not line.startswith('    '):
             return

@@ -25,8 +25,9 @@ STYLE = """.arrow { fill: none; stroke-width: 1.3 }
 
 
 def bent_arrow(top: float, bottom: float, classes: str) -> str:
-    """An arrow from the row at `bottom` up to the row at `top`. A longer one bends further to the
-    right, so that arrows of one row differ."""
+    """An arrow from the row at the height `bottom` up to the row at `top`. A longer one bends
+    further to the right, so that arrows of one row differ. classes name its colour, as STYLE has
+    it."""
     out = ARROWS + 14 + (bottom - top) * 0.85
     steps = f'M{ARROWS} {bottom:g}C{out:g} {bottom:g} {out:g} {top:g} {ARROWS} {top:g}'
     head = 'm5 -3l-5 3l5 3'
@@ -34,8 +35,9 @@ def bent_arrow(top: float, bottom: float, classes: str) -> str:
 
 
 def missing_need(session: ModelledSession) -> Tuple[int, int]:
-    """The places of the last acknowledged line and of the rename, which it should need and doesn't.
-    ValueError if it needs it, or if the session hasn't exactly one rename."""
+    """The places of the last acknowledged line and of the session's only rename, which the line
+    should need and doesn't. ValueError if it does, if there is no acknowledged line, or if there
+    isn't exactly one rename."""
     last = max(place for place, one in enumerate(session.operations) if one.kind == 'say')
     (move,) = (at for at, one in enumerate(session.operations) if one.kind == 'move_dir_entry')
     if session.order.needs[last] >> move & 1:
@@ -44,8 +46,9 @@ def missing_need(session: ModelledSession) -> Tuple[int, int]:
 
 
 def draw_rows(picture: Picture, session: ModelledSession) -> Dict[int, float]:
-    """Adds the rows of the session, and returns for each place the height at which arrows meet its
-    row."""
+    """Adds the rows of the session below what is there. Returns the height at which arrows meet a
+    row, by the place of its micro-operation: lines that sync have rows, but no place and no
+    arrows."""
     found: Dict[int, float] = {}
     for row in session.rows():
         picture.add_line(row.words, f'code {"sync" if row.place is None else "ink"}', WORDS)
@@ -60,7 +63,8 @@ def draw_rows(picture: Picture, session: ModelledSession) -> Dict[int, float]:
 
 
 def alternative_text(arrows: List[Tuple[int, int, str]], last: int, move: int) -> str:
-    """What the picture shows, in words: its arrows, and the one that is missing."""
+    """What the picture of needs says to those who can't see it: its arrows, each a place, an
+    earlier one and the rule, and the arrow that is missing, from `last` to `move`."""
     needs: Dict[int, List[str]] = {}
     for later, earlier, rule in arrows:
         needs.setdefault(later, []).append(f'{earlier} ({rule})')
@@ -73,7 +77,8 @@ def alternative_text(arrows: List[Tuple[int, int, str]], last: int, move: int) -
 
 
 def arrows_picture(session: ModelledSession) -> str:
-    """The picture of a session's needs, as SVG. ValueError if nothing is missing among them."""
+    """The picture of a session's needs, as SVG, with one arrow drawn that is missing. ValueError as
+    from missing_need; KeyError if RULES doesn't have the rule of a need."""
     arrows, (last, move) = list(session.direct_needs()), missing_need(session)
     picture = Picture('Which micro-operation needs which', alternative_text(arrows, last, move))
     picture.add_line('Micro-operations, and what each one needs', 'title')

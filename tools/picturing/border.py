@@ -21,8 +21,8 @@ ALTERNATIVE = (
 
 
 class Box(NamedTuple):
-    """A part of the tools: its name, what it is, and what it passes to the next one; empty if
-    nothing is said of it, or if there is no next one."""
+    """A part of the tools: its name, what it is, and what it passes to the next one. The last two
+    are empty if there is nothing to say."""
 
     name: str
     about: str
@@ -40,7 +40,8 @@ BOXES: Sequence[Box] = (
 
 
 def draw_box(picture: Picture, box: Box) -> None:
-    """Adds a part, and an arrow from it with what it passes on, if it does."""
+    """Adds a part as a box below what is there, with an arrow to the next box if it passes
+    something on. The picture's y is then where the next box begins."""
     top, middle = picture.y, LEFT + WIDE / 2
     picture.add(rectangle(LEFT, top, WIDE, HIGH, 'box'))
     at = top + (17 if box.about else 25)
@@ -55,7 +56,8 @@ def draw_box(picture: Picture, box: Box) -> None:
 
 
 def border_picture() -> str:
-    """The picture of the tools, as SVG."""
+    """The picture of the tools, as SVG. It depends on no check: its words are all in this
+    module."""
     picture = Picture('The tools, and the border of what is proved', ALTERNATIVE)
     picture.y = MARGIN + 4
     for box in BOXES:

@@ -27,7 +27,9 @@ class CheckedExample(NamedTuple):
 
 def check_example(trace: str, command: Sequence[str]) -> CheckedExample:
     """Checks a trace of one window by the second reading, so that pictures don't depend on a built
-    program. Raises what stopped the check, if something did, and ValueError if no state fails."""
+    program. The files are those of the example of the report's first entry. ValueError if no state
+    fails. Refused or SystemExit if crashfs-check would refuse these words; what ended the check
+    early is raised, too."""
     words = ['--unproved', '--html', os.devnull, trace, '--', *command]
     options = read_options(words)
     program = Crashfs.program_or_reading(None, unproved=True)

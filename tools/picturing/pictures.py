@@ -29,7 +29,8 @@ VERDICT = (
 
 
 def pictures() -> Dict[Path, str]:
-    """The text of each picture, by its file. Raises what stops a check of an example."""
+    """The text of each picture, by its file; nothing is written. It runs two checks, which need
+    python3 and sqlite3, and raises what check_example raises."""
     sqlite, tutorial = EXAMPLES / 'sqlite', EXAMPLES / 'tutorial'
     full = check_example(str(sqlite / 'full.trace'), [str(sqlite / 'recover.sh')])
     recovery = [str(tutorial / 'check.py'), str(tutorial / 'kv.py'), *PUTS]

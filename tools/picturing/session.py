@@ -32,6 +32,8 @@ class ModelledSession:
     crash may leave of them, by the second reading. A set is an int with a bit for each place."""
 
     def __init__(self, checked: CheckedExample, trace: Path) -> None:
+        """Reads the trace, which must be that of the check, and goes through all its sets: so it
+        must be a short one."""
         self.reading = read(trace.read_bytes())
         self.order = Order(self.reading)
         self.operations = checked.findings.plan.operations
@@ -40,8 +42,9 @@ class ModelledSession:
         self.failing = self.failing_sets(checked)
 
     def failing_sets(self, checked: CheckedExample) -> Set[int]:
-        """The sets that leave a state in which the check's command failed. The check tried only the
-        first set that leaves a state; states with equal digests are equal."""
+        """The sets that leave a state in which the check's command failed: also those that the
+        check didn't try, since it tries only the first set that leaves a state. States with equal
+        digests and as many acknowledged lines are equal."""
         plan, states = checked.findings.plan, States(self.reading)
 
         def left_by(places: int) -> Tuple[object, int]:
@@ -52,8 +55,8 @@ class ModelledSession:
         return {places for places in self.sets if left_by(places) in failing}
 
     def rows(self) -> Iterator[Row]:
-        """The micro-operations in their order, and between them the lines that sync: no line makes
-        both."""
+        """The rows of a picture, in the order of the session: each micro-operation, and each line
+        that syncs. No line makes both, and a line that makes neither has no row."""
         for number, line in self.lines.items():
             if line.word in SYNCS:
                 yield Row(line, None, line.text)
@@ -62,16 +65,17 @@ class ModelledSession:
                     yield Row(line, place, row_words(one.kind, line))
 
     def direct_needs(self) -> Iterator[Tuple[int, int, str]]:
-        """Each place with an earlier one that it needs and the rule, without needs that follow from
-        the others by a chain."""
+        """Each place with an earlier one that it needs, and the rule by which it does. A need that
+        follows from two others, through a place between them, is left out."""
         for later, needs in enumerate(self.order.needs):
             for earlier in places_of(needs):
                 if not any(self.order.needs[it] >> earlier & 1 for it in places_of(needs)):
                     yield later, earlier, self.rule_of_need(later, earlier)
 
     def rule_of_need(self, later: int, earlier: int) -> str:
-        """The rule by which a place needs an earlier one: P5 if a sync between them covers it, else
-        one of those that a trace of version 3 with the profile `blocks` and no link has."""
+        """The rule by which a place needs an earlier one, which it must need: P5 if a sync between
+        them covers the earlier one, else the first that fits of the rules for a trace of version 3
+        with the profile `blocks` and no link."""
         one, two = self.reading.operations[earlier], self.reading.operations[later]
         if self.order.synced[later] >> earlier & 1:
             return 'P5'
@@ -84,5 +88,6 @@ class ModelledSession:
 
 
 def row_words(kind: str, line: TraceLine) -> str:
-    """A micro-operation's kind with the text that is acknowledged, or with the path of its line."""
+    """The words of a micro-operation's row: its kind, and the text that its line acknowledges or
+    the path that the line names."""
     return f'{kind} {line.details if kind == "say" else line.path.lstrip("/")}'

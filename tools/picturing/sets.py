@@ -21,8 +21,8 @@ def column_width(session: ModelledSession) -> float:
 
 def draw_row(picture: Picture, session: ModelledSession, row: Row, *, has_number: bool) -> None:
     """Adds the row of a micro-operation, with a cell for each set: faint if the set lacks it, else
-    in the colour of whether recovery fails. Or that of a line that syncs, with a rule. has_number:
-    the number of its line is shown."""
+    in the colour of whether recovery fails with the set. The row of a line that syncs has a rule
+    across all columns instead. The number of the trace's line is shown only if has_number."""
     picture.add_line(row.words, f'code {"sync" if row.place is None else "ink"}', WORDS)
     if has_number:
         picture.add(text_element(NUMBER, picture.y, str(row.line.number), 'code end grey'))
@@ -38,7 +38,8 @@ def draw_row(picture: Picture, session: ModelledSession, row: Row, *, has_number
 
 
 def alternative_text(session: ModelledSession, rows: int) -> str:
-    """What a picture of so many rows shows, in words."""
+    """What the picture of sets, with so many rows, says to those who can't see it. The last
+    sentence is true only of the tutorial's session."""
     lines = {one.line for one in session.operations}
     return (
         f'A table of {rows} rows and {len(session.sets)} columns. The rows are the '
@@ -51,7 +52,8 @@ def alternative_text(session: ModelledSession, rows: int) -> str:
 
 
 def sets_picture(session: ModelledSession) -> str:
-    """The picture of a session's sets, as SVG. Its words are about the session of the tutorial."""
+    """The picture of a session's sets, as SVG. The number of a line is shown only at its first row.
+    The words below are true only of the tutorial's session."""
     rows = list(session.rows())
     picture = Picture('What a crash may leave of a session', alternative_text(session, len(rows)))
     picture.add_line('Line, micro-operations', 'title')

@@ -25,8 +25,8 @@ STYLE = f""".cells {{ fill: none; stroke-width: {CELL - 1}; stroke-dasharray: {C
 
 def rows_of_holes(drawing: Drawing) -> List[str]:
     """The signs of prefixes and of states with one hole, as rows: the prefixes first, then for each
-    micro-operation the states that lack it. A column is how much of the session had begun; a blank
-    is no state."""
+    micro-operation the states that lack it. A column is how many micro-operations had begun; a
+    blank means that there is no such state."""
     ends = range(len(drawing['prefixes']))
     holes: List[str] = drawing['holes']
     lacking = [
@@ -37,7 +37,8 @@ def rows_of_holes(drawing: Drawing) -> List[str]:
 
 
 def runs_of(row: str, sign: str) -> List[range]:
-    """The columns at which a row has the sign, as the fewest ranges."""
+    """The columns at which a row has the sign, as the fewest ranges, from the left; empty if it has
+    none."""
     found: List[range] = []
     for column in (at for at, one in enumerate(row) if one == sign):
         if found and found[-1].stop == column:
@@ -48,8 +49,8 @@ def runs_of(row: str, sign: str) -> List[range]:
 
 
 def paths_of_results(rows: List[str], y: float) -> List[str]:
-    """For each sign of RESULTS a path whose dashes are the states of rows that begin at y; other
-    signs are not drawn."""
+    """For each sign of RESULTS a path whose dashes are the states with it, in rows that begin at
+    the height y. States with other signs, as those that weren't tried, are not drawn."""
     return [
         f'<path class="cells {RESULTS[sign][0]}" d="{path_steps(rows, sign, y)}"/>'
         for sign in RESULTS
@@ -57,8 +58,9 @@ def paths_of_results(rows: List[str], y: float) -> List[str]:
 
 
 def path_steps(rows: List[str], sign: str, y: float) -> str:
-    """The steps of a path along the states with the sign, in rows that begin at y. The dashes of
-    STYLE cut it into squares, so each run ends before the last gap."""
+    """The steps of a path along the states with the sign, in rows that begin at the height y; empty
+    if there are none. The dashes of STYLE cut it into squares, so each run ends before its last
+    gap."""
     return ''.join(
         f'M{MARGIN + run.start * CELL:g} {y + (number + 0.5) * CELL:g}h{len(run) * CELL - 1}'
         for number, row in enumerate(rows)
@@ -67,15 +69,16 @@ def path_steps(rows: List[str], sign: str, y: float) -> str:
 
 
 def acknowledged_columns(checked: CheckedExample) -> Dict[int, str]:
-    """Each acknowledged line by the first column in which it had been printed."""
+    """The text of each acknowledged line, by the first column of rows_of_holes in which it had been
+    printed."""
     lines = checked.report.head.lines
     operations = enumerate(checked.findings.plan.operations)
     return {at + 1: lines[one.line].details for at, one in operations if one.kind == 'say'}
 
 
 def draw_holes(picture: Picture, checked: CheckedExample, drawing: Drawing) -> None:
-    """Adds the prefixes and the states with one hole, and above the column of each acknowledged
-    line its words."""
+    """Adds the prefixes and the states with one hole below what is there, and above the first
+    column of each acknowledged line its text and a rule."""
     rows = rows_of_holes(drawing)
     picture.y += LINE
     for column, words in acknowledged_columns(checked).items():
@@ -88,7 +91,8 @@ def draw_holes(picture: Picture, checked: CheckedExample, drawing: Drawing) -> N
 
 
 def draw_picks(picture: Picture, drawing: Drawing) -> None:
-    """Adds the states with other losses: a row for each number of steps that they lack."""
+    """Adds the states with other losses below what is there, those that lack the fewest
+    micro-operations first, and a line that says how many there are."""
     picture.add_line(
         f'and {len(drawing["picks"]):,} states with other losses, \u2193 more in each row:'
     )
@@ -98,8 +102,9 @@ def draw_picks(picture: Picture, drawing: Drawing) -> None:
 
 
 def rows_by_loss(drawing: Drawing) -> List[str]:
-    """The signs of the states with other losses, as rows of the picture's width: those that lack
-    equally many micro-operations follow each other, and begin a row."""
+    """The signs of the states with other losses, as rows. States that lack equally many
+    micro-operations follow each other and begin a row; they fill several if they don't fit the
+    picture's width."""
     most = (WIDTH - 2 * MARGIN) // CELL
     signs: Dict[int, str] = {}
     for _, sign, lacks in drawing['picks']:
@@ -109,7 +114,8 @@ def rows_by_loss(drawing: Drawing) -> List[str]:
 
 def draw_key(picture: Picture) -> None:
     """Adds what rows, columns and colours mean, in the corner that has no states: the last rows of
-    draw_holes, which end at the present y, have states only at the right."""
+    draw_holes, which end at the present y, have states only at the right. y is afterwards what it
+    was."""
     bottom, picture.y = picture.y, picture.y - 5 * LINE - 8
     for sign, (colour, words) in RESULTS.items():
         picture.add(rectangle(MARGIN, picture.y + 9, 11, 11, colour))
@@ -121,7 +127,8 @@ def draw_key(picture: Picture) -> None:
 
 
 def alternative_text(checked: CheckedExample, drawing: Drawing) -> str:
-    """What the picture shows, in words."""
+    """What the picture of states says to those who can't see it: how many there are, and which
+    fail. The report's first entry must have a lost line."""
     group = checked.report.groups()[0]
     assert group.lost is not None
     failing = sum(one.count for one in checked.report.groups())
@@ -137,7 +144,8 @@ def alternative_text(checked: CheckedExample, drawing: Drawing) -> str:
 
 
 def states_picture(checked: CheckedExample) -> str:
-    """The picture of a check's states, as SVG, with the first entry of its report."""
+    """The picture of a check's states, as SVG: the report's first line above it, and the cause and
+    the details of the first entry below. There must be such an entry, with a lost line."""
     drawing = drawing_of(checked.findings)
     title = f'The crash states of {checked.report.head.trace}'
     picture = Picture(title, alternative_text(checked, drawing))

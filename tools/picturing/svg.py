@@ -30,7 +30,8 @@ FONTS = """text { font: 14px sans-serif; fill: var(--ink) }
 
 
 def common_style() -> str:
-    """The style of all pictures: a class of each colour, for text and for areas."""
+    """The style of all pictures, as CSS: the fonts, and a class for each colour, which fills texts
+    and areas in light and dark pages."""
     sets = [''.join(f'--{name}: {pair[at]}; ' for name, pair in COLOURS.items()) for at in (0, 1)]
     classes = ''.join(f'.{name} {{ fill: var(--{name}) }}\n' for name in COLOURS)
     dark = f'@media (prefers-color-scheme: dark) {{ svg {{ {sets[1]}}} }}'
@@ -38,8 +39,9 @@ def common_style() -> str:
 
 
 def text_element(x: float, y: float, words: str, classes: str = '') -> str:
-    """A line of text that begins at x, or with the class `end` ends there; y is the bottom of its
-    letters. classes name its font and colour."""
+    """A line of text as an element. It begins at x, is centred there with the class `middle`, or
+    ends there with the class `end`; y is the bottom of its letters. classes name its font and
+    colour; without any it has the usual ones."""
     named = f' class="{classes}"' if classes else ''
     return f'<text x="{x:g}" y="{y:g}"{named}>{escape(words)}</text>'
 
@@ -65,17 +67,18 @@ class Picture:
     parts: List[str] = field(default_factory=list)
 
     def add(self, element: str) -> None:
-        """Adds an element that says itself where it is; y stays."""
+        """Adds an element, which has its own place in the picture; y stays."""
         self.parts.append(element)
 
     def add_line(self, words: str, classes: str = '', x: float = MARGIN) -> None:
-        """Adds a line of text below what is there, and moves y to its bottom."""
+        """Adds a line of text below what is there, and moves y to its bottom. It isn't wrapped; x
+        is as in text_element."""
         self.y += LINE
         self.parts.append(text_element(x, self.y, words, classes))
 
     def svg_file(self, more_style: str = '') -> str:
-        """The whole file, as high as y. Its background makes it legible on a page of any colour.
-        more_style has the classes of this picture only."""
+        """The text of the whole file, of the width WIDTH and as high as y. Its background makes it
+        legible on a page of any colour. more_style has the classes of this picture only."""
         height = self.y + MARGIN + 4
         paper = (
             f'<rect x=".5" y=".5" width="{WIDTH - 1}" height="{height - 1:g}" rx="6" '

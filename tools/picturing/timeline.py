@@ -19,7 +19,8 @@ COLOUR_OF = {'acknowledged': 'grey', 'synced': 'sync', LOST: 'bad', 'on the disk
 
 
 def lines_lost(checked: CheckedExample) -> Set[int]:
-    """The numbers of the lines of which the state that is shown lacks a part."""
+    """The numbers of the lines of which the state that is shown, the example of the report's first
+    entry, lacks a micro-operation."""
     plan = checked.findings.plan
     kept = plan.kept[checked.report.groups()[0].example.number]
     operations = enumerate(plan.operations)
@@ -27,7 +28,8 @@ def lines_lost(checked: CheckedExample) -> Set[int]:
 
 
 def result_of(line: TraceLine, lost: Set[int]) -> str:
-    """What became of a line, as a key of COLOUR_OF; lost are the numbers of lines that are lost."""
+    """What became of a line, as a key of COLOUR_OF. lost has the numbers of lines that are lost,
+    wholly or in part."""
     if line.word == 'say':
         return 'acknowledged'
     if line.word in SYNCS:
@@ -36,7 +38,8 @@ def result_of(line: TraceLine, lost: Set[int]) -> str:
 
 
 def draw_line(picture: Picture, line: TraceLine, result: str) -> None:
-    """Adds a line of the session: its number, what it did, and what became of it."""
+    """Adds a line of the session: its number, what it did, and the result that result_of gives. A
+    lost line has a coloured background."""
     if result == LOST:
         picture.add(rectangle(1, picture.y + 5, WIDTH - 2, LINE, 'tint'))
     colour = COLOUR_OF[result]
@@ -46,8 +49,8 @@ def draw_line(picture: Picture, line: TraceLine, result: str) -> None:
 
 
 def lines_of_files(checked: CheckedExample) -> Dict[str, List[str]]:
-    """The lines of each file of the state that is shown, by path. UnicodeDecodeError if one isn't
-    ASCII: a picture shows text."""
+    """The lines of each file of the state that is shown, by path; directories and links are left
+    out. UnicodeDecodeError if a file isn't ASCII: the picture shows text."""
     return {
         path: bytes(entry.data).decode('ascii').splitlines()
         for path, entry in sorted(checked.files.items())
@@ -56,7 +59,8 @@ def lines_of_files(checked: CheckedExample) -> Dict[str, List[str]]:
 
 
 def draw_files(picture: Picture, files: Dict[str, List[str]]) -> None:
-    """Adds the path of each file, and its lines below."""
+    """Adds, for each file in their order, its path and its lines below that. Nothing says that a
+    file is empty."""
     for path, lines in files.items():
         picture.add_line(f'{path}:', 'code')
         for line in lines:
@@ -64,7 +68,8 @@ def draw_files(picture: Picture, files: Dict[str, List[str]]) -> None:
 
 
 def alternative_text(checked: CheckedExample, shown: List[TraceLine], verdict: str) -> str:
-    """What the picture of some lines of the session shows, in words."""
+    """What the picture of the lines `shown` says to those who can't see it: what became of each,
+    the files then, and the verdict."""
     number, lost = checked.report.groups()[0].example.number, lines_lost(checked)
     steps = '; '.join(f'{line.number} {line.text}: {result_of(line, lost)}' for line in shown)
     contents = lines_of_files(checked)
@@ -74,7 +79,8 @@ def alternative_text(checked: CheckedExample, shown: List[TraceLine], verdict: s
 
 def timeline_picture(checked: CheckedExample, first: int, verdict: str) -> str:
     """The picture of the example of the report's first entry, as SVG: the session from line number
-    `first` on, and what the disk has then. The verdict says what recovery makes of these files."""
+    `first` on, and the files that the disk has then. The verdict says what recovery makes of these
+    files. UnicodeDecodeError as from lines_of_files."""
     group, lost = checked.report.groups()[0], lines_lost(checked)
     shown = [line for number, line in checked.report.head.lines.items() if number >= first]
     title = f'State {group.example.number} of {checked.report.head.trace}'

@@ -36,8 +36,8 @@ class Window(NamedTuple):
 
 
 def session_text() -> str:
-    """The trace of a session that appends rows to a log, and in its middle makes a file whose
-    directory it doesn't sync afterwards."""
+    """The trace of a session that appends ROWS rows to a log, each with a sync and an acknowledged
+    line. Before the row TABLE_ROW it makes a file, whose directory it never syncs afterwards."""
     lines = [HEADER, f'{{"op":"creat","path":"/log",{RIGHTS}}}\n', '{"op":"fsync","path":"/"}\n']
     for row in range(ROWS):
         if row == TABLE_ROW:
@@ -49,7 +49,8 @@ def session_text() -> str:
 
 
 def windows_of_session() -> List[Window]:
-    """The windows into which a check divides the session, in their order."""
+    """The windows into which a check divides the session of session_text, in their order. No state
+    is tried."""
     found = []
     with tempfile.TemporaryDirectory() as folder, Guard('crashfs-picture') as guard:
         trace = Path(folder, 'session.trace')
@@ -64,7 +65,8 @@ def windows_of_session() -> List[Window]:
 
 
 def draw_window(picture: Picture, number: int, window: Window) -> None:
-    """Adds a window with its number, as a bar below the part of the session that it has."""
+    """Adds a window with its number, as a bar below what is there. The bar is as wide as the part
+    of the session in the window: windows may overlap."""
     left, right = (MARGIN + place * CELL for place in (window.begin, window.end))
     picture.y += LINE + 3
     picture.add(rectangle(left, picture.y - 13, right - left - 1, 17, 'good'))
@@ -72,8 +74,8 @@ def draw_window(picture: Picture, number: int, window: Window) -> None:
 
 
 def alternative_text(windows: List[Window], places: int, unsynced: int) -> str:
-    """What the picture shows, in words: of a session of so many places, one of which is never
-    synced."""
+    """What the picture of windows says to those who can't see it: of a session of so many places,
+    of which the one with the number `unsynced` is never synced."""
     parts = '; '.join(
         f'window {number} has {one.begin} to {one.end - 1}' for number, one in enumerate(windows, 1)
     )
@@ -85,8 +87,8 @@ def alternative_text(windows: List[Window], places: int, unsynced: int) -> str:
 
 
 def windows_picture() -> str:
-    """The picture of the windows, as SVG. ValueError if the second one doesn't begin at the file
-    that is never synced, as the words say."""
+    """The picture of the windows of the session of session_text, as SVG. ValueError if the second
+    window doesn't begin at the file that is never synced, as the picture's words say."""
     windows = windows_of_session()
     places, unsynced = windows[-1].end, windows[0].creates[-1]
     if windows[1].begin != unsynced:

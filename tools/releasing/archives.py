@@ -57,7 +57,8 @@ SCRIPTS = {
 
 
 def folders_of(items: Items) -> List[str]:
-    """The folders that the paths of items go through, each after the one that it is in."""
+    """The folders that the paths of items go through, without the top; sorted, so that each comes
+    after the one that it is in."""
     found: Set[str] = set()
     for path in items:
         found.update(str(folder) for folder in Path(path).parents if str(folder) != '.')
@@ -65,8 +66,8 @@ def folders_of(items: Items) -> List[str]:
 
 
 def member_header(path: str, kind: bytes, mode: int, seconds: int) -> tarfile.TarInfo:
-    """The header of a tar member that belongs to root, with a type, as tarfile.DIRTYPE, and a
-    time."""
+    """The header of a tar member that belongs to root, with a type, as tarfile.DIRTYPE, and a time
+    in seconds since 1970. Its size and the target of a link are still to be set."""
     info = tarfile.TarInfo(path)
     info.type, info.mode, info.mtime = kind, mode, seconds
     info.uname = info.gname = 'root'
@@ -74,7 +75,8 @@ def member_header(path: str, kind: bytes, mode: int, seconds: int) -> tarfile.Ta
 
 
 def add_all(archive: tarfile.TarFile, top: str, items: Items, seconds: int) -> None:
-    """Adds items, with their folders, to an archive, all below a folder `top`."""
+    """Adds items to an archive, all below a folder `top`: first this folder and those of the items,
+    then the items in their order. All members have the same time."""
     for folder in ['', *folders_of(items)]:
         name = f'{top}/{folder}'.rstrip('/')
         archive.addfile(member_header(name, tarfile.DIRTYPE, 0o755, seconds))
@@ -86,7 +88,8 @@ def add_all(archive: tarfile.TarFile, top: str, items: Items, seconds: int) -> N
 
 
 def write_tarball(path: Path, items: Items, seconds: int) -> None:
-    """Writes a tar.gz in which all is below a folder of the archive's own name."""
+    """Writes a tar.gz, which replaces a file that is there. All is below a folder of the archive's
+    own name: the path must end in `.tar.gz`. The same items and seconds give the same bytes."""
     plain = io.BytesIO()
     with tarfile.open(fileobj=plain, mode='w', format=tarfile.GNU_FORMAT) as archive:
         add_all(archive, path.name[: -len('.tar.gz')], items, seconds)
@@ -94,7 +97,9 @@ def write_tarball(path: Path, items: Items, seconds: int) -> None:
 
 
 def write_below(folder: Path, items: Items, seconds: int) -> None:
-    """Writes items below a folder of the disk, each with that time."""
+    """Writes items below a folder of the disk, each with that time, and makes the folders that they
+    need, whose times aren't set. A file that is there is replaced; OSError if a link is there
+    already."""
     for name, item in items.items():
         path = folder / name
         path.parent.mkdir(parents=True, exist_ok=True)
@@ -107,8 +112,8 @@ def write_below(folder: Path, items: Items, seconds: int) -> None:
 
 
 def control_of(version: str, items: Items) -> str:
-    """The package's control file; the installed size is in units of 1,024 bytes, each file's
-    rounded up (Debian policy 5.6.20)."""
+    """The text of the package's control file. The installed size is in units of 1,024 bytes, each
+    file's rounded up (Debian policy 5.6.20); links and folders count nothing."""
     size = sum((len(item.content) + 1023) // 1024 for item in items.values())
     return (
         f'Package: crashfs\nVersion: {version}\nArchitecture: amd64\nSection: devel\n'
@@ -119,7 +124,9 @@ def control_of(version: str, items: Items) -> str:
 
 
 def write_package(path: Path, version: str, items: Items, seconds: int) -> None:
-    """Writes a Debian package by dpkg-deb; CalledProcessError if that fails."""
+    """Writes a Debian package by dpkg-deb: the items, which go below /usr, what Debian wants
+    besides, and the scripts. CalledProcessError if dpkg-deb fails, OSError if it isn't
+    installed."""
     with tempfile.TemporaryDirectory(prefix='crashfs-release-') as room:
         root = Path(room) / 'root'
         files = for_debian(items, version, seconds)
@@ -144,7 +151,8 @@ def write_package(path: Path, version: str, items: Items, seconds: int) -> None:
 
 
 def checksums_below(root: Path) -> str:
-    """The text of a package's file md5sums, for all files below a folder."""
+    """The text of a package's file md5sums: a line for each file below a folder, sorted by path;
+    links have none."""
     files = sorted(it for it in root.rglob('*') if it.is_file() and not it.is_symlink())
     lines = (
         f'{hashlib.md5(it.read_bytes()).hexdigest()}  {it.relative_to(root)}\n' for it in files
@@ -153,8 +161,8 @@ def checksums_below(root: Path) -> str:
 
 
 def for_debian(items: Items, version: str, seconds: int) -> Items:
-    """Items, with the two files that Debian's policy wants (12.5, 12.7), and lintian's
-    overrides."""
+    """The items with three more files: the copyright and the changelog, which Debian's policy wants
+    (12.5, 12.7), and lintian's overrides. The given items stay as they are."""
     year = datetime.fromtimestamp(seconds, timezone.utc).year
     changelog = (
         f'crashfs ({version}) unstable; urgency=medium\n\n'

@@ -47,21 +47,25 @@ OBJECTS = TOP / 'crates' / 'crashfs' / 'out' / 'crashfs.o'
 
 
 def git_output(*words: str) -> str:
-    """What git prints, without blanks at its ends; CalledProcessError if it fails."""
+    """What git prints in the repository, without blanks at its ends. CalledProcessError if it
+    fails, OSError if it isn't installed."""
     ran = subprocess.run(['git', *words], cwd=TOP, stdout=subprocess.PIPE, text=True, check=True)
     return ran.stdout.strip()
 
 
 def commit_of_tree() -> str:
-    """The commit that is checked out, with `-dirty` if a file that git knows differs from it."""
+    """The commit that is checked out, with `-dirty` if a file that git knows differs from it; new
+    files don't count."""
     return git_output('rev-parse', 'HEAD') + (
         '-dirty' if git_output('status', '--porcelain', '-uno') else ''
     )
 
 
 def provenance_of(log: Optional[Path], objects: str) -> Provenance:
-    """Of which commit and kit a release is, and what its gate counted; ValueError if the log is not
-    of a gate of both that passed. `objects` says where the object file is from."""
+    """Of which commit and kit a release is, and what its gate counted; without a log it says
+    NOT_RUN. `objects` says where the object file is from. ValueError if the log is not of a gate of
+    both that passed, or SOURCE_DATE_EPOCH is no number; OSError or CalledProcessError if git, rt or
+    gcc is missing or fails."""
     commit, kit = commit_of_tree(), kit_version()
     seconds = int(os.environ.get('SOURCE_DATE_EPOCH') or git_output('log', '-1', '--format=%ct'))
     gate = NOT_RUN
@@ -81,8 +85,8 @@ def provenance_of(log: Optional[Path], objects: str) -> Provenance:
 
 
 def linked_program(objects: Path) -> bytes:
-    """The bytes of the static program that an object file is linked to; LinkFault if it can't
-    be."""
+    """The bytes of the static program that an object file is linked to; raises what link_statically
+    raises. No file stays."""
     with tempfile.TemporaryDirectory(prefix='crashfs-release-') as room:
         program = Path(room) / 'crashfs'
         link_statically(objects, program)
@@ -90,7 +94,9 @@ def linked_program(objects: Path) -> bytes:
 
 
 def write_release(provenance: Provenance, objects: Path, into: Path) -> None:
-    """Writes the five files of a release, from an object file, into a folder."""
+    """Links an object file, and writes the five files of a release into a folder, which is made if
+    it isn't there; files of these names are replaced. If it can't be linked, nothing is written.
+    After another error some of the files may be there."""
     program = linked_program(objects)
     items = items_with(program, built_module(provenance).encode())
     into.mkdir(parents=True, exist_ok=True)
@@ -106,7 +112,7 @@ def write_release(provenance: Provenance, objects: Path, into: Path) -> None:
 
 
 def make_parser() -> argparse.ArgumentParser:
-    """A parser of the command line."""
+    """The parser of the command line. It doesn't look whether the files that are named exist."""
     parser = argparse.ArgumentParser(
         prog='release', description=ABOUT, formatter_class=argparse.RawDescriptionHelpFormatter
     )
@@ -133,7 +139,9 @@ def make_parser() -> argparse.ArgumentParser:
 
 
 def main(words: Optional[List[str]] = None) -> int:
-    """Runs release with these words, or those of its command line, and returns its status."""
+    """Runs release with these words, or those of its command line, and returns its status: 1, with
+    a line that says why, if something is missing, fails or is refused. The log of the gate is read
+    before anything is built. A wrong word ends the program (SystemExit)."""
     given = make_parser().parse_args(words)
     try:
         provenance = provenance_of(given.gate, GIVEN if given.objects else BUILT)

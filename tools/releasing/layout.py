@@ -33,22 +33,24 @@ Items = Dict[str, Item]
 
 
 def tracked_files(folder: str) -> List[str]:
-    """The paths of the files that git knows below a path, or that match it; sorted."""
-    said = subprocess.run(
+    """The paths, from the top, of the files that git knows below a path, or that match a pattern;
+    sorted. Empty if there are none; CalledProcessError if git fails."""
+    ran = subprocess.run(
         ['git', 'ls-files', '-z', '--', folder], cwd=TOP, stdout=subprocess.PIPE, check=True
     )
-    return sorted(name for name in said.stdout.decode().split('\0') if name)
+    return sorted(name for name in ran.stdout.decode().split('\0') if name)
 
 
 def item_of_file(path: str) -> Item:
-    """A file of the repository as it is."""
+    """A file of the repository as it is now, committed or not; it is a program if its owner may
+    execute it. OSError if it isn't there."""
     whole = TOP / path
     return Item(whole.read_bytes(), bool(whole.stat().st_mode & 0o100))
 
 
 def tool_items() -> Items:
     """The commands of Python with their package, by their paths in a release; bin/ has a link to
-    each command."""
+    each command. Files that git doesn't know are left out."""
     items = {
         f'{LIBRARY}/{path[len("tools/"):]}': item_of_file(path)
         for path in tracked_files('tools/crashfs_tools')
@@ -61,7 +63,7 @@ def tool_items() -> Items:
 
 def document_items() -> Items:
     """Pages, pictures, data and examples, by their paths in a release: in the same folders as here,
-    so that links to them work."""
+    so that links between them work."""
     data = [
         *tracked_files('docs/images'),
         *tracked_files('docs/results.json'),
@@ -72,8 +74,8 @@ def document_items() -> Items:
 
 
 def manual_items() -> Items:
-    """The manual pages, by their paths in a release, compressed without a time, as Debian wants
-    them."""
+    """The manual pages, compressed as Debian wants them, by their paths in a release. The section
+    is the suffix of a page's file. The same text gives the same bytes: no time is in them."""
     items: Items = {}
     for path in tracked_files('docs/man'):
         section = path.rsplit('.', 1)[1]
@@ -84,7 +86,7 @@ def manual_items() -> Items:
 
 def completion_items() -> Items:
     """Completions of the commands, by their paths in a release: where bash, zsh and fish look for
-    them."""
+    them. KeyError if tools/completions has a file of another shell."""
     places = {
         'bash': 'share/bash-completion/completions/{0}',
         'zsh': 'share/zsh/vendor-completions/_{0}',
@@ -98,7 +100,8 @@ def completion_items() -> Items:
 
 
 def items_with(program: bytes, built: bytes) -> Items:
-    """All files of a release by path, with the bytes of the program and of the module `built`."""
+    """All files of a release by path, sorted, with the bytes of the program and of the module
+    `built`. Nothing is written."""
     items = {**tool_items(), **document_items(), **manual_items(), **completion_items()}
     items['bin/crashfs'] = Item(program, is_program=True)
     items[f'{LIBRARY}/crashfs_tools/built.py'] = Item(built)

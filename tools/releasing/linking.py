@@ -16,36 +16,36 @@ class LinkFault(Exception):
 
 
 def kit_folder() -> Path:
-    """The toolchain's folder: that of the page which `rt doc` names, else the one above `rt`'s own.
-    LinkFault if there is no `rt`."""
+    """The toolchain's folder: that of the page which `rt doc` names, or, if there is no such page,
+    the one above the folder that has `rt` itself, links followed. LinkFault if there is no `rt` on
+    PATH."""
     command = shutil.which('rt')
     if command is None:
         raise LinkFault('rt: not found on PATH')
-    said = subprocess.run([command, 'doc'], stdout=subprocess.PIPE, text=True)
-    page = Path(said.stdout.strip().splitlines()[0]) if said.stdout.strip() else None
+    ran = subprocess.run([command, 'doc'], stdout=subprocess.PIPE, text=True)
+    page = Path(ran.stdout.strip().splitlines()[0]) if ran.stdout.strip() else None
     return page.parent if page and page.is_file() else Path(os.path.realpath(command)).parent.parent
 
 
 def kit_version() -> str:
-    """The line of `rt version`: the kit, and the checksum of its logic."""
-    said = subprocess.run(['rt', 'version'], stdout=subprocess.PIPE, text=True, check=True)
-    return said.stdout.strip().splitlines()[0]
+    """The first line that `rt version` prints: the kit, and the checksum of its logic. OSError if
+    there is no `rt`, CalledProcessError if it fails."""
+    ran = subprocess.run(['rt', 'version'], stdout=subprocess.PIPE, text=True, check=True)
+    return ran.stdout.strip().splitlines()[0]
 
 
 def linker_version() -> str:
-    """The linker's name and version; its own library is linked too."""
-    said = subprocess.run(
-        ['gcc', '-dumpfullversion'], stdout=subprocess.PIPE, text=True, check=True
-    )
-    return f'gcc {said.stdout.strip()}'
+    """The name and version of the linker, whose own library (libgcc) is linked too. OSError if
+    there is no gcc, CalledProcessError if it fails."""
+    ran = subprocess.run(['gcc', '-dumpfullversion'], stdout=subprocess.PIPE, text=True, check=True)
+    return f'gcc {ran.stdout.strip()}'
 
 
 def link_statically(made: Path, program: Path) -> None:
-    """Links an object file and the toolchain's two C libraries into a program that needs no other;
-    LinkFault if gcc fails. Its warnings are printed, but for the one that is known.
-
-    The result is stripped, and has no build id, so that the same object gives the same bytes.
-    """
+    """Links an object file and the toolchain's two C libraries into a program that needs no other.
+    It is stripped and has no build id: the same object gives the same bytes. gcc's warnings are
+    printed, but for the known one. LinkFault if gcc fails or there is no `rt`, OSError if there is
+    no gcc."""
     kit = kit_folder()
     libraries = [str(kit / 'c' / name) for name in ('libos_c.a', 'liblibc_c.a')]
     words = ['gcc', '-static', '-s', '-Wl,--build-id=none', '-o', str(program), str(made)]

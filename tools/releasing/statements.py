@@ -19,7 +19,8 @@ GIVEN = 'given by --objects; nothing here says that it was proved'
 @dataclass(frozen=True)
 class Provenance:
     """Of what a release is made, and by what: its time in seconds since 1970, the counts of its
-    gate, and in `objects` where the object file is from."""
+    gate, in `objects` where the object file is from, and the linker and the C library with their
+    versions."""
 
     version: str
     commit: str
@@ -32,7 +33,7 @@ class Provenance:
 
     @property
     def time(self) -> str:
-        """The time of the release, as SPDX writes it."""
+        """The time of the release, as SPDX writes it: UTC, to the second."""
         moment = datetime.fromtimestamp(self.seconds, timezone.utc)
         return moment.strftime('%Y-%m-%dT%H:%M:%SZ')
 
@@ -48,15 +49,17 @@ def checksum_lines(paths: List[Path]) -> str:
 
 
 def built_module(made: Provenance) -> str:
-    """The text of the module `built`, from which `--version` takes the commit and the kit."""
+    """The text of the module `built`, from which `--version` takes the commit and the kit: only a
+    release has it."""
     return (
         '"""Of what this release was made."""\n\n' f'COMMIT = {made.commit!r}\nKIT = {made.kit!r}\n'
     )
 
 
 def attestation_text(made: Provenance, objects: bytes, program: bytes) -> str:
-    """The text of ATTESTATION: what was proved, by what, and what the gate said, with the bytes of
-    the object file and the program. A name and its value a line."""
+    """The text of ATTESTATION: what was proved, by what, what the gate counted, and the checksums
+    of the object file and of the program, whose bytes are given. Each line is a name and its
+    value."""
     return (
         f'version: {made.version}\ncommit: {made.commit}\nkit: {made.kit}\n'
         f'gate: {made.gate}\n'
@@ -67,7 +70,8 @@ def attestation_text(made: Provenance, objects: bytes, program: bytes) -> str:
 
 
 def spdx_package(name: str, version: str) -> Dict[str, object]:
-    """An SPDX package without a file; no licence is asserted for it."""
+    """A package of an SPDX list: a thing that is linked, with its version. Its files aren't listed,
+    and nothing is asserted of its licence."""
     return {
         'SPDXID': f'SPDXRef-{name.replace("_", "-")}',
         'name': name,
@@ -86,8 +90,9 @@ def spdx_relation(one: object, kind: str, other: object) -> Dict[str, object]:
 
 
 def spdx_document(made: Provenance, crates: str) -> str:
-    """What is linked into the program, as an SPDX 2.3 document (JSON), from the text of crates.txt.
-    A crate that has no line there is the kit's."""
+    """What is linked into the program, as an SPDX 2.3 document (JSON): the crates below it by the
+    text of crates.txt, the toolchain's library, the C library and libgcc. A crate that has no line
+    in the text is the kit's. The same provenance gives the same text."""
     own = uses_by_crate(crates)
     packages = [spdx_package('crashfs', made.version)]
     for name in sorted(crates_below(own, 'crashfs')):

@@ -26,7 +26,8 @@ LEFT_TESTS = {
 
 
 class Crate(NamedTuple):
-    """A crate with tests: how many it has, how many lines, and what of it is left to the gate."""
+    """A crate with tests: how many it has, how many lines, and the tests that are left to the gate,
+    by their whole names, with why."""
 
     name: str
     tests: int
@@ -35,7 +36,8 @@ class Crate(NamedTuple):
 
 
 def crates_with_tests() -> List[Crate]:
-    """The crates that have tests, those with most lines first: they take longest."""
+    """The crates that have tests, those with most lines first: they take longest. Those of
+    LEFT_CRATES are among them. A test of LEFT_TESTS that isn't in the source is left out."""
     found = []
     for folder in sorted(CRATES.iterdir()):
         text = ''.join(path.read_text('utf-8') for path in sorted((folder / 'src').rglob('*.rt')))
@@ -54,7 +56,8 @@ def function_of(test: str) -> str:
 
 def outcome_of(crate: Crate, printed: str) -> Outcome:
     """The outcome of a crate's tests, from what `rt try --test` printed. A test that it doesn't
-    name counts as failed, unless it is one that is left to the gate."""
+    name counts as failed. One that is left to the gate counts as passed if it did, and else as not
+    run. What was printed is in the outcome only if a test failed."""
     results = dict(RESULT.findall(printed))
     passed = sum(word == 'ok' for word in results.values())
     left = [
@@ -74,8 +77,9 @@ def without_passed(printed: str) -> str:
 
 
 def try_tests(crate: Crate) -> Outcome:
-    """Runs the tests of a crate by `rt`, without any proof, and returns their outcome. The status
-    of `rt` doesn't count, only the tests that it names: one that is left to the gate may fail."""
+    """Runs the tests of a crate by `rt`, without any proof, and returns their outcome with its
+    time. The status of `rt` doesn't count, only the tests that it names: one that is left to the
+    gate may fail. OSError if there is no `rt`."""
     begin = time.monotonic()
     ran = subprocess.run(
         ['rt', 'try', '--test', '--seconds', SECONDS],

@@ -41,7 +41,8 @@ def list_examples() -> List[str]:
 
 
 def script_examples() -> Dict[Files, List[str]]:
-    """The names of the scripts that are examples, by the files that they are run with."""
+    """The names of the scripts that are examples, by the files that they are run with: OTHERS has
+    those of some scripts, and USUAL is for the rest."""
     found: Dict[Files, List[str]] = {}
     for path in sorted(EXAMPLES.glob('*.script')):
         found.setdefault(Files(*OTHERS.get(path.stem, USUAL)), []).append(path.stem)
@@ -49,8 +50,9 @@ def script_examples() -> Dict[Files, List[str]]:
 
 
 def count_example(outcome: Outcome, name: str, printed: str) -> None:
-    """Counts an example as passed or failed in an outcome: whether the file of this name has what
-    was printed, byte for byte."""
+    """Counts an example as passed or failed in an outcome: whether the file of this name in
+    examples/ has what was printed, byte for byte. If not, the end of what was printed is added to
+    the output. OSError if there is no such file."""
     if printed.encode() == (EXAMPLES / name).read_bytes():
         outcome.passed += 1
     else:
@@ -59,8 +61,8 @@ def count_example(outcome: Outcome, name: str, printed: str) -> None:
 
 
 def output_of(words: List[str], folder: Path, given: Optional[Path] = None) -> str:
-    """What a command prints, on both outputs, in a folder, with a file as its standard input or
-    with none; its status doesn't matter."""
+    """What a command prints, on both outputs, in a folder, with the file `given` as its standard
+    input, or an empty one. Its status doesn't matter; OSError if it can't be started."""
     ran = subprocess.run(
         words,
         cwd=folder,
@@ -73,8 +75,9 @@ def output_of(words: List[str], folder: Path, given: Optional[Path] = None) -> s
 
 
 def try_examples(has_rt: bool) -> Outcome:
-    """Runs the examples by the program, if it is built. Else only the lists, by the second reading:
-    then the scripts need the toolchain, and without it are left out."""
+    """Runs the examples by the program, if it is built, and returns their outcome. If not, only the
+    lists are run, by the second reading: the scripts are left to try_scripts with the toolchain,
+    and are named as not run without it."""
     begin, program = time.monotonic(), Crashfs.find(None)
     head = [program.path] if program else [sys.executable, '-S', READING]
     outcome = Outcome('examples')
@@ -96,18 +99,19 @@ def try_examples(has_rt: bool) -> Outcome:
 
 
 def try_scripts(files: Files, names: List[str]) -> Outcome:
-    """Runs the scripts of these names by a program that the toolchain compiles without any
-    proof."""
+    """Runs the scripts of these names over these files by a program that the toolchain compiles
+    without any proof, and returns their outcome. A script of which nothing was printed fails, with
+    the whole output."""
     begin, outcome = time.monotonic(), Outcome(f'scripts over {files.trace}')
     with tempfile.TemporaryDirectory(prefix='crashfs-test-') as folder:
         for name in names:
             shutil.copy(EXAMPLES / f'{name}.script', folder)
         data = [word for name in files for word in ('--data', f'{name}={EXAMPLES / name}')]
-        said = output_of(
+        printed = output_of(
             ['rt', 'try', '--cases', folder, *data, '--', *files.script_command()], CRATE
         )
-    replies = dict(CASE.findall(said))
+    replies = dict(CASE.findall(printed))
     for name in names:
-        count_example(outcome, f'{name}.replies', replies.get(f'{name}.script', said))
+        count_example(outcome, f'{name}.replies', replies.get(f'{name}.script', printed))
     outcome.seconds = time.monotonic() - begin
     return outcome

@@ -25,8 +25,8 @@ memory for. It prints a line for each part, then what it could not run, and last
 
 
 def parts_with_rt() -> Dict[str, Part]:
-    """The parts that need the toolchain, by name: the tests of each crate that `rt try` can run,
-    and the scripts of the examples if no program is built."""
+    """The parts that need the toolchain, by name: the tests of each crate but LEFT_CRATES, and the
+    scripts of the examples if no program is built."""
     parts: Dict[str, Part] = {
         crate.name: partial(try_tests, crate)
         for crate in crates_with_tests()
@@ -39,27 +39,32 @@ def parts_with_rt() -> Dict[str, Part]:
 
 
 def not_run_without_rt() -> List[str]:
-    """What is not run without the toolchain, with the reason."""
+    """What is not run if there is no toolchain, with the reason: a line that counts the tests of
+    all crates."""
     tests = sum(crate.tests for crate in crates_with_tests())
     return [f'the {tests} tests of the crates: they need `rt`, the command of the toolchain']
 
 
 def not_run_with_rt() -> List[str]:
-    """What is not run even with the toolchain, since only the gate can, with the reason."""
+    """What is not run even with the toolchain, since only the gate can: a line for each of
+    LEFT_CRATES, with the reason."""
     tests = {crate.name: crate.tests for crate in crates_with_tests()}
     return [f'the {tests[name]} tests of {name}: {why}' for name, why in LEFT_CRATES.items()]
 
 
 def all_outcomes(has_rt: bool, count: int) -> Iterator[Outcome]:
-    """Runs all parts, `count` crates at once; the outcome of each as it ends. The tools' tests and
-    the examples come first, since they take least."""
+    """Runs all parts, and gives the outcome of each as it ends. The tools' tests and the examples
+    come first, both at once, since they take least; then, with `rt`, the crates, `count` at
+    once."""
     yield from run_parts({'tools': try_tools, 'examples': partial(try_examples, has_rt)}, 2)
     if has_rt:
         yield from run_parts(parts_with_rt(), count)
 
 
 def main() -> int:
-    """Runs tools/test with the words of its command line, and returns its status."""
+    """Runs tools/test with the words of its command line, prints what came of each part, and
+    returns the status: 1 if a test failed. What is not run doesn't change it. A wrong word ends the
+    program (SystemExit)."""
     parser = argparse.ArgumentParser(
         description=DESCRIPTION, formatter_class=argparse.RawDescriptionHelpFormatter
     )

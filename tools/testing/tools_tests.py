@@ -18,7 +18,8 @@ SKIPPED = re.compile(r'^(.*): the tests that need it are skipped$', re.M)
 
 def outcome_of(printed: str, status: int) -> Outcome:
     """The outcome of the tools' tests, from what unittest printed and its status. A run that ends
-    without its last lines has failed."""
+    without its last lines has failed, and so has one whose status isn't 0. Skipped tests count
+    neither as passed nor as failed. What was printed is in the outcome only if something failed."""
     ran = RAN.search(printed)
     last = printed.rstrip().rpartition('\n')[2]
     counts = {word: int(count) for word, count in COUNTS.findall(last)}
@@ -35,7 +36,7 @@ def outcome_of(printed: str, status: int) -> Outcome:
 
 
 def try_tools() -> Outcome:
-    """Runs the tests of the tools in a process, and returns their outcome."""
+    """Runs all tests of the tools, in a process of their own, and returns their outcome."""
     begin = time.monotonic()
     ran = subprocess.run(
         [sys.executable, '-m', 'unittest', 'discover', '-s', 'tools', '-t', 'tools'],

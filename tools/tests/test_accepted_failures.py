@@ -31,6 +31,7 @@ class Files(InFolder):
     def test_a_file_that_says_too_little_or_something_else_is_refused(self) -> None:
         for text, fault in (
             ('[', 'no JSON'),
+            ('[' * 200_000, 'no JSON'),
             ('{}', 'no list of entries'),
             ('[1]', 'entry 1 is no object of texts'),
             ('[{"cause": "a", "why": 1}]', 'entry 1 is no object of texts'),
@@ -38,6 +39,8 @@ class Files(InFolder):
             ('[{"why": "b"}]', 'entry 1 does not say its cause'),
             ('[{"cause": "a", "why": "b", "untill": "x"}]', 'unknown key: untill'),
             ('[{"cause": "a", "why": "b", "until": "soon"}]', 'until is no date'),
+            ('[{"cause": "a", "why": "b", "until": "20270131"}]', 'until is no date'),
+            ('[{"cause": "a", "why": "b", "until": "2027-W04-7"}]', 'until is no date'),
         ):
             with self.assertRaisesRegex(Refused, fault):
                 self.read_failures(text)
@@ -121,6 +124,37 @@ class Reports(InFolder):
         self.assertEqual(ran.returncode, 1)
         self.assertIn(': 6 fail: 6 first; 6 more fail, accepted\n', ran.stdout)
 
+    def test_a_state_of_several_accepted_entries_counts_once(self) -> None:
+        """State 1 is of one entry. The other states are of three entries, and some of two."""
+        known = [
+            {'cause': 'lost a', 'lost': lost, 'kept': kept, 'why': 'a reason'}
+            for lost, kept in [
+                ('rename /config.new to /config', 'say'),
+                ('rename /config.new to /config', 'write /config.new'),
+                ('creat /config.new', 'say'),
+            ]
+        ]
+        path = self.write('known.json', json.dumps(known))
+        recover = self.write('some.sh', SOME_STATES, 0o755)
+        trace = str(CONFIG / 'config.trace')
+        words = '--accept', path, '--tap', 'r.tap', trace, '--', recover
+        ran = self.run_tool('crashfs-check', '--unproved', *words)
+        self.assertIn(' (58 sets): 1 fails: 1 lost a; 6 more fail, accepted\n', ran.stdout)
+        self.assertEqual(ran.returncode, 1)
+        self.assertEqual(self.read('r.tap').count('\nnot ok '), 1)
+
+    def test_an_entry_of_a_later_window_counts_though_its_states_were_tried_before(self) -> None:
+        """States 15, 17 and 20 are equal to state 4 of the window before, and have another pair."""
+        entry = {'cause': 'lost a', 'lost': 'mkdir /tmp', 'kept': 'say', 'why': 'a reason'}
+        path = self.write('known.json', json.dumps([entry]))
+        script = 'case $CRASHFS_STATE in 4|15|17|20) echo lost a; exit 1; esac'
+        words = str(EXAMPLES / 'store.trace'), '--', 'sh', '-c', script
+        options = '--unproved', '--window', '6', '--accept', path, '--tap', 'r.tap'
+        ran = self.run_tool('crashfs-check', *options, *words)
+        self.assertEqual(ran.returncode, 1, ran.stdout)
+        self.assertIn('accepted: lost a ', ran.stdout)
+        self.assertEqual(self.read('r.tap').count('\nnot ok '), 1)
+
     def test_a_merged_report_has_them(self) -> None:
         trace, command = str(CONFIG / 'config.trace'), str(CONFIG / 'check.sh')
         for part in ('1', '2'):
@@ -143,6 +177,12 @@ version=$(sed -n 's/^version=//p' config 2>/dev/null)
 test "${version:-0}" -ge "$CRASHFS_SAYS" && exit 0
 test "$CRASHFS_SAYS" = 3 && echo 'second: it is lost' || echo 'first: it is lost'
 exit 1
+"""
+
+# Fails in one state that loses nothing, and in six others.
+SOME_STATES = """\
+#!/bin/sh
+case $CRASHFS_STATE in 20|28|44|47|48|13|1) echo 'lost a'; exit 1;; esac
 """
 
 

@@ -1,13 +1,19 @@
 """Advice: where syncs belong, what is tried, and what is only said if it helps."""
 
 import itertools
+import os
+import tempfile
 import unittest
+from pathlib import Path
+from types import SimpleNamespace
+from unittest import mock
 
 from crashfs_tools.checker.findings.advice import Advice, Tried
-from crashfs_tools.checker.findings.swaps import moved_lines
+from crashfs_tools.checker.findings.swaps import Swap, moved_lines
 from crashfs_tools.checker.findings.sync_points import sync_points
 from crashfs_tools.checker.report.text import ReportText
-from crashfs_tools.common.trace_lines import read_text, with_syncs
+from crashfs_tools.checker.states.plan import Offsets
+from crashfs_tools.common.trace_lines import TraceLine, read_text, with_syncs
 
 from .support import FAKE
 from .test_check_command import InStore
@@ -140,6 +146,25 @@ class Swapped(unittest.TestCase):
     def test_lines_of_the_same_file_do_not_change_places(self):
         lines = lines_of(line('truncate', '/f', length=0), line('creat', '/g'), rename('/f', '/g'))
         self.assertEqual(moved_lines(lines[2], lines[4], lines), [])
+
+    def test_a_kept_line_in_parts_comes_after_the_moved_lines_and_one_sync(self):
+        kept, lost = (TraceLine(number, 'write', f'/{number}') for number in (5, 6))
+        with tempfile.TemporaryDirectory() as folder:
+            trace = os.path.join(folder, 'window.trace')
+            Path(trace).write_text('header\n5 a\n5 b\n6\n7\n', encoding='utf-8')
+            offsets = Offsets(lines=(0, 5, 5, 6, 7))
+            trials = SimpleNamespace(
+                planned=SimpleNamespace(offsets=offsets, trace=trace),
+                guard=SimpleNamespace(directory=folder),
+            )
+            planner = mock.Mock()
+            group = SimpleNamespace(kept=kept, lost=lost)
+            Swap(trials, planner, None, group).planned_copy([6])
+            path, copied = planner.plan.call_args.args
+            text = Path(path).read_text(encoding='utf-8')
+        sync = '{"op": "fsync", "path": "/6"}'
+        self.assertEqual(text.split('\n'), ['header', '6', sync, '5 a', '5 b', '7'])
+        self.assertEqual(copied.lines, (0, 6, 0, 5, 5, 7))
 
 
 class Tries(InStore):

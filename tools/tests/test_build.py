@@ -3,22 +3,26 @@ fails."""
 
 from __future__ import annotations
 
+import errno
 import io
 import os
 import signal
 import sys
 import tempfile
+import threading
 import unittest
 from contextlib import redirect_stderr, redirect_stdout
 from pathlib import Path
 from typing import Dict, List, Optional, Tuple
 from unittest import mock
 
-from building import checks, main, proving
+from building import checks, main, order, proving
 from building.checks import Check, memory_of_machine, killed_text, run_check
-from building.order import MANY_BELOW, Work, libraries
-from building.proving import build_program, is_library_current, prove_in
+from building.order import MANY_BELOW, Work, libraries, line_count
+from building.proving import build_program, is_library_current, keep_libraries, prove_in
 from building.sharing import give_library
+
+from .support import PATIENCE
 
 GIGABYTE = 2**30
 
@@ -91,6 +95,22 @@ class Order(unittest.TestCase):
             os.utime(text, (300, 300))
             self.assertFalse(is_library_current(Path(room), 'a'))
 
+    def test_a_library_does_not_change_how_many_lines_a_crate_has(self) -> None:
+        with tempfile.TemporaryDirectory() as room, mock.patch.object(order, 'TOP', Path(room)):
+            for path, lines in (
+                ('src/lib.rt', 1),
+                ('src/deep/x.rt', 2),
+                ('specs/X.antt', 4),
+                ('proofs/x/X.antt', 8),
+                ('out/rlib/lib.rt', 16),
+                ('out/rlib/specs/X.antt', 32),
+                ('must-fail/x.antt', 64),
+            ):
+                file = Path(room) / 'crates' / 'a' / path
+                file.parent.mkdir(parents=True, exist_ok=True)
+                file.write_text('line\n' * lines)
+            self.assertEqual(line_count('a'), 15)
+
     def test_the_libraries_are_all_that_the_program_uses(self) -> None:
         below = libraries()
         self.assertIn('cs_names', below)
@@ -156,9 +176,41 @@ class Sharing(unittest.TestCase):
             prove_in(self.room / '2', work, 0)
             self.assertEqual((self.given('2', 'a'), self.given('2', 'b')), ('a', 'b'))
             with mock.patch.object(proving, 'TOP', self.room / 'top'):
-                build_program(work, 0)
+                keep_libraries(work)
         self.assertEqual([self.given('top', it) for it in 'abcd'], list('abcd'))
         self.assertEqual(work.places['e'], self.room / '2')
+
+    def build(self, refused: str) -> int:
+        """A build whose crates a to e are all proved in the copy 1, but for those of `refused`."""
+
+        def check(words: List[str], crate: Path) -> Check:
+            if crate.name in refused:
+                return Check(1, b'', 1)
+            if words[1] == 'lib':
+                self.prove('1', crate.name, crate.name)
+            return Check(0, b'', 1)
+
+        top, copy = self.room / 'top', self.room / '1'
+        with mock.patch.object(main, 'libraries', return_value=BELOW), mock.patch.object(
+            main, 'chain_lengths', return_value=CHAINS
+        ), mock.patch.object(main, 'TOP', top), mock.patch.object(
+            proving, 'TOP', top
+        ), mock.patch.object(
+            main, 'prove_in', lambda _, work, begun: prove_in(copy, work, begun)
+        ), mock.patch.object(
+            proving, 'run_check', check
+        ), redirect_stdout(
+            io.StringIO()
+        ):
+            return main.build_all(1)
+
+    def test_what_is_proved_is_kept_whether_or_not_all_is(self) -> None:
+        with redirect_stderr(io.TextIOWrapper(io.BytesIO(), 'utf-8')):
+            self.assertEqual(self.build('e'), 1)
+        self.assertEqual([self.given('top', it) for it in 'ab'], ['a', 'b'])
+        self.assertFalse(self.library('top', 'e').exists())
+        self.assertEqual(self.build(''), 0)
+        self.assertEqual([self.given('top', it) for it in 'abcde'], list('abcde'))
 
 
 # A check that takes so much memory, and then ends as its last word says.
@@ -205,6 +257,32 @@ class Checks(unittest.TestCase):
         self.assertGreater(memory_of_machine(), GIGABYTE // 4)
 
 
+class Threads(unittest.TestCase):
+    def test_an_error_in_a_thread_ends_all_and_is_one_line(self) -> None:
+        work = Work({'a': [], 'b': ['a']}, {'a': 2, 'b': 1}, 2)
+        out, err = io.StringIO(), io.TextIOWrapper(io.BytesIO(), 'utf-8')
+        full = OSError(errno.ENOSPC, 'No space left on device', '/copy\n' + 'x' * 9999)
+        with mock.patch.object(proving, 'run_check', side_effect=[full]) as run, redirect_stdout(
+            out
+        ), redirect_stderr(err):
+            threads = [
+                threading.Thread(target=prove_in, args=(Path('/'), work, 0), daemon=True)
+                for _ in range(2)
+            ]
+            for thread in threads:
+                thread.start()
+            for thread in threads:
+                thread.join(PATIENCE)
+        self.assertEqual([thread.is_alive() for thread in threads], [False, False])
+        self.assertEqual((work.failed, work.places, run.call_count), ('a', {}, 1))
+        self.assertRegex(out.getvalue(), r'min: a NOT PROVED \(0 of 2\)\n$')
+        err.flush()
+        assert isinstance(err.buffer, io.BytesIO)
+        [line] = err.buffer.getvalue().decode().splitlines()
+        self.assertTrue(line.startswith('a: OSError: [Errno 28] No space left on device: '), line)
+        self.assertLess(len(line), 9000)
+
+
 class Reports(unittest.TestCase):
     """What is printed of checks that end in a given way."""
 
@@ -214,7 +292,7 @@ class Reports(unittest.TestCase):
             out
         ), redirect_stderr(err):
             if work is None:
-                self.status = build_program(Work(BELOW, CHAINS, 4), 0)
+                self.status = build_program(0)
             else:
                 prove_in(Path('/'), work, 0)
         err.flush()
@@ -254,6 +332,17 @@ class Reports(unittest.TestCase):
         ), redirect_stderr(err):
             self.assertEqual(main.main(), 1)
         self.assertIn('rt: command not found', err.getvalue())
+
+    def test_a_full_disk_is_one_line_with_a_status(self) -> None:
+        full = OSError(errno.ENOSPC, 'No space left on device', '/copy')
+        with mock.patch.object(main.shutil, 'which', return_value='rt'), mock.patch(
+            'sys.argv', ['build']
+        ), mock.patch.object(main, 'copy_to', side_effect=full), redirect_stderr(
+            io.StringIO()
+        ) as err:
+            self.assertEqual(main.main(), 1)
+        text = 'tools/build: OSError: [Errno 28] No space left on device: \'/copy\'\n'
+        self.assertEqual(err.getvalue(), text)
 
 
 if __name__ == '__main__':

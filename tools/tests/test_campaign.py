@@ -9,10 +9,12 @@ from pathlib import Path
 from unittest import mock
 
 from crashfs_tools.campaign import main
-from crashfs_tools.campaign.book import failure_key
+from crashfs_tools.campaign.book import Book, KnownFailure, failure_key, read_book
 from crashfs_tools.campaign.options import read_options
 from crashfs_tools.campaign.sessions import Checked, Failure
-from crashfs_tools.campaign.shrinking import says_in
+from crashfs_tools.campaign.shrinking import Shrinking, says_in
+from crashfs_tools.common.command import Refused
+from crashfs_tools.common.trace import Header, Say, Trace
 
 from .support import PATIENCE, InFolder
 
@@ -50,6 +52,43 @@ class Keys(unittest.TestCase):
     def test_only_acknowledged_lines_are_counted(self):
         lines = ['{"op":"say","text":"x"}', '{"op":"note","text":"\\"say\\""}', '{"op":"sync"}']
         self.assertEqual(says_in([*lines, lines[0]]), [0, 3])
+
+
+class Books(InFolder):
+    def test_a_file_that_is_no_book_is_refused(self):
+        path = Path(self.path('campaign.json'))
+        book = Book(path, ['a'], 4, 3, {'k': KnownFailure(Failure('c', ['t'], 1, 1), 2, 1)})
+        book.save()
+        self.assertEqual(read_book(path, ['a'], 1), book)
+        fields = json.loads(path.read_text('utf-8'))
+        changes = [
+            {'entries': value} for value in (None, 5, [None], [5], ['k'], [[]], [{}], {'k': 1})
+        ]
+        changes += [{'entries': [{**fields['entries'][0], 'failure': value}]} for value in (5, {})]
+        changes += [{'faults': value} for value in (5, [5], [[1]])] + [{'next_seed': 'x'}]
+        texts = [json.dumps({**fields, **change}) for change in changes]
+        for text in [*texts, '', '[]', 'null', '5', '{']:
+            path.write_text(text, 'utf-8')
+            with self.subTest(text=text), self.assertRaisesRegex(Refused, 'no file of crashfs'):
+                read_book(path, ['a'], 1)
+
+
+class Cuts(InFolder):
+    def test_only_a_line_feed_ends_a_line_of_the_session(self):
+        texts = [f'a{letter}b' for letter in '\x0b\x0c\x1c\x1d\x1e\x85\u2028\u2029\r']
+        trace = Trace(Header('u', 'u', 0o755), operations=[Say(text) for text in texts])
+        lines = list(trace.lines())
+        self.assertTrue(any('\u2028' in line for line in lines))
+        self.write('session.trace', ''.join(f'{line}\n' for line in lines))
+        sessions = mock.Mock(trace=Path(self.path('session.trace')), folder=Path(self.folder))
+        sessions.check.return_value = Checked()
+        shrinking = Shrinking(sessions, 'none')
+        self.assertEqual(shrinking.says, list(range(1, len(lines))))
+        for count in range(1, len(lines)):
+            shrinking.failure_of(count)
+            self.assertEqual(self.read('cut.trace').split('\n'), [*lines[: count + 1], ''])
+        shrinking.failure_of(0)
+        self.assertEqual(self.read('cut.trace'), self.read('session.trace'))
 
 
 @unittest.skipIf(shutil.which('strace') is None, 'strace not installed')
@@ -112,6 +151,24 @@ class Campaigns(InFolder):
         self.assertEqual(self.read('found/entry-1.trace').count('"op":"say"'), 1)
         self.assertIn('acknowledged &quot;version 1&quot;', self.read('found/entry-1.html'))
         self.assertIn('acknowledged "version 1"', ran.stdout)
+
+    def test_two_entries_with_the_same_key_are_one_session(self):
+        words = [self.path('found'), '--', self.session, '--', self.recover]
+        campaign = main.Campaign(read_options(words))
+        entries = [Failure(f'lost: {name}', ['line 7 was not'], 3, 1) for name in 'ab']
+        other = Failure('corrupt: a', [], 4, 1)
+        trace = Path(self.write('session.trace', '{"op":"say","text":"x"}\n'))
+        campaign.sessions = mock.Mock(trace=trace, folder=Path(self.folder))
+        campaign.sessions.record.return_value = ''
+        campaign.sessions.check.return_value = Checked([*entries, other])
+        with mock.patch.object(main, 'print_line') as printed:
+            campaign.try_seed(1)
+            campaign.try_seed(2)
+        self.assertEqual([one.sessions for one in campaign.book.entries.values()], [2, 2])
+        self.assertEqual(
+            [call.args[1] for call in printed.call_args_list],
+            ['seed 1: new: lost: a', 'seed 1: new: corrupt: a'],
+        )
 
     def test_now_and_then_a_line_says_how_many_sessions_were_tried(self):
         words = [self.path('found'), '--', self.session, '--', self.recover]
@@ -178,6 +235,35 @@ class Campaigns(InFolder):
         self.assertGreater(read_options(['--time-limit', '3600', *commands]).seeds[1], 10**9)
         words = ['--time-limit', '3600', '--seeds', '5-7', *commands]
         self.assertEqual(read_options(words).seeds, (5, 7))
+
+    def test_options_of_the_commands_are_quoted_as_for_a_shell(self):
+        commands = ['found', '--', 'true', '--', 'true']
+        options = read_options(['--record', "--ignore 'a b'", '--check=--jobs 2', *commands])
+        self.assertEqual(options.record, ['--ignore', 'a b'])
+        self.assertEqual(options.check, ['--jobs', '2'])
+        options = read_options(commands)
+        self.assertEqual((options.record, options.check), ([], []))
+        for option in ('--record', '--check'):
+            for text in ("'", '"a', 'a\\'):
+                ran = self.run_tool('crashfs-campaign', option, text, *commands)
+                self.assertEqual(ran.returncode, 2, ran.stderr)
+                self.assertIn(f'error: argument {option}: {text}: No ', ran.stderr)
+
+    def test_results_that_are_no_directory_are_refused(self):
+        self.write('file', '')
+        os.symlink('nowhere', self.path('link'))
+        os.makedirs(self.path('old', 'campaign.json'))
+        book = os.path.join('old', 'campaign.json')
+        for name, text in (
+            ('file', 'file is no directory'),
+            ('link', 'link is no directory'),
+            ('file/below', 'file/below: Not a directory'),
+            ('old', f'{book}: Is a directory'),
+        ):
+            ran = self.run_tool('crashfs-campaign', name, '--', 'true', '--', 'true')
+            line = f'crashfs-campaign: {text}\n'
+            self.assertEqual((ran.returncode, ran.stdout, ran.stderr), (2, '', line))
+        self.assertEqual(self.read('file'), '')
 
     def test_two_commands_are_needed(self):
         ran = self.run_tool('crashfs-campaign', self.path('found'), '--', self.session)

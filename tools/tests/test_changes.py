@@ -9,7 +9,7 @@ from typing import List
 from crashfs_tools.checker.findings.read_trees import entries_of
 from crashfs_tools.checker.states.changes import Changes, read_changes
 from crashfs_tools.common.archive import ArchiveFault, members
-from crashfs_tools.common.entry import Entries
+from crashfs_tools.common.entry import Entries, Entry
 from crashfs_tools.reading import plan_of, read
 from crashfs_tools.recorder.directory import scan_directory
 
@@ -96,6 +96,12 @@ class OfTheSecondReading(InFolder):
         data = subprocess.run(words, stdout=subprocess.PIPE, check=True).stdout
         with self.assertRaisesRegex(ArchiveFault, 'before a list of what is missing'):
             list(read_changes(members(BytesIO(data))))
+
+    def test_names_that_are_no_numbers_are_refused(self) -> None:
+        entry = Entry('u', 'u', 0o644, b'')
+        for names in (['x.missing'], ['.missing'], ['1.missing', 'x/a']):
+            with self.assertRaisesRegex(ArchiveFault, ' is no number of a state$'):
+                list(read_changes((name, entry) for name in names))
 
     def test_a_state_without_changes_has_an_empty_list(self) -> None:
         self.assertEqual(self.changes(str(EXAMPLES / 'store.trace'), '0'), [Changes(0, [], {})])

@@ -13,7 +13,7 @@ from unittest import mock
 from crashfs_tools.checker import main
 from crashfs_tools.checker.running.saving import Saver
 
-from .support import FAKE, PATIENCE, TOOLS
+from .support import FAKE, PATIENCE, PROGRESS, TOOLS
 from .test_check_command import InStore
 
 # Runs a check that saves what it knows all the time.
@@ -22,6 +22,21 @@ import sys
 sys.path.insert(0, {tools!r})
 from crashfs_tools.checker import checking, main
 checking.SAVE_SECONDS = 0
+sys.exit(main.main(sys.argv[1:]))
+"""
+
+# Runs a check whose time limit passes after the states of the first window, and whose second runs
+# end in a fault.
+LATE_FAULT = """\
+import sys
+from unittest import mock
+sys.path.insert(0, {tools!r})
+from crashfs_tools.checker import checking, main
+from crashfs_tools.checker.findings import reruns
+from crashfs_tools.common.command import Refused
+from crashfs_tools.common.guard import TimeUp
+checking.Check.find_losses = mock.Mock(side_effect=TimeUp)
+reruns.rerun_examples = mock.Mock(side_effect=Refused('a process was killed'))
 sys.exit(main.main(sys.argv[1:]))
 """
 
@@ -70,6 +85,25 @@ class InTheMiddle(InStore):
                 self.assertEqual((resumed.returncode, resumed.stderr), (1, ''))
                 self.assertEqual(resumed.stdout, whole.stdout)
                 self.assert_nothing_left()
+
+    def test_a_fault_of_second_runs_after_the_time_limit_loses_no_report(self):
+        line = [sys.executable, '-S', '-c', LATE_FAULT.format(tools=str(TOOLS)), '--crashfs', FAKE]
+        line += ['--jobs', '1', '--timeout', str(PATIENCE), '--nested', '1', '--json', 'r.json']
+        ran = subprocess.run(
+            [*line, self.bad, '--', self.command],
+            cwd=self.folder,
+            env={**os.environ, **self.environment(None)},
+            stdout=subprocess.PIPE,
+            stderr=subprocess.PIPE,
+            text=True,
+            check=False,
+        )
+        printed = PROGRESS.sub('', ran.stderr)
+        self.assertEqual((ran.returncode, printed), (3, 'crashfs-check: a process was killed\n'))
+        self.assertIn(': 3 fail: 3 lost\n', ran.stdout)
+        self.assertIn('--nested: 1 of 1 not tried (stopped by the time limit)', ran.stdout)
+        self.assertEqual(json.loads(self.read('r.json'))['stopped'], 'the time limit')
+        self.assert_nothing_left()
 
     def test_a_fault_before_the_first_state_is_bad_input(self):
         ran = self.check('--json', 'r.json', self.bad, command=['false'])

@@ -15,7 +15,7 @@ from crashfs_tools.common.command import Refused, write_whole
 from crashfs_tools.common.entry import Entry
 from crashfs_tools.recorder.log_stream import create_log
 
-from .support import EXAMPLES, InFolder
+from .support import EXAMPLES, FAKE, InFolder
 from .test_check_command import InStore
 
 
@@ -157,6 +157,35 @@ class Reports(InStore):
             self.write('odd.json', odd)
             with self.assertRaises(Refused):
                 read_json(self.path('odd.json'))
+
+    def test_a_state_that_no_plan_has_is_refused(self):
+        fields = json.loads(self.read('1.json'))
+        count = len(fields['windows'][0]['operations'])
+        places = {one[1]: one[0] for one in fields['windows'][0]['states']}
+        for family, numbers in (
+            ('prefix', [0]),
+            ('hole', [3, 4]),
+            ('hole', [3, 2]),
+            ('hole', [0, count + 1]),
+            ('pick', [0, count]),
+            ('pick', [count]),
+            ('set', [0]),
+        ):
+            with self.subTest(f'{family} {numbers}'):
+                at = 'windows', 0, 'states', places.get(family, 0)
+                odd = changed(changed(fields, (*at, 2), numbers), (*at, 1), family)
+                self.write('odd.json', json.dumps(odd))
+                with self.assertRaisesRegex(Refused, 'is no report of crashfs-check'):
+                    read_json(self.path('odd.json'))
+                ran = self.run_tool('crashfs-check', '--merge', 'odd.json', '2.json')
+                self.assertEqual(ran.returncode, 2, ran.stderr)
+
+    def test_a_report_with_more_windows_than_the_trace_is_refused(self):
+        self.check('--json', 'r.json', self.bad)
+        self.change('r.json', lambda fields: fields['windows'].append(fields['windows'][0]))
+        ran = self.run_tool('crashfs-check', '--crashfs', FAKE, self.bad, '--merge', 'r.json')
+        self.assertEqual((ran.returncode, ran.stdout), (2, ''))
+        self.assertIn('crashfs-check: the trace has other states than the reports: ', ran.stderr)
 
     def test_a_whole_report_is_read(self):
         self.assertEqual(len(read_json(self.path('1.json')).windows), 1)

@@ -215,6 +215,13 @@ class Stops(InCounted):
             '11 micro-operations, 20 states, ' '13 different: none fails\n',
         )
 
+    def test_the_first_failure_ends_a_check_that_tries_its_states_in_turns(self):
+        command = self.counted('case $CRASHFS_STATE in 0|11) exit;; esac; exit 1')
+        ran = self.check('--fail-fast', '--jobs', '1', self.good, command=command)
+        self.assertEqual((ran.returncode, ran.stderr), (1, ''))
+        self.assertRegex(ran.stdout, r': 1 of the \d tried fails: 1 status 1; \d+ not tried \(')
+        self.assertEqual(len(set(self.ran()) - {0, 11}), 1)
+
     def test_a_reader_that_reads_no_more_is_no_fault(self):
         for words, status in [
             ((self.bad, '--', './recover.sh'), 1),

@@ -176,6 +176,13 @@ class Refuses(InStore):
                 self.assertEqual(err.count('\n'), 1, err)
         self.assertIn('crashfs-check: ', self.refusal('--crashfs', FAKE, broken, '--', 'true'))
 
+    def test_a_trace_of_too_many_levels_is_refused_as_any_other(self):
+        for levels in (500, 5_000):
+            owner = '[' * levels + ']' * levels
+            trace = self.write('nested.trace', f'{{"trace":1,"owner":{owner}}}\n')
+            err = self.refusal('--unproved', trace, '--', 'true')
+            self.assertRegex(err, r'^crashfs-check: crashfs: .*/nested\.trace:1: .*\n$')
+
     def test_a_program_without_the_options_is_reported(self):
         old = self.write('old', f'#!/bin/sh\nexec {FAKE} "$@" --old\n', 0o755)
         err = self.refusal('--crashfs', old, self.good, '--', 'true')

@@ -2,6 +2,7 @@
 
 from __future__ import annotations
 
+import contextlib
 import errno
 import os
 import signal
@@ -20,7 +21,8 @@ from crashfs_tools.common.entry import Entries, Entry
 from crashfs_tools.common.sparse import SparseBytes
 from crashfs_tools.common.trace import KINDS, Trace
 from crashfs_tools.common.trace_read import read_trace, replay
-from crashfs_tools.disks import disk, filesystems, images, own_mounts
+from crashfs_tools.disks import crashing, disk, filesystems, images, own_mounts
+from crashfs_tools.disks.crashing import CrashMaker
 from crashfs_tools.disks.levers import Lever
 from crashfs_tools.disks.moments import Moment, moments
 from crashfs_tools.disks.owners import FIRST_UNKNOWN, Owners
@@ -95,6 +97,30 @@ class Moments(unittest.TestCase):
         self.assertEqual(found[4], Moment(7, 3, 3, 11))
         self.assertEqual(found[-1], Moment(21, 3, 3, 25))
         self.assertEqual(len(found), len(trace.operations) + 1 - 3)
+
+
+class StartImages(InFolder):
+    def test_one_without_the_whole_tree_is_not_kept(self) -> None:
+        def make_image(_: object, image: str) -> None:
+            Path(image).write_bytes(b'')
+
+        maker = CrashMaker(filesystems.KNOWN['ext4'], read_trace(ALL_KINDS), self.folder)
+        with mock.patch.multiple(
+            images,
+            make_image=make_image,
+            mounted=lambda *_: contextlib.nullcontext(self.folder),
+            dig_holes=mock.Mock(),
+        ), mock.patch.object(crashing, 'lay_out_start') as lay_out:
+            lay_out.side_effect = OSError(errno.ENOSPC, 'full')
+            for _ in range(2):
+                with self.assertRaises(OSError):
+                    maker.start_image()
+                self.assertEqual(os.listdir(self.folder), ['tmp'])
+            lay_out.side_effect = None
+            self.assertEqual(maker.start_image(), maker.start_image())
+        self.assertEqual(lay_out.call_count, 3)
+        maker.remove_images()
+        self.assertEqual(os.listdir(self.folder), ['tmp'])
 
 
 class InReplays(InFolder):

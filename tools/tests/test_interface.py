@@ -4,6 +4,9 @@ from __future__ import annotations
 
 import json
 import os
+import re
+import subprocess
+import sys
 import time
 import unittest
 from pathlib import Path
@@ -22,6 +25,19 @@ SENTENCE = (
     'line 6 (rename /config.new to /config) was not durable when line 7 acknowledged "version 1 is '
     'saved":'
 )
+
+DRAWINGS = re.compile(r'const windows = (\[\{.*\]);')
+# Prints whether the recording is complete.
+SCRIPT = '''
+from crashfs_tools import record
+
+def session(directory, acknowledge):
+    (directory / 'a').write_text('x')
+    acknowledge('said')
+
+if __name__ == '__main__':
+    print(record('store', session, 's.trace').is_complete)
+'''
 
 RIGHTS = '"owner":"u","group":"u","mode":"755"'
 TWO_FILES = (
@@ -155,7 +171,8 @@ class Checks(InterfaceCase):
             os.waitpid(child, 0)
 
     def test_files_of_a_report_are_those_of_the_command(self) -> None:
-        report = check(CONFIG, lost_version)
+        command = str(EXAMPLES / 'config' / 'check.sh')
+        report = check(CONFIG, [command])
         report.write_json(self.path('r.json'))
         report.write_junit(self.path('r.xml'))
         report.write_tap(self.path('r.tap'))
@@ -164,9 +181,15 @@ class Checks(InterfaceCase):
         self.assertEqual(fields['groups'][0]['text'][0], SENTENCE)
         self.assertIn('<failure', self.read('r.xml'))
         self.assertIn(f'\n#   {SENTENCE}\n', self.read('r.tap'))
-        self.assertIn(
-            '<canvas' if '<canvas' in self.read('r.html') else '<h2>', self.read('r.html')
-        )
+        words = ('--json', 'c.json', '--html', 'c.html', str(CONFIG), '--', command)
+        self.run_tool('crashfs-check', *words)
+        self.assertEqual(fields, json.loads(self.read('c.json')))
+        drawings = [DRAWINGS.findall(self.read(name)) for name in ('r.html', 'c.html')]
+        self.assertTrue(drawings[0])
+        self.assertEqual(*drawings)
+        merged = self.run_tool('crashfs-check', str(CONFIG), '--merge', 'r.json')
+        self.assertEqual(merged.returncode, 1, merged.stderr)
+        self.assertIn('12 fail: 12 lost\n', merged.stdout)
 
     def test_bad_input_is_refused(self) -> None:
         for words in (['/nowhere/command'], ['true']):
@@ -197,6 +220,11 @@ class States(InterfaceCase):
         self.assertLessEqual(failing, set(report.entries[0].states))
         self.assertEqual(len(failing), report.entries[0].count)
         self.assert_nothing_left()
+
+    def test_a_trace_that_can_not_be_read_is_refused(self) -> None:
+        for path, why in ((self.path('no.trace'), 'No such file'), (self.folder, 'is no file')):
+            with self.assertRaisesRegex(Refused, why):
+                next(states(path))
 
     def test_a_loop_may_be_left_and_states_kept(self) -> None:
         kept = [state for _, state in zip(range(3), states(STORE))]
@@ -247,6 +275,32 @@ class Records(InterfaceCase):
             record(self.path('nowhere'), ['true'], self.path('t.trace'))
         with self.assertRaisesRegex(Refused, 'no function of a module'):
             record(self.path('store'), lambda directory, acknowledge: None, self.path('t.trace'))
+
+    def test_a_text_is_one_program(self) -> None:
+        os.mkdir(self.path('store'))
+        program = self.write('session.sh', '#!/bin/sh\necho a > a\necho said\n', 0o755)
+        recording = record(self.path('store'), program, self.path('s.trace'))
+        self.assertTrue(recording.is_complete, recording.messages)
+
+    def test_a_function_of_a_script_is_recorded(self) -> None:
+        os.mkdir(self.path('store'))
+        self.write('script.py', SCRIPT)
+        ran = self.run_python('script.py')
+        self.assertEqual((ran.stdout, ran.returncode), ('True\n', 0), ran.stderr)
+        self.assertIn('"said"', self.read('s.trace'))
+
+    def test_a_function_without_a_file_is_refused_before_anything_begins(self) -> None:
+        os.mkdir(self.path('store'))
+        ran = self.run_python('-c', SCRIPT)
+        self.assertIn('Refused: session was not read from a file', ran.stderr)
+        self.assertFalse(os.path.exists(self.path('s.trace')))
+
+    def run_python(self, *words: str) -> 'subprocess.CompletedProcess[str]':
+        path = {**os.environ, 'PYTHONPATH': str(TOOLS)}
+        line = [sys.executable, *words]
+        return subprocess.run(
+            line, cwd=self.folder, env=path, capture_output=True, text=True, check=False
+        )
 
     def test_a_session_that_raises_is_reported(self) -> None:
         os.mkdir(self.path('store'))

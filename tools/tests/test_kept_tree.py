@@ -1,5 +1,6 @@
 """Trees that stay from state to state: what COMMAND did to them is undone."""
 
+import errno
 import os
 import subprocess
 import time
@@ -119,6 +120,21 @@ class Kept(InFolder):
             for path in TREE
             if TREE[path].data is not None
         }
+
+    def test_a_file_that_can_not_be_removed_is_left_beside_the_next_trees(self):
+        unlink, kept = os.unlink, KeptTree(self.place)
+
+        def unlink_others(path, **words):
+            if path == 'f':
+                raise PermissionError(errno.EPERM, os.strerror(errno.EPERM), path)
+            unlink(path, **words)
+
+        kept.change_to(TREE)
+        with mock.patch.object(os, 'unlink', unlink_others):
+            for tree in ({'': folder(), 'a': file('one')}, TREE, {'': folder()}):
+                kept.note_start()
+                kept.change_to(tree)
+                self.assertEqual(set(listing(kept.directory)), {path or '.' for path in tree})
 
     def test_whatever_was_done_to_it_the_next_tree_is_right(self):
         for has_times, large in ((True, 9), (False, 9), (True, 1), (False, 1)):

@@ -2,8 +2,9 @@
 
 import json
 import unittest
+from types import SimpleNamespace
 
-from crashfs_tools.checker.findings.losses import Searches, loss_search
+from crashfs_tools.checker.findings.losses import RUNS, Searches, loss_search
 from crashfs_tools.checker.findings.pairs import Loss, Pair
 from crashfs_tools.checker.running.runner import BAD, GOOD, Outcome
 from crashfs_tools.checker.states.plan import State, read_plan
@@ -51,6 +52,30 @@ class Searched(unittest.TestCase):
         loss, asked = searched(self.plan, 1 << 39 | 1 << 20, fails)
         self.assertEqual(loss, Loss(Pair(20, 3), 1 << 3))
         self.assertLess(len(asked), 16)
+
+    def test_no_set_is_tried_whose_outcome_is_not_used(self):
+        tried, answered = [], []
+
+        class Fewer(Searches):
+            """Every set fails, but not alike, so that a search ends only after RUNS of them."""
+
+            def try_sets(self, sets):
+                tried.extend(sets)
+                self.known.update({one: Outcome(BAD, 'another') for one in sets})
+
+            def send_answer(self, number, answer):
+                answered.extend([] if answer is None else [answer])
+                super().send_answer(number, answer)
+
+        self.plan.kept[0] = 1 << 39
+        findings = SimpleNamespace(
+            plan=self.plan,
+            by_state={0: Outcome(BAD, 'lost')},
+            pairs=SimpleNamespace(is_same_failure=lambda one, other: False),
+        )
+        found = Fewer(None, None, findings).run([State(0, 'pick', (), 0, 0)])
+        self.assertEqual((len(tried), answered), (RUNS, [False] * RUNS))
+        self.assertEqual(found, {0: Loss(Pair(39, 0), (1 << 39) - 1)})
 
     def test_what_needs_the_lost_one_is_not_put_back_without_it(self):
         text = THIRD + line('creat', '/a') + line('creat', '/b') + line('fsync', '/')

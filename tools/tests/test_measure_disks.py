@@ -4,6 +4,7 @@ from __future__ import annotations
 
 import contextlib
 import io
+import json
 import subprocess
 import sys
 import unittest
@@ -22,12 +23,17 @@ from crashfs_tools.reading.every import every_set
 from crashfs_tools.reading.order import Order, Profiles
 from crashfs_tools.reading.states import States
 from measuring.command import main
-from measuring.disk_sessions import SessionResult, session_result, table_lines, trace_text
+from measuring.disk_sessions import (
+    OPERATIONS,
+    SessionResult,
+    session_result,
+    table_lines,
+    trace_text,
+)
+from measuring.disks import Measurement, parsed_words
 from measuring.random_sessions import session
 
 from .support import PATIENCE, TOOLS, InFolder, needed
-
-OPERATIONS = 7
 
 
 def disk_of(tree: Entries, says: int) -> Disk:
@@ -95,6 +101,30 @@ class Judgements(unittest.TestCase):
         self.assertEqual([row.split(' ')[1] for row in rows[2:]], ['ext4', 'xfs'])
 
 
+class Kept(InFolder):
+    """Results that DIR has."""
+
+    def seeds_done(self, *words: str) -> List[int]:
+        given = ['--on', 'ext4', '--sessions', '3', *words, self.path('found')]
+        run = Measurement(parsed_words(given))
+        missing = {seed for _, seed in run.missing()}
+        self.assertEqual(missing, {1, 2, 3} - {one.seed for one in run.results()})
+        return [one.seed for one in run.results()]
+
+    def test_a_session_with_another_number_of_operations_is_not_done(self) -> None:
+        run = Measurement(parsed_words(['--operations', '99', self.path('found')]))
+        run.keep(SessionResult('ext4', 1, operations=99))
+        run.keep(SessionResult('ext4', 2))
+        # A line of a file that didn't say how many they are.
+        old = SessionResult('ext4', 3).fields()
+        del old['operations']
+        with run.path.open('a', encoding='utf-8') as file:
+            file.write(json.dumps(old) + '\n')
+        self.assertEqual(self.seeds_done(), [2, 3])
+        self.assertEqual(self.seeds_done('--operations', '99'), [1])
+        self.assertEqual(self.seeds_done('--operations', '3'), [])
+
+
 class OnImages(InFolder):
     def run_measure(self, *words: str) -> str:
         """In a process of its own: its guard ends what this process has started."""
@@ -120,6 +150,7 @@ class OnImages(InFolder):
         before = results.read_text('utf-8')
         self.assertEqual(self.run_measure(*words), printed)
         self.assertEqual(results.read_text('utf-8'), before)
+        self.assertEqual([json.loads(line)['operations'] for line in before.splitlines()], [3])
 
     def test_file_systems_that_have_no_profile_are_refused(self) -> None:
         with contextlib.redirect_stderr(io.StringIO()) as err:

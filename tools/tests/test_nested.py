@@ -2,17 +2,21 @@
 
 import json
 import os
+import re
 import unittest
 from types import SimpleNamespace
+from unittest import mock
 
-from crashfs_tools.checker.findings.nested import Nested
+from crashfs_tools.checker.findings import nested as nested_module
+from crashfs_tools.checker.findings.nested import Nested, RecoveryRecorder
 from crashfs_tools.checker.findings.second_crashes import Recovery
 from crashfs_tools.checker.report.report import CheckReport
 from crashfs_tools.checker.report.text import ReportText
 from crashfs_tools.checker.running.results import Head, Results
 from crashfs_tools.checker.running.runner import BAD, GOOD, Outcome
+from crashfs_tools.common.command import Refused
 
-from .support import EXAMPLES, FAKE, needs_strace
+from .support import EXAMPLES, FAKE, PATIENCE, InFolder, needs_strace
 from .test_check_command import InStore
 from .test_pairs import LISTED, read_plan
 
@@ -65,6 +69,17 @@ class Recoveries(InRecoveries):
             f"--state {one['state']}/{one['groups'][0]['example']}", lines[2].partition('e.g. ')[2]
         )
 
+    def test_the_first_failure_of_a_second_crash_ends_a_check_by_fail_fast(self):
+        ran = self.nested('--nested', '4', '--fail-fast')
+        self.assertEqual((ran.returncode, ran.stderr), (1, ''))
+        lines = ran.stdout.splitlines()
+        self.assertRegex(lines[0], ': none fails$')
+        (tried,) = re.findall('(?m)^  (1|2|3) recover.* of a second crash, 1 fails$', ran.stdout)
+        (rest,) = re.findall(
+            '(?m)^  --nested: (.) of 4 not tried .stopped by the first', ran.stdout
+        )
+        self.assertEqual(int(tried) + int(rest), 4)
+
     def test_a_recovery_that_syncs_first_is_safe(self):
         ran = self.nested('--nested', '2', sync='sync table;')
         self.assertEqual((ran.returncode, ran.stderr), (0, ''), ran.stdout)
@@ -93,6 +108,35 @@ class Recoveries(InRecoveries):
         self.assertRegex(
             ran.stdout, '[0-9]+ recoveries: [0-9]+ different states of a second crash, none fai'
         )
+
+
+class Faults(InFolder):
+    def fault(self, recorder):
+        """Why a recovery isn't recorded by a recorder that is this script."""
+        acknowledged = self.write('acknowledged', '')
+        checker = SimpleNamespace(
+            recovery=SimpleNamespace(words=['true']),
+            environment=dict(os.environ),
+            says=SimpleNamespace(path=lambda count: acknowledged),
+            timeout=PATIENCE,
+        )
+        trials = SimpleNamespace(guard=None, new_checker=lambda: checker)
+        state = SimpleNamespace(number=3, says=0)
+        with mock.patch.object(nested_module, 'RECORD', recorder):
+            with self.assertRaises(Refused) as refused:
+                RecoveryRecorder(trials).record(state, self.folder, self.path('t.trace'))
+        return str(refused.exception)
+
+    def test_a_recorder_without_a_trace_has_a_fault_whatever_was_printed(self):
+        killed = (
+            'import os, sys; sys.stderr.write({!r}); sys.stderr.flush(); os.kill(os.getpid(), 9)'
+        )
+        for printed in ('recovering', '', 'recovering: row 1', 'crashfs-record: '):
+            ended = self.fault(killed.format(printed))
+            self.assertEqual(ended, 'crashfs-record was ended by SIGKILL', printed)
+        refuses = "import sys; print('crashfs-record: no room: /d', file=sys.stderr); sys.exit(1)"
+        self.assertEqual(self.fault(refuses), 'no room: /d')
+        self.assertEqual(self.fault('raise SystemExit(1)'), 'crashfs-record ended with status 1')
 
 
 class Counted(unittest.TestCase):

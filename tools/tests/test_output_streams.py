@@ -46,6 +46,14 @@ class Lines(unittest.TestCase):
             with self.subTest(log[-1]):
                 self.assertEqual(lines_of(log), ['one', 'two'])
 
+    def test_a_write_of_no_bytes_acknowledges_nothing(self):
+        nothing, said = '1 write(1<pipe:[7]>, "", 0) = 0', '1 write(1<pipe:[7]>, "one\n", 4) = 4'
+        self.assertEqual(lines_of([nothing, said, nothing]), ['one'])
+        change, rest = '1 mkdir("a", 0777) = 0', '1 write(1<pipe:[7]>, "\n", 1) = 1'
+        part = '1 write(1<pipe:[7]>, "one", 3) = 3'
+        recording = output_of([nothing, change, part, nothing, change.replace('a', 'b'), rest])
+        self.assertEqual(recording.streams.standard[1].most_gaps, 1)
+
     def test_a_stream_that_exec_closes_is_none_any_more(self):
         log = [
             '1 write(1<pipe:[7]>, "one\n", 4) = 4',

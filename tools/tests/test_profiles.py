@@ -107,10 +107,10 @@ class Printing(Reader):
 
 
 class Reports(InFolder):
-    def check(self, *words: str) -> List[str]:
+    def check(self, *words: str, which: str = '--every') -> List[str]:
         trace = self.write('a.trace', HEADER + creat('/a') + creat('/b') + said('1'))
         ran = self.run_tool(
-            *('crashfs-check', '--crashfs', FAKE, '--every', *words, trace, '--'),
+            *('crashfs-check', '--crashfs', FAKE, which, *words, trace, '--'),
             *('sh', '-c', WITHOUT_A),
         )
         self.assertEqual(ran.stderr, '')
@@ -136,6 +136,19 @@ class Reports(InFolder):
             self.check('--in', 'ordered', '--shard', f'{part}/2', '--json', path)
         merged = self.run_tool('crashfs-check', '--merge', *shards)
         self.assertIn('all 6 crash states under ordered: none fails', merged.stdout)
+
+    def test_of_families_too_only_the_states_of_a_profile_are_tried(self) -> None:
+        for which, before, after in (
+            ('--families', '8 states, 8 different: 2 fail', '6 states under ordered, 6 different'),
+            ('--quick', '7 states, 7 different: 2 fail', '5 states under ordered, 5 different'),
+            ('--prefixes', '4 states, 4 different: none', '4 states under ordered, 4 different'),
+        ):
+            with self.subTest(which):
+                self.assertIn(f' 3 micro-operations, {before}', self.check(which=which)[0])
+                self.assertEqual(
+                    self.check('--in', 'ordered', which=which),
+                    [f'a.trace: 3 micro-operations, {after}: none fails'],
+                )
 
     def test_a_prefix_that_a_profile_does_not_allow_has_no_outcome(self) -> None:
         """The first half of a rename into another directory is a prefix of `blocks` only."""

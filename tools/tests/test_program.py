@@ -3,8 +3,10 @@
 import os
 import sys
 import unittest
+from types import SimpleNamespace
 
-from crashfs_tools.common.program import BUILT, Crashfs, program_of_tools
+from crashfs_tools.checker.states.layout import read_trees
+from crashfs_tools.common.program import BUILT, Crashfs, ProgramFault, program_of_tools
 
 from .support import InFolder
 
@@ -25,12 +27,50 @@ time.sleep(0.3)
 sys.stdout.buffer.write(whole[10240:])
 """
 
+# An archive of a state, and of a directory that has another name than a state.
+OTHER = """\
+import sys, tarfile
+with tarfile.open(fileobj=sys.stdout.buffer, mode='w|', format=tarfile.USTAR_FORMAT) as archive:
+    for name in ('0', {name!r}):
+        member = tarfile.TarInfo(name)
+        member.type = tarfile.DIRTYPE
+        archive.addfile(member)
+"""
+
 
 class Archives(InFolder):
     def test_an_archive_is_read_to_its_end(self):
         program = self.write('crashfs', f'#!{sys.executable} -S\n{LATE}', 0o755)
         tree = Crashfs(program).tree('a.trace', 0)
         self.assertEqual(list(tree), ['/a'])
+
+    def test_an_entry_that_is_in_no_state_is_a_fault_of_the_program(self):
+        request = SimpleNamespace(words=[], lead=0)
+        planned = SimpleNamespace(requests=lambda wanted: [request])
+        for name in ('x', '-1', '1_0'):
+            program = Crashfs(
+                self.write('crashfs', f'#!{sys.executable} -S\n{OTHER.format(name=name)}', 0o755)
+            )
+            for trees in (
+                program.trees([]),
+                read_trees(program, planned, {0, 10}, {}, lambda number, tree: list(tree)),
+            ):
+                self.assertEqual(next(trees)[0], 0)
+                with self.assertRaisesRegex(ProgramFault, f"'{name}' is no number of a state"):
+                    next(trees)
+
+
+class Faults(unittest.TestCase):
+    def test_only_a_line_feed_ends_a_line_of_a_fault(self):
+        for letter in '\x0b\x0c\x1c\x1d\x1e\x85\u2028\u2029\r':
+            line = f'crashfs: a.trace:2: /a{letter}b is not there'
+            text = f'crashfs: trace line 2: Missing\n{line}\n'
+            with self.subTest(letter=letter):
+                self.assertEqual(str(ProgramFault(1, text.encode())), line)
+                self.assertEqual(str(ProgramFault(2, f'{line}\nUsage: ..\n'.encode())), line)
+
+    def test_a_fault_without_a_text_says_how_the_program_ended(self):
+        self.assertEqual(str(ProgramFault(3, b' \n')), 'crashfs ended with status 3')
 
 
 class Places(InFolder):

@@ -236,7 +236,10 @@ class Faults(unittest.TestCase):
                 self.assertEqual(fault_of(say % text), wanted)
         odd = HEADERS[1] + '{"op":"x","y":%s}'
         self.assertEqual(fault_of(odd % ('[' * 126 + ']' * 126)), '2: UnknownOp')
-        self.assertEqual(fault_of(odd % ('[' * 127 + ']' * 127)), '2: Syntax')
+        for levels in (127, 500, 900, 5_000):
+            self.assertEqual(fault_of(odd % ('[' * levels + ']' * levels)), '2: Syntax', levels)
+            objects = '{"z":' * levels + '0' + '}' * levels
+            self.assertEqual(fault_of(odd % objects), '2: Syntax', levels)
         self.assertEqual(fault_of(odd % '1e400'), '2: Syntax')
         write = HEADERS[1] + A + '{"op":"truncate","path":"/a","length":%s}'
         for number, wanted in [

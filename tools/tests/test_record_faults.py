@@ -1,12 +1,14 @@
 """What goes wrong in a recording: one line says it, and whether a trace is written."""
 
 import os
+import signal
 import subprocess
 import sys
 import unittest
 from unittest import mock
 
 from crashfs_tools.common import limits, own_faults
+from crashfs_tools.common.guard import Stopped
 from crashfs_tools.recorder import main
 from crashfs_tools.recorder.mapped_files import MAPPED
 from crashfs_tools.common.trace import Start
@@ -78,6 +80,18 @@ class WithoutStrace(InRecordings):
             status, shown = self.fails_in(place, error, *words)
             self.assertEqual(status, 3)
             self.assertIn(f'crashfs-record: {told}', shown)
+
+    def test_a_stop_at_the_end_is_reported_as_one(self):
+        directory = self.path('d')
+        self.write('log', as_strace(f'7 unlink("{directory}/old") = 0\n7 +++ exited with 0 +++\n'))
+        place = 'crashfs_tools.recorder.summary.summary_line'
+        for number in (signal.SIGINT, signal.SIGTERM):
+            status, shown = self.fails_in(place, Stopped(number), directory, self.path('out.trace'))
+            self.assertEqual(status, 128 + number)
+            self.assertIn(
+                f'crashfs-record: stopped by {number.name}; the trace is written\n', shown
+            )
+            self.assertTrue(os.path.exists(self.path('out.trace')))
             self.assertTrue(os.path.exists(self.path('out.trace')))
 
     def test_a_directory_of_too_many_files_is_not_whole(self):

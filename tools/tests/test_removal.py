@@ -112,6 +112,15 @@ class Removes(InFolder):
         self.assertTrue(remove_tree(self.path('top.left')))
         self.assertEqual(os.listdir(self.folder), ['tmp'])
 
+    def test_what_was_beside_before_stays_and_all_else_goes(self):
+        for name in ('top/inner', 'top.left/other'):
+            os.makedirs(self.path(name))
+            self.write(f'{name}/file', 'x')
+        self.assertTrue(remove_tree(self.path('top')))
+        self.assertEqual(sorted(os.listdir(self.folder)), ['tmp', 'top.left'])
+        self.assertEqual(self.read('top.left/other/file'), 'x')
+        self.assertEqual(os.listdir(self.path('top.left')), ['other'])
+
     def test_names_as_long_as_they_may_be_are_removed(self):
         os.makedirs(self.path('top', 'n' * 255, 'm' * 255))
         self.assertTrue(remove_tree(self.path('top')))

@@ -7,6 +7,7 @@ from dataclasses import replace
 from xml.dom import minidom
 
 from crashfs_tools.checker.findings.groups import Difference
+from crashfs_tools.checker.findings.second_crashes import Recovery
 from crashfs_tools.checker.findings.tree_diff import different_lines, nearest_good
 from crashfs_tools.checker.report.drawing import drawing_of
 from crashfs_tools.checker.report.junit import junit_lines
@@ -114,6 +115,29 @@ class Pages(unittest.TestCase):
             text.encode('utf-8')
         self.assertIn('lost: \\x1b[31m\\xff', shown['report'])
         self.assertEqual(json.loads(shown['json'])['trace'], report.head.trace)
+
+    def test_what_second_crashes_left_is_shown(self):
+        text = HEADER + line('creat', '/a')
+        report = report_of(text, lambda files, says: '')
+        before = ''.join(page(report))
+        self.assertIn(': none fails</p>', before)
+        self.assertNotIn('second crash', before)
+        group = odd_findings().groups[0]
+        places = {group.example.number: 'at line 3 of its recovery (unlink /<)'}
+        report.recoveries = [
+            Recovery(7, 5, 2, [group], places),
+            Recovery(8, fault='its recording took too long'),
+        ]
+        self.assertEqual(report.status, 1)
+        after = ''.join(page(report))
+        (counted,) = re.findall('<p class="summary">(1 recovery.*)</p>', after)
+        self.assertEqual(counted, '1 recovery: 5 different states of a second crash, 2 fail')
+        (section,) = re.findall('<section><h2>A crash during.*?</section>', after, re.S)
+        self.assertIn('lost: &lt;file&gt;', section)
+        self.assertIn(f'--state 7/{group.example.number}<', section)
+        self.assertIn('state 7, then a crash at line 3 of its recovery (unlink /&lt;)<', section)
+        self.assertIn('first\n&lt;last&gt;', section)
+        self.assertIn('the recovery of state 8 was not tried: its recording took too', section)
 
     def test_a_page_of_thousands_of_states_is_small(self):
         text = HEADER + ''.join(line('creat', f'/{number}') for number in range(100))

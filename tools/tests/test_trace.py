@@ -241,6 +241,25 @@ class Traces(unittest.TestCase):
         self.assertIsNone(tree.fault(Write('/d/f', limits.FILE_BYTES - 1, b'x')))
         self.assertEqual(tree.new_fault(deep), f'{deep[:-2]} is no directory of the trace')
 
+    def test_the_root_is_never_removed_renamed_or_replaced(self):
+        for version, operation in [
+            (1, Rmdir('/')),
+            (3, Rename('/', '/a')),
+            (4, Rmdir('/')),
+            (4, Rename('/', '/')),
+            (4, Rename('/', '/a')),
+            (4, Rename('/d', '/')),
+        ]:
+            for is_empty in (True, False):
+                tree = Tree('u', 'u', 0o755, version=version)
+                if not is_empty:
+                    tree.add_start(Start('/d', 'u', 'u', 0o755, None))
+                with self.subTest(version=version, operation=operation, is_empty=is_empty):
+                    self.assertIsNotNone(tree.fault(operation))
+        for root in ('{"op":"rmdir","path":"/"}', '{"op":"rename","from":"/","to":"/a"}'):
+            with self.assertRaisesRegex(ValueError, '^line 2: / is the root$'):
+                replay([MOVED.split('\n', maxsplit=1)[0], root])
+
     def test_differences_are_reported_but_for_paths_that_are_reported_already(self):
         def scan(*entries: Start) -> Scan:
             return Scan(Header('u', 'u', 0o755), list(entries))

@@ -29,6 +29,8 @@ class Lines(unittest.TestCase):
     def test_a_line_that_is_no_json_is_named(self) -> None:
         with self.assertRaisesRegex(TraceError, r'^line 2 is no line of a trace \(Expecting'):
             list(fields_of_lines(['{}', 'x']))
+        with self.assertRaisesRegex(TraceError, r'^line 1 is no line of a trace \(maximum'):
+            list(fields_of_lines(['[' * 200_000]))
 
     def test_operations_are_in_words_and_acknowledged_texts_are_whole(self) -> None:
         read = read_text(TEXT)

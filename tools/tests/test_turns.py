@@ -3,17 +3,19 @@
 from __future__ import annotations
 
 import unittest
+from collections import Counter
 from types import SimpleNamespace
 from typing import Any, List, Set
 
 from crashfs_tools.checker.options import Shard
-from crashfs_tools.checker.report.summary import shown_share
+from crashfs_tools.checker.report.counts import StateCounts
+from crashfs_tools.checker.report.summary import rest_lines, shown_share
 from crashfs_tools.checker.running.progress import MEASURED, Pace, Progress, TooSlow
 from crashfs_tools.checker.running.results import Results
-from crashfs_tools.checker.running.runner import GOOD_OUTCOME
+from crashfs_tools.checker.running.runner import BAD, GOOD, GOOD_OUTCOME, NO_ANSWER, Outcome
 from crashfs_tools.checker.running.trials import Trials, Workplace
 from crashfs_tools.checker.running.turns import family_turns, states_in_turns
-from crashfs_tools.checker.states.plan import Planned
+from crashfs_tools.checker.states.plan import AllStates, Planned
 
 from .support import EXAMPLES, FAKE
 from .test_all_states import Listing
@@ -100,6 +102,17 @@ class Order(Listing):
         self.assertEqual(trials.order, states_in_turns(results, are_all=True))
         self.assertGreater(len(trials.order), 2)
 
+    def test_by_fail_fast_a_failure_that_the_cache_has_ends_it(self) -> None:
+        planned = self.planned(MANY)
+        trials = TriedNowhere(planned, 1e9)
+        trials.options.fail_fast = True
+        cache: Any = SimpleNamespace(outcome=lambda key: Outcome(BAD, 'lost'))
+        trials.workplace.cache = cache
+        vars(trials)['state_keys'] = SimpleNamespace(key=lambda number, attempt: number)
+        results = Results(planned.plan)
+        self.assertFalse(trials.try_all(results))
+        self.assertEqual((len(results.outcomes), trials.order), (1, []))
+
 
 class Paces(unittest.TestCase):
     def test_a_pace_is_too_slow_once(self) -> None:
@@ -159,6 +172,18 @@ class Rest(Listing):
         self.assertEqual(lines[-2], f'  {drawn} of 1,000 drawn at random fail')
         # A quarter of the sets, within five standard deviations.
         self.assertLess(abs(drawn - 250), 5 * (1_000 * 3 / 16) ** 0.5)
+
+    def test_no_share_is_said_if_draws_gave_no_answer(self) -> None:
+        """A draw in 64 gives no answer, and may fail."""
+        command = 'test -e 0 -a -e 1 -a -e 2 -a -e 3 -a -e 4 -a ! -e 5 && sleep 9; exit 0'
+        lines = self.check('--every', '100', '--timeout', '0.5', command=command)
+        self.assertRegex(lines[-2], r'^  1,000 drawn at random: none fails; \d+ gave no answer$')
+
+    def test_draws_without_an_answer_are_counted_with_those_that_fail(self) -> None:
+        drawn = Counter({GOOD: 990, BAD: 7, NO_ANSWER: 3})
+        counts = StateCounts(is_part=True, every=[AllStates(512, False)], drawn=drawn)
+        (first, _) = rest_lines(counts)
+        self.assertEqual(first, '7 of 1,000 drawn at random fail; 3 gave no answer')
 
     def test_shards_have_the_same_states_and_are_merged(self) -> None:
         paths = [self.path(f'{part}.json') for part in (1, 2)]

@@ -36,6 +36,19 @@ TROUBLES: List[Tuple[str, List[str], List[str]]] = [
             '1 linkat(3</d/#7>(deleted), "", AT_FDCWD</d>, "f", AT_EMPTY_PATH) = 0',
         ],
     ),
+    *[
+        (
+            '/f: a file of O_TMPFILE that was synced before it had this name',
+            [],
+            [
+                '1 openat(AT_FDCWD</d>, ".", O_RDWR|O_TMPFILE, 0644) = 3</d/#7>(deleted)',
+                '1 write(3</d/#7>(deleted), "ab", 2) = 2',
+                sync,
+                '1 linkat(3</d/#7>(deleted), "", AT_FDCWD</d>, "f", AT_EMPTY_PATH) = 0',
+            ],
+        )
+        for sync in ('1 sync() = 0', '1 syncfs(3</d/#7>(deleted)) = 0')
+    ],
     (
         '/s: fdatasync of a directory whose mode or owner was changed',
         IN_DIRECTORY,
@@ -93,12 +106,34 @@ TROUBLES: List[Tuple[str, List[str], List[str]]] = [
         FILE,
         ['1 splice(3<pipe:[4]>, NULL, 1<pipe:[7]>, NULL, 4, 0) = 4'],
     ),
+    *[
+        (f'{where}: {line.partition("(")[0]} was cut by the end of its thread', FILE, ['1 ' + line])
+        for where, line in (
+            ('/f', 'rename("f", "b") = ?'),
+            ('/b', 'rename("/etc/a", "b" <unfinished ...>) = ?'),
+            ('/f', 'renameat2(AT_FDCWD</d>, "f", AT_FDCWD</d>, "b", 0) = ?'),
+            ('/s/b', 'mkdirat(5</d/s>, "b", 0755) = ?'),
+            ('/l', 'symlink("f", "l") = ?'),
+            ('/l', 'symlinkat("f", AT_FDCWD</d>, "l") = ?'),
+            ('/f', 'truncate("f", 1) = ?'),
+            ('/f', 'fchownat(5</d/f>, "", 1, 1, AT_EMPTY_PATH) = ?'),
+            ('/f', 'copy_file_range(5</etc/a>, NULL, 6</d/f>, NULL, 9, 0) = ?'),
+        )
+    ],
     ('/f: renamed to from outside the directory', FILE, ['1 rename("/etc/a", "f") = 0']),
     (
         '/f: exchanged with /g',
         TWO_FILES,
         ['1 renameat2(AT_FDCWD</d>, "f", AT_FDCWD</d>, "g", RENAME_EXCHANGE) = 0'],
     ),
+    *[
+        (
+            '/f: renamed to from outside the directory, or from an ignored name',
+            FILE,
+            [f'1 renameat2(AT_FDCWD</d>, "{one}", AT_FDCWD</d>, "{other}", RENAME_EXCHANGE) = 0'],
+        )
+        for one, other in (('f', '/etc/a'), ('/etc/a', 'f'))
+    ],
     (
         '/f: fchmod by a descriptor that was opened by something',
         FILE,
@@ -204,6 +239,19 @@ class Troubles(unittest.TestCase):
                 self.assertEqual(len(told), 1, told)
                 self.assertTrue(str(told[0]).startswith(wanted), str(told[0]))
                 self.assertEqual((recording.trace.version, recording.trace.operations), (3, []))
+
+    def test_what_an_exchange_takes_out_of_the_directory_is_not_followed_any_more(self):
+        open_f = '1 openat(AT_FDCWD</d>, "s/f", O_WRONLY) = 3</d/s/f>'
+        change = '1 pwrite64(3</etc/s/f>, "y", 1, 0) = 1'
+        for words in ('"s", AT_FDCWD</d>, "/etc/s"', '"/etc/s", AT_FDCWD</d>, "s"'):
+            exchange = f'1 renameat2(AT_FDCWD</d>, {words}, RENAME_EXCHANGE) = 0'
+            recording = recording_of([open_f, exchange, change], IN_DIRECTORY)
+            self.assertEqual([one.where for one in recording.troubles], ['/s'])
+            self.assertEqual(recording.trace.operations, [])
+
+    def test_both_names_of_a_cut_rename_may_differ_at_the_end(self):
+        recording = recording_of(['1 rename("f", "b") = ?'], FILE)
+        self.assertEqual(recording.differing, {'/b'})
 
 
 if __name__ == '__main__':

@@ -15,6 +15,7 @@ from crashfs_tools.checker.states.planning import Planner
 from crashfs_tools.checker.states.steps import Session, Steps
 from crashfs_tools.checker.states.windows import Windows
 from crashfs_tools.common import limits
+from crashfs_tools.common.command import Refused
 from crashfs_tools.common.program import ProgramFault
 from crashfs_tools.common.trace_lines import read_text
 from crashfs_tools.reading import ReadingFault, plan_of, read
@@ -98,7 +99,12 @@ class Reader:
 class InWindows(InStore):
     def made(self, text, size, quick=False):
         options = SimpleNamespace(
-            prefixes=False, has_lost=not quick, has_files=not quick, serve=None, has_every=False
+            prefixes=False,
+            has_lost=not quick,
+            has_files=not quick,
+            serve=None,
+            has_every=False,
+            profile=None,
         )
         guard = SimpleNamespace(directory=self.temporary, environment={})
         return Windows(Planner(options, Reader(), guard), Session('w', text), size)
@@ -247,6 +253,20 @@ class Cuts(InWindows):
             self.assertEqual(sorted(os.listdir(self.temporary)), [name, f'{name}.picks'])
             windows += 1
         self.assertEqual(windows, 4)
+
+    def test_a_trace_that_is_written_for_a_question_goes_also_if_it_is_refused(self):
+        windows = self.made(log_of(4), 8)
+        steps, probe = Steps(windows.session), os.path.join(self.temporary, 'probe')
+        refuse = mock.Mock(side_effect=Refused)
+        with mock.patch.multiple(windows.planner, has_few_states=refuse, prefix_plan=refuse):
+            for ask in (
+                lambda: windows.has_few_states(steps, 3),
+                lambda: windows.needs_with_probe(probe, log_of(4)),
+            ):
+                with self.assertRaises(Refused):
+                    ask()
+                self.assert_nothing_left()
+        self.assertEqual(refuse.call_count, 2)
 
     def test_each_window_is_planned_once(self):
         """Also the second: from half a window on the long write after the first has 94 states with

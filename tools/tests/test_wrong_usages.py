@@ -75,6 +75,9 @@ CHECK: List[Tuple[str, int, str]] = [
     ('--json none/r TRACE -- true', 2, 'none/r: its directory is not there'),
     ('--crashfs /none TRACE -- true', 2, '--crashfs /none: no such program'),
     ('--unproved --state 9999 TRACE -- true', 2, 'no such state: 9999 (there are 52)'),
+    ('--unproved --in no TRACE -- true', 2, '--in no: the profiles of this trace are blocks, ord'),
+    ('--unproved --quick --in no TRACE -- true', 2, '--in no: the profiles of this trace are '),
+    ('--unproved --serve h:1 --in no TRACE -- true', 2, '--in no: the profiles of this trace are '),
     ('--unproved --resume TRACE TRACE -- true', 2, f'{TRACE} is no report of crashfs-check'),
     ('--crashfs ./killed TRACE -- true', 2, 'crashfs tar was ended by SIGKILL'),
 ]

@@ -257,6 +257,18 @@ CASES = [
         ['unlink /f', 'creat /f', 'write /f 0 G', 'truncate /f 3'],
     ),
     (
+        'a path to a descriptor of a process that the log has not means none of the caller',
+        TWO_FILES,
+        [
+            OPEN_F,
+            '1 openat(AT_FDCWD</d>, "/proc/99/fd/3", O_RDWR|O_TRUNC) = 4</etc/x>',
+            '1 truncate("/proc/99/fd/3", 3) = 0',
+            '1 openat(AT_FDCWD</d>, "/proc/99/task/99/fd/3", O_WRONLY) = 5</d/g>',
+            '1 write(5</d/g>, "G", 1) = 1',
+        ],
+        ['write /g 0 G'],
+    ),
+    (
         'names',
         IN_DIRECTORY,
         [

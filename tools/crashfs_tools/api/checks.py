@@ -16,7 +16,8 @@ from crashfs_tools.common.guard import Guard
 
 from .reports import PathLike, Report
 
-# Opens a state's directory, and compares it with the acknowledged lines; raises what is wrong.
+# Opens a state's directory, and compares it with the acknowledged lines. It raises what is wrong:
+# the text of an AssertionError is the cause, of another exception its type and text.
 RecoveryOf = Callable[[Path, List[str]], object]
 
 
@@ -39,21 +40,21 @@ def check(
     crashfs: Optional[PathLike] = None,
     unproved: bool = False,
 ) -> Report:
-    """Runs a recovery in the crash states of a trace, and returns what was found.
+    """Runs a recovery in the crash states of a trace, and returns the report.
 
-    recovery is a command, as a list of words, or a function. A command runs in a directory that has
-    the files as the crash left them, with the acknowledged lines on its standard input. A function
-    is called with the directory and these lines, in a fork of this process, and raises what is
-    wrong: the text of an AssertionError is the cause, of another exception its type and text.
+    recovery is a function (RecoveryOf), or a command: a list of words, or a text that is one
+    program. A command runs in a directory that has the files as the crash left them, with the
+    acknowledged lines on its standard input. A function is called in a fork of this process.
 
-    The options are those of crashfs-check. time_limit needs the main thread. Refused is raised for
-    bad input, and if the recovery fails though nothing is lost."""
+    The options are those of crashfs-check. time_limit needs the main thread; once it has passed,
+    the report has what was tried. Refused is raised for bad input, and if the recovery fails though
+    nothing is lost. Any other fault is raised too, and then there is no report."""
     options = Options(os.fspath(trace), every=every, families=families, prefixes=prefixes)
-    options.quick, options.profile = quick, profile
-    options.crashfs, options.unproved = path_of(crashfs), unproved
+    options.quick, options.profile, options.unproved = quick, profile, unproved
     options.jobs, options.nested, options.fail_fast = jobs or processors(), nested, fail_fast
     options.time_limit, options.timeout = time_limit, timeout
-    options.accept, options.cache = path_of(accept), path_of(cache)
+    options.crashfs, options.accept, options.cache = map(path_of, (crashfs, accept, cache))
+    options.json = options.html = '-'  # The report keeps what they need; nothing is written.
     set_recovery(options, recovery)
     with Guard(NAME, may_reap=False) as guard:
         checked = check_trace(options, guard, Progress(io.StringIO()), has_states=True)
@@ -63,13 +64,14 @@ def check(
 
 
 def path_of(path: Optional[PathLike]) -> Optional[str]:
-    """A path as text; None if there is none."""
+    """A path as text; None stays None."""
     return None if path is None else os.fspath(path)
 
 
 def set_recovery(options: Options, recovery: Union[RecoveryOf, Sequence[str]]) -> None:
-    """Writes a command or a function into the options. Refused for a function if other options need
-    a command."""
+    """Writes a recovery into the options: a list of words, or a text that is one program, as
+    COMMAND; a function as one that gets its directory as a Path. Refused for a function with the
+    options nested or cache, which need a command."""
     if isinstance(recovery, Sequence):
         options.command = [recovery] if isinstance(recovery, str) else list(recovery)
         return
@@ -80,7 +82,7 @@ def set_recovery(options: Options, recovery: Union[RecoveryOf, Sequence[str]]) -
 
     @functools.wraps(function)
     def call(directory: str, lines: List[str]) -> object:
-        """The function, with its directory as a Path."""
+        """Calls the function with the directory as a Path; what it raises is passed on."""
         return function(Path(directory), lines)
 
     options.function = call

@@ -10,6 +10,7 @@ from pathlib import Path
 from typing import Dict, Iterator, List, Optional
 
 from crashfs_tools.checker.checked_trace import CheckedTrace
+from crashfs_tools.checker.checking import refuse_unreadable
 from crashfs_tools.checker.options import NAME, Options
 from crashfs_tools.checker.running.results import Results, known_states
 from crashfs_tools.checker.states.layout import lay_out
@@ -26,7 +27,8 @@ from .reports import PathLike
 @dataclass(frozen=True)
 class CrashState:
     """What a crash may leave: its files, and the lines that were acknowledged before it. number is
-    that of crashfs-check; profiles are those that allow the state."""
+    that of crashfs-check with the same options; profiles are the names of those that allow the
+    state."""
 
     number: int
     acknowledged: List[str]
@@ -35,7 +37,9 @@ class CrashState:
 
     @contextmanager
     def laid_out(self) -> Iterator[Path]:
-        """Lays the state out in a new directory, which is removed at the end of the `with`."""
+        """Lays the state out in a new temporary directory, and yields its path. Modes are those of
+        the state, but all belongs to this process's user. The directory is removed at the end of
+        the `with`, whatever was done in it; each use makes a new one."""
         folder = tempfile.mkdtemp(prefix='crashfs-state-')
         try:
             directory = os.path.join(folder, str(self.number))
@@ -45,7 +49,8 @@ class CrashState:
             remove_tree(folder)
 
     def files(self) -> Dict[str, bytes]:
-        """The bytes of each file by its path in the directory; not of symbolic links."""
+        """The bytes of each file, by its path below the directory, without a slash in front.
+        Directories and symbolic links are left out."""
         return {
             path.lstrip('/'): bytes(entry.data)
             for path, entry in self.tree.items()
@@ -64,11 +69,14 @@ def states(
     crashfs: Optional[PathLike] = None,
     unproved: bool = False,
 ) -> Iterator[CrashState]:
-    """Each different crash state of a trace, as crashfs-check tries them by these options. Refused
-    is raised for bad input."""
+    """Yields each different crash state of a trace: those that crashfs-check lists by these
+    options, also if it would try only some of them to save time. Nothing is read, and nothing
+    raised, before the first state is asked for. Then Refused for a trace that can't be read or has
+    a fault."""
     options = Options(os.fspath(trace), every=every, families=families, prefixes=prefixes)
     options.quick, options.profile = quick, profile
     options.crashfs, options.unproved = path_of(crashfs), unproved
+    refuse_unreadable(os.fspath(trace))
     program = Crashfs.program_or_reading(options.crashfs, unproved)
     with Guard(NAME, may_reap=False) as guard:
         checked = CheckedTrace(options, program, guard)
@@ -80,7 +88,8 @@ def states(
 
 
 def states_of(checked: CheckedTrace, planned: Planned, results: Results) -> Iterator[CrashState]:
-    """The different states of a window that are tried by the results, each with its files."""
+    """The states of one window that its results would try, each with its files, ascending: of equal
+    states one, and none that the window before has. ProgramFault if `crashfs` fails."""
     texts = checked.lines.acknowledged
     for request in planned.requests(results.trials.values()):
         trees = checked.program.trees(request.words, checked.guard.environment)

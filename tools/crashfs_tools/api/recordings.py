@@ -37,8 +37,9 @@ WITH_LINES = f'exec "$@" {LINES}>/dev/null'
 
 @dataclass(frozen=True)
 class Recording:
-    """A trace that was recorded. messages is what crashfs-record reported; is_complete says whether
-    the trace has all that can make a state good or bad."""
+    """A trace that was recorded. messages are the lines on standard error: those of crashfs-record,
+    without its name, and those of the session. is_complete is False if the trace lacks something
+    that can make a state good or bad, if the session failed, or if no line was acknowledged."""
 
     trace: Path
     is_complete: bool
@@ -65,10 +66,15 @@ def record(
 ) -> Recording:
     """Runs a session in a directory under strace, and writes what it does as a trace.
 
-    session is a command, as a list of words, or a function of a module, which a new Python calls
-    with the directory and a function that acknowledges a line. The content of the directory before
-    it is the start tree. The options are those of crashfs-record; acknowledged is its --say-fd.
-    Refused is raised if no trace can be written."""
+    session is a list of words, or a text that is one program, whose standard output is
+    acknowledged; or a function of a module or a script. A new Python, which imports that, calls the
+    function with the directory and a function that acknowledges a line; what it prints is not
+    acknowledged. The content of the directory before it is the start tree.
+
+    The options are those of crashfs-record, and acknowledged is its --say-fd. environment is that
+    of the session; None is that of this process. Refused is raised if no trace is written, or a
+    signal stops crashfs-record; the directory stays as the session left it. If the session fails,
+    or the trace lacks something, the recording isn't complete (Recording)."""
     words = [word for glob in ignore for word in ('--ignore', glob)]
     words += ['--mapped'] if mapped else []
     words += ['--stacks'] if stacks else []
@@ -76,16 +82,15 @@ def record(
     words += ['--profile', profile] if profile is not None else []
     words += ['--block', str(block)] if block is not None else []
     words += [word for name in acknowledged for word in ('--say-fd', name)]
-    command = list(session) if isinstance(session, Sequence) else command_of(session)
     words += [] if isinstance(session, Sequence) else ['--say-fd', str(LINES)]
-    return run_recorder(
-        [*words, os.fspath(directory), os.fspath(trace), '--', *command], environment
-    )
+    words += [os.fspath(directory), os.fspath(trace), '--', *command_of(session)]
+    return run_recorder(words, environment)
 
 
 def run_recorder(words: List[str], environment: Optional[Mapping[str, str]]) -> Recording:
-    """Runs crashfs-record by its arguments, of which the one before `--` is the trace; Refused if
-    it writes none."""
+    """Runs crashfs-record by its arguments, of which the one before `--` is the trace, and waits
+    for its end. The session reads nothing, and what it prints on standard output goes nowhere.
+    Refused, with all lines of standard error, if no trace is written, or a signal stopped it."""
     ran = subprocess.run(
         [sys.executable, '-S', '-c', RECORD, *words],
         stdin=subprocess.DEVNULL,
@@ -104,12 +109,18 @@ def run_recorder(words: List[str], environment: Optional[Mapping[str, str]]) -> 
     return Recording(trace, ran.returncode != INCOMPLETE, messages)
 
 
-def command_of(session: SessionOf) -> List[str]:
-    """The command that calls a function in a new Python. Refused if that can't find it by its file
-    and name, as a function inside another one."""
+def command_of(session: Union[SessionOf, Sequence[str]]) -> List[str]:
+    """A session as a command: its words, of which a text is one. For a function, one that calls it
+    in a new Python, with the descriptor LINES for acknowledged lines. Refused for a lambda, a
+    function inside another one, and one of `python -c` or of an interactive Python: a new Python
+    can't find these by file and name."""
+    if isinstance(session, Sequence):
+        return [session] if isinstance(session, str) else list(session)
     path, name = inspect.getsourcefile(session), session.__qualname__
     module = session.__module__
     if path is None or '<' in name:
         raise Refused(f'{name} is no function of a module: a new Python can not call it')
+    if module == '__main__' and not os.path.isfile(path):
+        raise Refused(f'{name} was not read from a file: a new Python can not call it')
     python = [sys.executable, '-c', START, os.path.abspath(path), module, name, *sys.path]
     return ['sh', '-c', WITH_LINES, 'sh', *python]

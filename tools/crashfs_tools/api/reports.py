@@ -20,12 +20,13 @@ PathLike = Union[str, 'os.PathLike[str]']
 class Entry:
     """Failing states with one cause and one pair of lines in the wrong order.
 
-    cause is what the recovery said, and text the sentence with the two lines, the advice and what
-    was tried. states has the numbers of the failing states, count says how many of them differ, and
-    example is the one that lacks the least. lost and kept are the two lines of the trace; None if
-    there is none. syncs has the path to sync after each of these lines. profiles has for each
-    profile how many of the different states it allows. accepted is the known failure that the entry
-    is, if it is one."""
+    cause is what the recovery said of the example. text has the lines below it: which line was lost
+    and which was kept, the advice, and what was tried. states has the numbers of all its states;
+    count is how many of them differ, and example is the number of the one that lacks the least.
+    lost and kept are the two lines of the trace, each None if there is none. syncs has, by the
+    number of a line, the path to sync after it. profiles has for each profile how many of the
+    different states it allows. accepted is the known failure that the entry is; None if it is no
+    known one."""
 
     cause: str
     text: List[str]
@@ -46,8 +47,8 @@ class Entry:
 @dataclass(frozen=True)
 class StateOutcome:
     """What the recovery made of a state: result is `good`, `bad` or `no answer`, cause what it
-    said, output the end of what it printed. acknowledged is how many lines the session had
-    acknowledged, and profiles are those that allow the state."""
+    said, and output the end of what it printed. acknowledged is how many lines the session had
+    acknowledged before the crash, and profiles are the names of those that allow the state."""
 
     number: int
     acknowledged: int
@@ -58,7 +59,8 @@ class StateOutcome:
 
 
 class Report:
-    """What a check found. It is printed as crashfs-check prints it."""
+    """What a check found. It is printed as crashfs-check prints it. Each property computes its
+    value again: keep what you use often."""
 
     def __init__(self, found: CheckReport, mode: int = 0o600) -> None:
         """mode is that of files that are written: who may not read the trace may not read them."""
@@ -68,12 +70,14 @@ class Report:
 
     @property
     def status(self) -> int:
-        """The exit status of crashfs-check: 0 none fails, 1 some fail, 3 not all has an answer."""
+        """The exit status of crashfs-check: 3 if a state has no answer; else 1 if something fails
+        that isn't accepted; else 3 if something was not tried, as after a time limit; else 0."""
         return self._found.status
 
     @property
     def entries(self) -> List[Entry]:
-        """The failures, the largest first; accepted failures are among them."""
+        """The entries, the one with the most different states first: of states that fail, or have
+        no answer. Accepted failures are among them, second crashes (nested) are not."""
         return [self._entry(group) for group in self._found.groups()]
 
     @property
@@ -83,8 +87,8 @@ class Report:
 
     @property
     def states(self) -> List[StateOutcome]:
-        """The outcome of each state that was tried, or is equal to one that was; none if the check
-        was made without has_states."""
+        """The outcome of each state that was tried, or is equal to one that was. Empty if the check
+        didn't keep the outcomes; check() does."""
         return [
             StateOutcome(
                 state.number, state.says, outcome.result, outcome.cause, outcome.output, profiles
@@ -112,37 +116,37 @@ class Report:
         return '\n'.join(self.lines)
 
     def write_json(self, path: PathLike) -> None:
-        """Writes the whole report for other tools, as --json does. An OSError if it can't be
-        written: then the file is as it was."""
+        """Writes the file of --json, for other tools, --merge and --resume. An OSError if it can't
+        be written: then the file is as it was."""
         from crashfs_tools.checker.report.json_report import json_pieces
 
         self._write(path, json_pieces)
 
     def write_junit(self, path: PathLike) -> None:
-        """Writes the report as JUnit XML."""
+        """Writes the report as JUnit XML. It raises what write_json() does."""
         from crashfs_tools.checker.report.junit import junit_lines
 
         self._write(path, junit_lines)
 
     def write_tap(self, path: PathLike) -> None:
-        """Writes the report in the Test Anything Protocol."""
+        """Writes the report in the Test Anything Protocol. It raises what write_json() does."""
         from crashfs_tools.checker.report.tap import tap_lines
 
         self._write(path, tap_lines)
 
     def write_html(self, path: PathLike) -> None:
-        """Writes the report as a page for a browser."""
+        """Writes the report as a page for a browser. It raises what write_json() does."""
         from crashfs_tools.checker.report.page import page
 
         self._write(path, page)
 
     def _write(self, path: PathLike, pieces: Callable[[CheckReport], Iterator[str]]) -> None:
-        """Writes a file from the pieces of its text, for those only who may read the trace; it is
-        durable when this returns. An OSError leaves what was there."""
+        """Replaces a file by these pieces of its text, readable only for those who may read the
+        trace. It is durable when this returns; an OSError leaves what was there."""
         write_whole(os.fspath(path), pieces(self._found), self._mode)
 
     def _entry(self, group: Group) -> Entry:
-        """The entry of a group."""
+        """A group of states as an entry. Its lists are new ones, so a caller may change them."""
         return Entry(
             group.cause,
             self._text.details(group),

@@ -7,7 +7,7 @@ import json
 import re
 from dataclasses import asdict, dataclass, field
 from pathlib import Path
-from typing import Dict, List, Tuple
+from typing import Dict, Iterable, List, Tuple
 
 from crashfs_tools.common.command import Refused, write_whole
 
@@ -45,15 +45,17 @@ class KnownFailure:
 
     @property
     def most_lines(self) -> int:
-        """With at most so many acknowledged lines another session is shorter than the kept one. A
-        whole session counts one line more: what it does after the last one."""
+        """The most acknowledged lines with which another session is still shorter than the kept
+        one; 0 if none can be. A whole session counts as one line longer than it is, for what it
+        does after its last line."""
         return (self.shortest or self.says + 1) - 1
 
 
 @dataclass
 class Book:
-    """All that a campaign knows. identity says which campaign it is, next_seed is the first seed
-    that wasn't tried, and faults has the seeds without a verdict, with why."""
+    """All that a campaign knows. path is the file to save it to. identity says which campaign it
+    is, next_seed is the first seed that wasn't tried, sessions counts those that were, and faults
+    has the seeds without a verdict, with why. entries has the failures by failure_key."""
 
     path: Path
     identity: List[object]
@@ -63,7 +65,8 @@ class Book:
     faults: List[Tuple[int, str]] = field(default_factory=list)
 
     def save(self) -> None:
-        """Writes the book to its file, from which another run continues."""
+        """Replaces the book's file as a whole; another run continues from it. OSError if that
+        fails: the old file stays then."""
         fields = {
             'crashfs-campaign': VERSION,
             'identity': self.identity,
@@ -76,8 +79,10 @@ class Book:
 
 
 def read_book(path: Path, identity: List[object], first_seed: int) -> Book:
-    """The book that an earlier run of the same campaign left, or a new one; Refused if the file is
-    none, or is of another campaign."""
+    """The book that an earlier run left in the file; a new one, which begins with first_seed, if
+    there is no file. It continues after the last seed that was tried, or with first_seed if that is
+    later. Refused if the file is no book of this VERSION, or of a campaign with another identity;
+    OSError if it can't be read."""
     book = Book(path, identity, first_seed)
     if not path.exists():
         return book
@@ -91,7 +96,7 @@ def read_book(path: Path, identity: List[object], first_seed: int) -> Book:
             for words in fields['entries']:
                 key, failure = words.pop('key'), Failure(**words.pop('failure'))
                 book.entries[key] = KnownFailure(failure, **words)
-    except (ValueError, KeyError, TypeError) as error:
+    except (ValueError, KeyError, TypeError, AttributeError) as error:
         raise Refused(f'{path} is no file of crashfs-campaign') from error
     if not is_same:
         raise Refused(f'{path} is of other commands: name another directory')
@@ -99,7 +104,16 @@ def read_book(path: Path, identity: List[object], first_seed: int) -> Book:
 
 
 def failure_key(failure: Failure) -> str:
-    """What is the same of a failure in all sessions: its kind, which its cause has before a colon,
-    and its first sentence, with a sign in the place of what varies. The file has these keys."""
+    """What is the same of a failure in all sessions: its cause up to a colon, and its first
+    sentence if it has one, with `#` in the place of numbers, quoted texts and random names. The
+    file has these keys: after a change of them known failures would be new ones."""
     kind = failure.cause.partition(':')[0]
     return VARYING.sub('#', ': '.join([kind, *failure.text[:1]]))
+
+
+def failures_by_key(failures: Iterable[Failure]) -> Dict[str, Failure]:
+    """The failures of a session by failure_key, in their order: the first one of each key."""
+    found: Dict[str, Failure] = {}
+    for failure in failures:
+        found.setdefault(failure_key(failure), failure)
+    return found

@@ -58,13 +58,15 @@ class CampaignOptions:
     html: Optional[str]
 
     def identity(self) -> List[object]:
-        """What must be the same for a campaign to be continued. campaign.json has it, in this
-        order: a change makes all earlier campaigns other ones."""
+        """What must be the same for a campaign to be continued: not the seeds, the time limit and
+        the page. campaign.json has it, in this order: a change makes all earlier campaigns other
+        ones."""
         return [self.session, self.recovery, self.start, self.record, self.check]
 
 
 def seeds_of(text: str) -> Tuple[int, int]:
-    """The ends of a range of seeds, as `1-100`; ArgumentTypeError if it is none, or empty."""
+    """The first and the last seed of a range, as `1-100`. ArgumentTypeError if the text is no
+    range, or if the first is greater than the last."""
     match = re.fullmatch(r'(\d+)-(\d+)', text)
     if match is None or int(match[1]) > int(match[2]):
         raise argparse.ArgumentTypeError(f'{text} is no range such as 1-100')
@@ -72,7 +74,8 @@ def seeds_of(text: str) -> Tuple[int, int]:
 
 
 def positive_seconds(text: str) -> float:
-    """A number of seconds above 0; ArgumentTypeError for another text."""
+    """A number of seconds above 0, as `1.5` or `inf`, which means no limit; ArgumentTypeError for
+    any other text."""
     try:
         seconds = float(text)
     except ValueError:
@@ -82,8 +85,17 @@ def positive_seconds(text: str) -> float:
     return seconds
 
 
+def words_of(text: str) -> List[str]:
+    """The words of a text, quoted as for a shell; ArgumentTypeError if a quotation has no end."""
+    try:
+        return shlex.split(text)
+    except ValueError as error:
+        raise argparse.ArgumentTypeError(f'{text}: {error}') from error
+
+
 def make_parser() -> argparse.ArgumentParser:
-    """A parser of the command line up to SESSION."""
+    """The parser of the words before the first `--`: the options and RESULTS. It doesn't parse
+    SESSION and RECOVERY."""
     parser = argparse.ArgumentParser(
         prog=NAME,
         usage=f'{NAME} [OPTION].. RESULTS -- SESSION [ARG].. -- RECOVERY [ARG]..',
@@ -108,18 +120,28 @@ def make_parser() -> argparse.ArgumentParser:
     )
     parser.add_argument('--start', metavar='DIR', help='begin each session with a copy of DIR')
     parser.add_argument(
-        '--record', metavar='WORDS', default='', help='options of crashfs-record, in one argument'
+        '--record',
+        metavar='WORDS',
+        type=words_of,
+        default=[],
+        help='options of crashfs-record, in one argument',
     )
     parser.add_argument(
-        '--check', metavar='WORDS', default='', help='options of crashfs-check, in one argument'
+        '--check',
+        metavar='WORDS',
+        type=words_of,
+        default=[],
+        help='options of crashfs-check, in one argument',
     )
     parser.add_argument('--html', metavar='FILE', help='write an index of what was found as a page')
     return parser
 
 
 def read_options(arguments: List[str]) -> CampaignOptions:
-    """The options of a command line. A wrong one ends the program (SystemExit) with its reason;
-    Refused if a file or a program that it names isn't there."""
+    """The options of a command line, with whole paths of the programs and of --start. A wrong word,
+    a missing command, --help and --version end the program (SystemExit). Refused if a program isn't
+    found, or --start names no directory. Without --seeds they are SEEDS, or ALL_SEEDS if there is a
+    time limit."""
     parser = make_parser()
     values, commands = parse_command_line(parser, arguments)
     session, recovery = split_command(commands)
@@ -134,8 +156,8 @@ def read_options(arguments: List[str]) -> CampaignOptions:
         recovery=with_program_path(recovery),
         seeds=values.seeds or (ALL_SEEDS if has_time_limit else SEEDS),
         start=values.start and os.path.abspath(values.start),
-        record=shlex.split(values.record),
-        check=shlex.split(values.check),
+        record=values.record,
+        check=values.check,
         time_limit=values.time_limit,
         html=values.html,
     )

@@ -19,7 +19,8 @@ COLUMNS = 100
 
 
 def verdict_line(book: Book) -> str:
-    """The first line of the report: how many sessions were tried, and what fails."""
+    """The first line of the report: how many sessions were tried, how many different failures they
+    have, and how many of them have no verdict, if there are such."""
     entries = len(book.entries)
     verdict = 'none fails' if not entries else f'{entries} different failures'
     if entries == 1:
@@ -29,7 +30,9 @@ def verdict_line(book: Book) -> str:
 
 
 def length_text(entry: KnownFailure) -> str:
-    """How much of its session the kept trace has, in words, and the seed if it isn't the first."""
+    """How many of its session's acknowledged lines the kept trace has, or `the whole session`, and
+    the session's seed unless it is the one with which the failure came first. kept_seed is 0 in a
+    book that doesn't have it: this is the first seed then."""
     text = f'{count_text(entry.shortest, "acknowledged line")} of {entry.says:,}'
     if not entry.shortest:
         text = 'the whole session'
@@ -38,14 +41,16 @@ def length_text(entry: KnownFailure) -> str:
 
 
 def state_command(options: CampaignOptions, entry: KnownFailure) -> str:
-    """The command that lays out the example of the kept trace."""
+    """The command, quoted for a shell, that lays out the failure's example: a failing state of the
+    kept trace."""
     trace = os.path.join(options.results, entry.trace)
     words = ['crashfs-check', *options.check, '--state', str(entry.failure.example), trace, '--']
     return shlex.join([*words, *options.recovery])
 
 
 def report_lines(options: CampaignOptions, book: Book) -> Iterator[str]:
-    """The report, line by line."""
+    """The lines of the report: the verdict, each failure with its sentences and its command, and
+    the first 20 sessions without a verdict. Control characters are shown as escapes."""
     yield verdict_line(book)
     for entry in book.entries.values():
         yield f'  {printable(entry.failure.cause)}'
@@ -61,7 +66,8 @@ def report_lines(options: CampaignOptions, book: Book) -> Iterator[str]:
 
 
 def folded_line(line: str) -> List[str]:
-    """A line as lines of COLUMNS letters at most, indented below their entry."""
+    """A line as lines of COLUMNS letters at most, indented below their entry: the first by 4
+    letters, the others by 6."""
     return textwrap.wrap(line, COLUMNS, initial_indent='    ', subsequent_indent='      ')
 
 
@@ -79,8 +85,8 @@ PAGE = (
 
 
 def page_text(options: CampaignOptions, book: Book, folder: str) -> str:
-    """A page of all entries, each with a link to its own page: relative to the folder in which this
-    page will be. It has the commands, the seeds, the version and the date."""
+    """A page of all failures and all sessions without a verdict, with the date of now. Each failure
+    has a link to its own page, relative to `folder`, in which this page will be."""
     body = ''.join(page_section(options, entry, folder) for entry in book.entries.values())
     faults = ''.join(f'<li>seed {seed}: {shown_text(text)}</li>' for seed, text in book.faults)
     body += f'<h2>Without a verdict</h2><ul>{faults}</ul>\n' if faults else ''
@@ -90,7 +96,8 @@ def page_text(options: CampaignOptions, book: Book, folder: str) -> str:
 
 
 def about_lines(options: CampaignOptions, book: Book) -> Iterator[str]:
-    """What the page is of: the two commands, the last seed, the version and the date."""
+    """What the page says below its title: the two commands, the last seed that was tried, the
+    version and the date."""
     yield f'SESSION: {shlex.join(options.session)}'
     yield f'RECOVERY: {shlex.join(options.recovery)}'
     date = time.strftime('%Y-%m-%d %H:%M:%S UTC', time.gmtime())
@@ -98,12 +105,14 @@ def about_lines(options: CampaignOptions, book: Book) -> Iterator[str]:
 
 
 def shown_text(text: str) -> str:
-    """Text that the page shows as it is, but for what would control how the rest is shown."""
+    """A text for the page, as HTML that shows it letter by letter: control characters as escapes,
+    and no tag."""
     return html.escape(printable(text))
 
 
 def page_section(options: CampaignOptions, entry: KnownFailure, folder: str) -> str:
-    """The part of the page for a failure, with a link from the folder to its own page."""
+    """The page's part for one failure: its cause, with a link from `folder` to the failure's own
+    page, its sentences, and the command of its state."""
     link = os.path.relpath(os.path.join(options.results, entry.page), folder)
     text = '<br>'.join(shown_text(line) for line in entry.failure.text)
     found = f'In {count_text(entry.sessions, "session")}, first with seed {entry.seed}'

@@ -36,24 +36,29 @@ class Failure:
 
 @dataclass
 class Checked:
-    """What came of a session: its failures, and why it has no whole verdict, if it has none."""
+    """What came of a session: its failures, and why it has no whole verdict; an empty text if it
+    has one."""
 
     failures: List[Failure] = field(default_factory=list)
     fault: str = ''
 
 
 class Sessions:
-    """Makes traces in a folder, and checks them."""
+    """Makes traces in a folder, and checks them. The folder must exist when a session is recorded.
+    trace is the file of the last recorded session, which the next one replaces."""
 
     def __init__(self, options: CampaignOptions, folder: Path) -> None:
+        """Nothing is made yet, and the folder needn't exist. child is the last command that was
+        started; None before the first."""
         self.options = options
         self.folder = folder
         self.trace = folder / 'session.trace'
         self.child: Optional[subprocess.Popen[str]] = None
 
     def record(self, seed: int) -> str:
-        """Records the session with a seed. Returns why it could not be recorded; an empty text if
-        it was."""
+        """Records SESSION with a seed, in a new store: empty, or a copy of --start. Returns why
+        there is no trace that can be checked; an empty text if there is one. A trace that can't say
+        all that happened counts as none. OSError if --start can't be copied."""
         store = self.folder / 'store'
         shutil.rmtree(store, ignore_errors=True)
         if self.options.start is None:
@@ -65,8 +70,9 @@ class Sessions:
         return '' if status in RECORDED else fault_of('crashfs-record', status, error_text)
 
     def check(self, trace: Path, page: Optional[Path] = None) -> Checked:
-        """Runs the recovery in the states of a trace. The report is written as a page if one is
-        named."""
+        """Checks a trace with RECOVERY. Returns the failures in its report, and a fault if there is
+        no whole verdict; the report of a check that ended early has what was found until then.
+        Writes the report as a page too, if one is named. OSError as from failures_in."""
         report = self.folder / 'report.json'
         if report.exists():
             report.unlink()
@@ -81,8 +87,9 @@ class Sessions:
     def run_tool(
         self, tool: str, words: Sequence[str], variables: Dict[str, str]
     ) -> Tuple[int, str]:
-        """Runs one of the two commands; returns its status and what it printed on standard error.
-        If this process is stopped, so is the command."""
+        """Runs one of the two commands, with these variables in its environment too, and returns
+        its status and what it printed on standard error; the rest that it prints is dropped. If an
+        exception comes meanwhile, as by a stop, the command is terminated and waited for."""
         self.child = subprocess.Popen(
             [sys.executable, str(TOOLS / tool), *words],
             env={**os.environ, **variables},
@@ -102,8 +109,8 @@ class Sessions:
 
 
 def failures_in(report: Path) -> List[Failure]:
-    """The entries of a report of crashfs-check; an OSError if the report is of a version that isn't
-    known here."""
+    """The entries of a report of crashfs-check. OSError if the report is of a version that isn't
+    known here; ValueError if it is no JSON."""
     fields = json.loads(report.read_text('utf-8', 'surrogateescape'))
     if fields.get('crashfs-check') not in REPORTS:
         raise OSError(f'{report} is a report of another version')
@@ -114,5 +121,6 @@ def failures_in(report: Path) -> List[Failure]:
 
 
 def fault_of(tool: str, status: int, error_text: str) -> str:
-    """Why a command gave no result: its status and the last line that it printed."""
+    """Why a command gave no result: its name, its status, and the last line of its standard
+    error."""
     return f'{tool}: status {status}: {last_line(error_text) or "it printed nothing"}'

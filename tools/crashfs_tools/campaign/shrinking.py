@@ -11,7 +11,8 @@ from .sessions import Failure, Sessions
 
 
 def says_in(lines: List[str]) -> List[int]:
-    """The places, from 0, of the acknowledged lines among a trace's lines."""
+    """The places, from 0, of the acknowledged lines among the lines of a trace. Only lines that
+    contain `"say"` are parsed: ValueError if one of these is no JSON."""
     return [
         place for place, line in enumerate(lines) if '"say"' in line and is_say(json.loads(line))
     ]
@@ -23,20 +24,23 @@ def is_say(fields: object) -> bool:
 
 
 class Shrinking:
-    """Searches how much of the session that was recorded last is enough for the failure of a
-    key."""
+    """Searches how much of a session is enough for the failure of a key. Its parts are counted by
+    acknowledged lines: says has the places of these among the trace's lines."""
 
     def __init__(self, sessions: Sessions, key: str) -> None:
+        """Reads the session that was recorded last: what is recorded later changes nothing."""
         self.sessions = sessions
         self.key = key
         text = sessions.trace.read_text('utf-8', 'surrogateescape')
-        self.lines = text.splitlines(keepends=True)
+        # Texts of a trace may have other characters that end a line for Python, such as U+2028.
+        self.lines = [line + '\n' for line in text.split('\n') if line]
         self.says = says_in(self.lines)
         self.cut = sessions.folder / 'cut.trace'
 
     def failure_of(self, count: int) -> Optional[Failure]:
-        """The failure with the key in the session up to so many acknowledged lines (0: the whole
-        session); None if it doesn't come. The file `cut` has that session then."""
+        """Checks the session up to so many acknowledged lines (0: all of it), and returns the
+        failure with the key; None if it doesn't come there, or the check gave no answer. In either
+        case the file `cut` has that part of the session afterwards."""
         last = self.says[count - 1] if count else len(self.lines) - 1
         text = ''.join(self.lines[: last + 1])
         self.cut.write_text(text, 'utf-8', 'surrogateescape')
@@ -44,9 +48,10 @@ class Shrinking:
         return next((failure for failure in found if failure_key(failure) == self.key), None)
 
     def shortest_length(self, most: Optional[int] = None) -> int:
-        """The fewest acknowledged lines with which it still fails, by a binary search: what a
-        session may leave, a longer one may leave too. 0 if it doesn't fail with at most so many, or
-        fails only with what the session does after its last line."""
+        """The fewest acknowledged lines, `most` at most if it is given, with which the failure
+        still comes. The search is binary, since what a session may leave, a longer one may leave
+        too. 0 if the failure doesn't come with so many lines: it needs more of them, or what the
+        session does after its last line."""
         low, high = 0, len(self.says) if most is None else min(most, len(self.says))
         if not high or self.failure_of(high) is None:
             return 0
@@ -59,8 +64,9 @@ class Shrinking:
         return high
 
     def keep(self, count: int, trace: Path, page: Path) -> Optional[Failure]:
-        """Writes the session up to so many acknowledged lines, and the page of its report. Returns
-        the failure as it is there; None if it doesn't come any more."""
+        """Writes the session up to so many acknowledged lines (0: all of it) to the file `trace`,
+        and the report on it to `page`. Returns the failure as it is in that report; None if it
+        doesn't come any more: the files are written even so."""
         failure = self.failure_of(count)
         trace.write_bytes(self.cut.read_bytes())
         self.sessions.check(trace, page)

@@ -14,8 +14,8 @@ class Address(NamedTuple):
     port: int
 
     def numeric(self) -> str:
-        """The host's IP address, the only form that the kernel takes: an IPv4 address if the host
-        has one. Refused if it has none."""
+        """The host's IP address, the only form that the kernel takes: an IPv4 one if the host has
+        one, else an IPv6 one. Refused if the system can't resolve the host."""
         import socket
 
         try:
@@ -27,5 +27,5 @@ class Address(NamedTuple):
         return str(best[4][0])
 
     def __str__(self) -> str:
-        """The address as it is printed."""
+        """`HOST:PORT`, as it is printed: without brackets, also for an IPv6 host."""
         return f'{self.host}:{self.port}'

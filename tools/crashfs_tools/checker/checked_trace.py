@@ -26,7 +26,9 @@ if TYPE_CHECKING:
 
 
 class CheckedTrace:
-    """A trace that is checked by one program. windows is None for a trace that is tried whole."""
+    """A trace that is checked by one program. mode is that of files which show parts of the trace.
+    windows is None until all_planned() finds that the trace needs windows; for a trace that is
+    tried whole it stays None."""
 
     def __init__(
         self,
@@ -35,8 +37,9 @@ class CheckedTrace:
         guard: Guard,
         progress: Optional[Progress] = None,
     ) -> None:
-        """Reads the whole file; OSError if it can't be read. If the program takes no traces of this
-        version, the second reading takes its place."""
+        """Reads the whole file, which the options must name; OSError if it can't be read. Its lines
+        aren't checked yet. If the program takes no traces of this version, the second reading takes
+        its place. Without `progress` a new one is shown on standard error."""
         assert options.trace is not None
         self.options, self.guard = options, guard
         self.progress = progress or Progress()
@@ -61,8 +64,10 @@ class CheckedTrace:
         return path
 
     def all_planned(self) -> Iterator[Planned]:
-        """The plan of the trace, or of each of its windows: then `windows` is set, and a window's
-        files are there until the next one is asked for. Refused for a trace with a fault."""
+        """Yields the plan of the trace. If --window is given, or the trace is too long for one
+        plan, `windows` is set, and the plan of each window is yielded instead: its files are
+        removed when the next one is asked for. Refused for a trace with a fault, and for one that
+        is too long if --serve or --disks is given. Each call plans again."""
         if self.options.window is None:
             try:
                 yield self.planner.plan(self.path)
@@ -79,23 +84,27 @@ class CheckedTrace:
 
     @cached_property
     def lines(self) -> TraceText:
-        """The trace's operations in words, and its acknowledged texts. Ask only after the program
-        has accepted the trace: a line with a fault is a TraceError or a KeyError here."""
+        """The trace's operations in words, and its acknowledged texts; read once. Ask only after
+        the program has accepted the trace: a fault in a line is a TraceError, KeyError or TypeError
+        here."""
         return read_text(self.text)
 
     @cached_property
     def says(self) -> AcknowledgedLines:
-        """The acknowledged lines, for COMMAND's standard input."""
+        """The acknowledged lines, as a file for COMMAND's standard input. Ask only after the
+        program has accepted the trace, as for `lines`."""
         return AcknowledgedLines(self.lines.acknowledged, self.guard.directory)
 
     @cached_property
     def workplace(self) -> Workplace:
-        """What all trials of this trace's plans share."""
+        """What the trials of all windows share. It is made once, so that a cache which is opened
+        later is there for all of them."""
         return Workplace(self.options, self.program, self.guard, self.says, self.progress)
 
     def trials_of(self, number: int) -> Trials:
-        """The trials of the window that has the state of a number; Refused if none has it, or the
-        trace has a fault. It plans window after window up to that one."""
+        """The trials of the window that lists the state of a number, also if a check wouldn't try
+        that state. Plans window after window up to that one. Refused if no window lists the state,
+        or the trace has a fault."""
         count = 0
         for planned in self.all_planned():
             if planned.plan.has_state(number):
@@ -104,7 +113,8 @@ class CheckedTrace:
         raise Refused(f'no such state: {number} (there are {count:,})')
 
     def head(self) -> Head:
-        """A new head of the report: what is checked, without the lines, which are known later."""
+        """A new head of the report: what is checked. Its `lines` are empty, since they can only be
+        read after the program has accepted the trace."""
         return Head(
             os.path.basename(self.options.trace or ''),
             self.digest(),
@@ -115,7 +125,8 @@ class CheckedTrace:
         )
 
     def digest(self) -> str:
-        """The trace's SHA-256, if a file of results has it or will have it; else an empty text."""
+        """The trace's SHA-256 if --json, --resume or --merge is given, which need it; else an empty
+        text."""
         if not (self.options.json or self.options.resume or self.options.merge):
             return ''
         import hashlib
@@ -123,8 +134,9 @@ class CheckedTrace:
         return hashlib.sha256(self.text.encode('utf-8', 'surrogateescape')).hexdigest()
 
     def plan_of_end(self) -> Optional[Planned]:
-        """The plan of a trace that has only the tree at the session's end. None if the session
-        isn't in windows: then its own plan has that tree. Ask after the last window."""
+        """The plan of a trace that has only the tree at the end of a session in windows. None if
+        the session is tried whole: its own plan has that tree. Ask only after all_planned() has
+        yielded a plan."""
         if self.windows is None:
             return None
         path = self.windows.write_end()

@@ -37,11 +37,12 @@ ANOTHER = '--resume: that is a report of another check'
 
 
 class Interrupted(Exception):
-    """A fault, its cause, that came when states were tried already: the report has these."""
+    """An exception, its cause, ended a check after states were tried: the report has these."""
 
 
 class CheckResult(NamedTuple):
-    """The report, the mode of a file of it, and what ended the check early, if anything did."""
+    """The report, the mode of a file of it, and the exception to raise after it is printed: a
+    Stopped, an Interrupted, or None if neither ended the check."""
 
     report: CheckReport
     mode: int
@@ -57,10 +58,12 @@ class Window(NamedTuple):
 
 class Check:
     """A check of one trace. run() goes through its windows; `last` is the one that it is at, None
-    before the first, and is_over says whether the last one was tried whole. has_states says whether
-    the report has the outcome of each state."""
+    before the first, and is_over says whether all states of the session's last one were tried.
+    has_states says whether the report has the outcome of each state."""
 
     def __init__(self, trace: CheckedTrace, has_states: bool = False) -> None:
+        """Reads the files of --accept and --resume, if they are given. Refused if one can't be
+        read, or isn't such a file of this check."""
         self.trace = trace
         self.options = trace.options
         self.head = trace.head()
@@ -73,8 +76,9 @@ class Check:
         self.end_cause = ''
 
     def read_earlier(self) -> Optional[AllResults]:
-        """The results of --resume; None if there are none yet. Refused if they are of another
-        check."""
+        """The results in the file of --resume; None without that option, or if there is no such
+        file yet. Refused if the file has no results, or those of another trace, COMMAND or
+        shard."""
         path = self.options.resume
         if path is None or not os.path.exists(path):
             return None
@@ -84,9 +88,10 @@ class Check:
         return earlier
 
     def run(self) -> CheckResult:
-        """Checks window after window, and returns the report, also if the check ends early: then
-        `end` of the result is a Stopped, or an Interrupted whose cause is the fault. A fault that
-        comes before the first state was tried is raised."""
+        """Checks window after window, and returns the report, also if the check ends early. `end`
+        of the result is then None for --fail-fast and the time limit, a Stopped for a signal, and
+        an Interrupted, whose cause is the fault, for any other exception. A fault is raised itself
+        if it comes before the states of the first window are tried."""
         end: Optional[Exception] = None
         try:
             with time_limit(self.options.time_limit):
@@ -100,35 +105,40 @@ class Check:
             # Whatever it is: what was tried is not lost by it.
             if self.last is None:
                 raise
-            end = Interrupted()
-            end.__cause__ = fault
+            end = interrupted_by(fault)
             self.note_end(FAULT)
         try:
             self.complete_report()
         except Stopped as stopped:
             end = stopped
+        except Exception as fault:
+            end = end or interrupted_by(fault)
         return CheckResult(self.report, self.trace.mode, end)
 
     def note_end(self, cause: str) -> None:
-        """Notes what ended the check, unless something did before. The report says so if not all
-        states were tried."""
+        """Notes what ended the check; of several causes the first one stays. The report names it
+        only if not all states were tried."""
         self.end_cause = self.end_cause or cause
         if not self.is_over:
             self.head.stopped = self.head.stopped or cause
 
     def complete_report(self) -> None:
         """Adds to the report what is only known at the end: what was left out and why, second runs
-        after the time limit, and what the cache had. Stopped if a signal comes meanwhile."""
+        after the time limit, and hits of the cache, which is saved. An exception of the second runs
+        is raised after the rest is added, any other one ends it."""
         self.head.has_rest = self.last is not None and not self.last.trials.planned.is_last
         if self.trace.windows is not None:
             self.head.cut_off = [(one.line, one.tried) for one in self.trace.windows.cut_off]
-        if self.head.stopped == TIME_LIMIT and self.last is not None:
-            self.rerun_examples(self.last, RERUN_SECONDS)
         self.report.not_done = list(self.options_not_done())
-        self.save_cache()
+        try:
+            if self.head.stopped == TIME_LIMIT and self.last is not None:
+                self.rerun_examples(self.last, RERUN_SECONDS)
+        finally:
+            self.save_cache()
 
     def options_not_done(self) -> Iterator[str]:
-        """What was asked for besides the states and not done, each with the reason."""
+        """A line for each of --nested and --disks that was given and not done to the end, with the
+        reason: the check ended early or, for --disks, only a part of the states is tried."""
         why = f'stopped by {self.end_cause}' if self.end_cause else 'only a part of the states is'
         if self.options.nested and self.end_cause and self.nested.left:
             yield f'--nested: {self.nested.left:,} of {self.options.nested:,} not tried ({why})'
@@ -136,8 +146,10 @@ class Check:
             yield f'--disks: not tried ({why})'
 
     def check_windows(self) -> None:
-        """Checks window after window. It ends before the last one at a window that has a failure,
-        with --fail-fast: only this leaves a window in part without an exception."""
+        """Checks window after window: tries its states, finds smallest losses, runs examples again,
+        and adds details. --fail-fast ends it after a window with a failure, before the details,
+        unless all states of the last window were tried; and after a second crash with a failure.
+        Any other early end is an exception."""
         for planned in self.trace.all_planned():
             trials = Trials(self.trace.workplace, planned, keeps_trees=True)
             is_whole = self.try_window(trials)
@@ -150,11 +162,15 @@ class Check:
                 self.note_end(FIRST_FAILURE)
                 return
             self.add_details(trials, window.findings)
+            if self.end_cause:
+                return
 
     def try_window(self, trials: Trials) -> bool:
-        """Tries the states of a window; returns whether all were tried. Also if an exception comes,
-        the window becomes the last one, and what was found is in the report. Of the first window
-        the start and the end are tried first: Refused if COMMAND fails there."""
+        """Tries the states of a window, and returns whether each that was chosen has an outcome.
+        After an exception meanwhile, `last` and the report have what was found. Before that,
+        without the window in the report, it is Refused if --resume has another window here or, at
+        the first one, if --cache can't be used or COMMAND fails in the start tree or the end
+        tree."""
         before, planned = self.last, trials.planned
         known = known_states(before.trials.plan, planned.plan) if before else {}
         results = Results(planned.plan, known=known)
@@ -174,7 +190,9 @@ class Check:
 
     def open_cache(self, path: str, trials: Trials) -> None:
         """Opens the outcomes of earlier checks in the directory of --cache, and gives them to all
-        trials. Refused if the directory can't be used, or COMMAND can't be traced."""
+        trials. If it isn't known which files COMMAND opens, or one has changed, COMMAND is run
+        under strace in the first and the last prefix. Refused if the directory can't be used, or
+        COMMAND can't be traced."""
         from crashfs_tools.checker.running.cache import OutcomeCache, open_folder
         from crashfs_tools.checker.running.command_files import command_name
 
@@ -185,9 +203,9 @@ class Check:
         trials.workplace.cache = OutcomeCache(folder, name)
 
     def save_cache(self) -> None:
-        """Writes the outcomes for later checks, if --cache is given, and counts in the report those
-        that were taken from it. If the write fails, a line says so: later checks are only
-        slower."""
+        """Writes the outcomes for later checks, and counts in the report those that came from
+        earlier ones. Does nothing without --cache, or if no window was tried. If the write fails, a
+        line is printed: later checks are only slower."""
         cache = self.trace.workplace.cache if self.last is not None else None
         if cache is not None:
             self.report.cached = cache.hits
@@ -197,8 +215,9 @@ class Check:
                 print_line(NAME, f'--cache {error.filename}: {error.strerror}')
 
     def take_earlier(self, earlier: AllResults, results: Results) -> None:
-        """Adds to the results of a window the outcomes that earlier results have of it; Refused if
-        it is another one there."""
+        """Adds to the results of a new window the outcomes that --resume has of it; none if the
+        earlier check ended before it. Refused if the window there has other micro-operations,
+        states or needs: that was another check."""
         place = self.report.counts.windows
         if place < len(earlier.windows):
             if earlier.windows[place].identity() != results.identity():
@@ -206,8 +225,9 @@ class Check:
             results.take_earlier(earlier.windows[place])
 
     def saver_of(self, results: Results) -> Callable[[], None]:
-        """What is called after each state of a window: from time to time it writes the file of
-        --json, if there is one, so that a kill loses only what came later."""
+        """The function to call after each state of a window. Every SAVE_SECONDS it writes what is
+        known to the file of --json, so that a kill loses only what came later; an OSError is
+        ignored. It does nothing without a file, or if that is standard output."""
         path = self.options.json or '-'
         if path == '-':
             return do_nothing
@@ -220,17 +240,19 @@ class Check:
         return Saver(save, SAVE_SECONDS).save_if_due
 
     def ends_at_failure(self, window: Window) -> bool:
-        """Whether a window that was tried whole is the last one because a state of it fails."""
+        """Whether --fail-fast ends the check after this window, because a state of it fails. False
+        if all states of the last window were tried: then nothing is left to try."""
         return self.options.fail_fast and bool(window.findings.groups) and not self.is_over
 
     @property
     def is_part(self) -> bool:
-        """Whether the states are those of a shard, or of a server: too few to look closer."""
+        """Whether only the states of a shard or of a server are tried: too few to find losses and
+        advice from them."""
         return self.head.shard.parts > 1 or self.options.serve is not None
 
     def find_losses(self, trials: Trials, findings: Findings) -> None:
-        """Finds the smallest losses for states whose pair is a guess, and makes the groups again
-        with them."""
+        """Finds the smallest losses for states whose pair is a guess, and makes the groups of the
+        report again with them. Does nothing for a part of the states."""
         if self.is_part or not any(one.pair.is_guess for one in findings.groups):
             return
         from crashfs_tools.checker.findings.losses import find_losses
@@ -239,8 +261,8 @@ class Check:
         self.report.replace_last(findings)
 
     def rerun_examples(self, window: Window, seconds: float = float('inf')) -> None:
-        """Runs the example of each of the largest groups of a window again, one at a time. After so
-        many seconds no further one is begun."""
+        """Runs the example of each of the largest groups of a window again, one at a time, and adds
+        the outcomes to the report. After so many seconds none is begun."""
         if window.findings.groups:
             from crashfs_tools.checker.findings.reruns import rerun_examples
 
@@ -248,8 +270,9 @@ class Check:
             self.report.replace_last(window.findings)
 
     def add_details(self, trials: Trials, findings: Findings) -> None:
-        """Adds to the report what takes further runs: differences and advice, second crashes,
-        disks. Of a part of the states nothing is added."""
+        """Adds to the report what is done after the states of a window: how files differ, advice
+        that is tried, second crashes, and disks. Does nothing for a part of the states. What was
+        added before an exception stays."""
         if self.is_part:
             return
         if findings.groups:
@@ -258,31 +281,49 @@ class Check:
             add_details(trials, self.trace.planner.for_copies(trials.plan), findings)
             self.report.replace_last(findings)
         if self.options.nested:
-            self.report.recoveries += self.nested.run(trials, findings)
-        if self.options.disks is not None:
+            self.add_recoveries(trials, findings)
+        if self.options.disks is not None and not self.end_cause:
             from crashfs_tools.checker.findings.disk_search import sightings_of
 
             self.report.sightings = sightings_of(trials, findings.by_state)
 
+    def add_recoveries(self, trials: Trials, findings: Findings) -> None:
+        """Adds to the report what second crashes of a window leave. With --fail-fast the first
+        recovery in which one fails is the last, and ends the check."""
+        for recovery in self.nested.run(trials, findings):
+            self.report.recoveries.append(recovery)
+            if self.options.fail_fast and recovery.failing:
+                self.note_end(FIRST_FAILURE)
+                return
+
     @cached_property
     def nested(self) -> Nested:
-        """What tries recoveries: one for all windows, since it counts those that it has tried."""
+        """The object that tries recoveries: one for all windows, since it counts how many are left
+        to try."""
         from crashfs_tools.checker.findings.nested import Nested
 
         return Nested(self.options.nested)
 
 
+def interrupted_by(fault: Exception) -> Interrupted:
+    """An Interrupted whose cause is a fault."""
+    interrupted = Interrupted()
+    interrupted.__cause__ = fault
+    return interrupted
+
+
 def new_report(head: Head, options: Options) -> CheckReport:
-    """A report without findings, with the failures of --accept. Refused if they can't be read."""
+    """A report without findings, with the failures of --accept if it is given. Refused if that file
+    can't be read, or isn't a file of accepted failures."""
     accepted = AcceptedFailures.read(options.accept) if options.accept else None
     return CheckReport(head, options.json is not None, options.html is not None, accepted)
 
 
 @contextmanager
 def open_trace(options: Options, guard: Guard, progress: Progress) -> Iterator[CheckedTrace]:
-    """The trace of some options, in which COMMAND's program gets its whole path (of a function, its
-    name). Refused if the trace, the program or COMMAND isn't there. Within this, a ProgramFault
-    becomes Refused."""
+    """The trace that some options name. In these options COMMAND's program becomes its whole path,
+    or COMMAND the name of the function. Refused if the trace, the program, COMMAND or a file system
+    of --disks can't be used. Within this, a ProgramFault becomes Refused."""
     refuse_unreadable(options.trace or '')
     if options.disks is not None:
         from crashfs_tools.disks.filesystems import require_filesystems
@@ -301,7 +342,8 @@ def open_trace(options: Options, guard: Guard, progress: Progress) -> Iterator[C
 
 
 def refuse_unreadable(trace: str) -> None:
-    """Refuses a trace that can't be read, or is a device; a pipe isn't opened, it is read once."""
+    """Refused unless the path of a trace leads to a file that can be read, or to a pipe. A pipe
+    isn't opened, because it can be read only once."""
     try:
         mode = os.stat(trace).st_mode
         if stat.S_ISREG(mode):
@@ -316,8 +358,8 @@ def refuse_unreadable(trace: str) -> None:
 def check_trace(
     options: Options, guard: Guard, progress: Progress, has_states: bool = False
 ) -> CheckResult:
-    """Checks the trace of some options, and returns the result of Check.run, or raises what it
-    raises. has_states: the report keeps the outcome of each state. COMMAND in the options gets its
-    whole path."""
+    """Checks the trace that some options name, and returns or raises what Check.run() does; Refused
+    as open_trace() is. With has_states the report keeps the outcome of each state. COMMAND in the
+    options gets its whole path."""
     with open_trace(options, guard, progress) as trace:
         return Check(trace, has_states).run()

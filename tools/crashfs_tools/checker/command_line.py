@@ -43,8 +43,8 @@ def shard(text: str) -> Shard:
 
 
 def address(text: str) -> Address:
-    """The address of `HOST:PORT`; an IPv6 host is in brackets. ArgumentTypeError for any other
-    text."""
+    """The address of `HOST:PORT`, with a port from 1 to 65,535; an IPv6 host may be in brackets.
+    ArgumentTypeError for any other text."""
     host, colon, port = text.rpartition(':')
     if not (host and colon and port.isdecimal() and 1 <= int(port) <= 65_535):
         raise argparse.ArgumentTypeError(f'{text} is not HOST:PORT')
@@ -67,8 +67,8 @@ def job_count(text: str) -> int:
 
 
 def state(text: str) -> Tuple[int, Optional[int]]:
-    """The number of a state, and None, of `N`; of `N/M` also the number of a state of its recovery.
-    ArgumentTypeError for any other text."""
+    """N and None for the text `N`, which names a state; N and M for `N/M`, which names state M of
+    the recovery of state N. ArgumentTypeError for any other text."""
     first, slash, second = text.partition('/')
     if not (first.isdecimal() and (second.isdecimal() if slash else True)):
         raise argparse.ArgumentTypeError(f'{text} is neither N nor N/M')
@@ -81,7 +81,7 @@ def names(text: str) -> List[str]:
 
 
 def seconds(text: str) -> float:
-    """A duration in seconds, finite and above 0. ArgumentTypeError for any other text."""
+    """A duration in seconds, above 0 and below a billion. ArgumentTypeError for any other text."""
     try:
         value = float(text)
     except ValueError:
@@ -92,7 +92,8 @@ def seconds(text: str) -> float:
 
 
 def add_state_options(parser: argparse.ArgumentParser) -> None:
-    """Adds the options that say which states are tried."""
+    """Adds the options that say which states of the trace are tried; --window is for tests, and not
+    shown."""
     parser.add_argument(
         '--every',
         metavar='N',
@@ -134,7 +135,8 @@ def add_state_options(parser: argparse.ArgumentParser) -> None:
 
 
 def add_course_options(parser: argparse.ArgumentParser) -> None:
-    """Adds the options that say how a check goes on from the states, and when it stops."""
+    """Adds the options for second crashes, for a single state, and for when a check stops and where
+    it continues."""
     parser.add_argument(
         '--nested',
         metavar='N',
@@ -166,8 +168,8 @@ def add_course_options(parser: argparse.ArgumentParser) -> None:
 
 
 def add_known_options(parser: argparse.ArgumentParser) -> None:
-    """Adds the options that name files of what is known before the check: failures that are
-    accepted, and the outcomes of earlier checks."""
+    """Adds the options that name what is known before the check: failures that are accepted, and
+    the outcomes of earlier checks."""
     parser.add_argument(
         '--accept',
         metavar='FILE',
@@ -196,7 +198,7 @@ def add_output_options(parser: argparse.ArgumentParser) -> None:
 
 
 def add_program_options(parser: argparse.ArgumentParser) -> None:
-    """Adds the options that say what is run: COMMAND's time, and the program that computes the
+    """Adds the options that say how long COMMAND may take, and which program computes the
     states."""
     parser.add_argument(
         '--timeout',
@@ -219,7 +221,8 @@ def add_program_options(parser: argparse.ArgumentParser) -> None:
 
 
 def add_other_ways(parser: argparse.ArgumentParser) -> None:
-    """Adds the options by which states come from elsewhere: a server, disks, other reports."""
+    """Adds the options by which states come from a server, from disks, or from the reports of
+    earlier checks."""
     parser.add_argument(
         '--serve',
         metavar='ADDR',
@@ -250,7 +253,8 @@ def add_other_ways(parser: argparse.ArgumentParser) -> None:
 
 
 def make_parser() -> argparse.ArgumentParser:
-    """The parser of all options, whose names are those of the fields of Options."""
+    """The parser of TRACE and all options, without COMMAND. The names of its values are names of
+    fields of Options."""
     parser = argparse.ArgumentParser(
         prog=NAME,
         description=DESCRIPTION,
@@ -286,7 +290,8 @@ def make_parser() -> argparse.ArgumentParser:
 
 
 def with_number(words: List[str]) -> List[str]:
-    """The arguments, in which each --every without a number is given MOST_STATES."""
+    """A copy of the arguments, in which each --every that no number follows is given MOST_STATES.
+    What follows `--` stays as it is."""
     end = words.index('--') if '--' in words else len(words)
     given = list(words)
     for at in range(end):
@@ -296,8 +301,8 @@ def with_number(words: List[str]) -> List[str]:
 
 
 def read_options(arguments: List[str]) -> Options:
-    """The options of a command line. Prints what is wrong, the help or the version and ends the
-    program (SystemExit) if one of these is due."""
+    """The options of a command line. The program ends (SystemExit) after a fault, the help or the
+    version is printed."""
     parser = make_parser()
     values, command = parse_command_line(parser, with_number(arguments))
     for text, is_so in possible_faults(values, command).items():
@@ -307,8 +312,8 @@ def read_options(arguments: List[str]) -> Options:
 
 
 def possible_faults(values: argparse.Namespace, command: List[str]) -> Dict[str, bool]:
-    """What may be wrong with options that are right one by one, as a line each, and whether it is.
-    The first that is so is reported."""
+    """The lines that report a missing TRACE or COMMAND, or options that don't go together, each
+    with whether that is so here. read_options() reports the first one that is."""
     is_merge, is_serve = values.merge is not None, values.serve is not None
     is_shard = values.shard.parts > 1
     has_own_states = values.families or values.prefixes or values.quick or is_serve

@@ -34,9 +34,9 @@ BAD_INPUT = 2
 
 
 def run_command(options: Options) -> int:
-    """Does what the options ask for; returns the exit status. What ended a check early (Stopped or
-    Interrupted) is raised after the report is printed. Refused for bad input, and an OSError if a
-    file can't be read or written."""
+    """Does what the options ask for; returns the exit status. Refused for bad input, and an OSError
+    if a file can't be read or written. What ended a check early, a Stopped or an Interrupted, is
+    raised after the report is written and printed."""
     refuse_outputs(options)
     if options.merge is not None:
         return write_and_print(options, merge_reports(options))
@@ -54,8 +54,8 @@ def run_command(options: Options) -> int:
 
 
 def merge_reports(options: Options) -> Report:
-    """The report of the files of --merge. Refused if they aren't all shards of one check, or not of
-    TRACE."""
+    """The report of the files of --merge, whose mode is that of the strictest of them. Refused as
+    merged_report(), or if TRACE is given and can't be read."""
     from .merging import merged_report
 
     if options.trace is not None:
@@ -64,7 +64,8 @@ def merge_reports(options: Options) -> Report:
 
 
 def refuse_outputs(options: Options) -> None:
-    """Refuses files that can't be written, or that would be written over TRACE or each other."""
+    """Refuses files that can't be written, or that would be written over TRACE or over each other.
+    Only a device, such as /dev/null, may be named several times."""
     taken = {} if options.trace is None else {os.path.realpath(options.trace): 'TRACE'}
     for name, path in outputs_of(options).items():
         folder_to_write(path)
@@ -75,7 +76,7 @@ def refuse_outputs(options: Options) -> None:
 
 
 def outputs_of(options: Options) -> Dict[str, str]:
-    """The paths of the files to write, by the options that name them."""
+    """The paths of the files to write, by the options that name them; `-` is standard output."""
     outputs = {
         '--json': options.json,
         '--junit': options.junit,
@@ -86,13 +87,14 @@ def outputs_of(options: Options) -> Dict[str, str]:
 
 
 def mode_of_reports(paths: List[str]) -> int:
-    """The mode for a report made of other reports: only users who may read them all may read it."""
+    """The mode for a report that is made of other reports: its owner may read and write it, others
+    only as far as they may with all of these."""
     return reduce(and_, (0o600 | os.stat(path).st_mode & 0o066 for path in paths))
 
 
 def write_and_print(options: Options, report: Report) -> int:
     """Writes the files that the options name, then prints the report; returns the exit status. If a
-    file can't be written, the report is printed nevertheless, and then the OSError raised. The
+    file can't be written, the report is printed nevertheless, and then the OSError is raised. The
     report goes to standard error if a file is standard output."""
     fault = None
     try:
@@ -110,7 +112,8 @@ def write_and_print(options: Options, report: Report) -> int:
 
 
 def write_files(options: Options, report: Report) -> None:
-    """Writes the files that the options name, up to the first OSError."""
+    """Writes the files that the options name. The first OSError ends it: the files before that are
+    written."""
     if options.json is not None:
         report.write_json(options.json)
     if options.junit is not None:
@@ -122,7 +125,9 @@ def write_files(options: Options, report: Report) -> None:
 
 
 def print_fault(fault: BaseException) -> None:
-    """Prints a fault that the user can mend as a line that names it; any other as an own error."""
+    """Prints a fault that the user can mend, as a line or a few that name it, and any other
+    exception as a fault of these tools. Of a BaseException such as KeyboardInterrupt nothing is
+    printed."""
     if isinstance(fault, OSError) and fault.strerror:
         print_line(NAME, f'{fault.filename or tempfile.gettempdir()}: {fault.strerror}')
     elif isinstance(fault, (Refused, PlanError, ProgramFault)):
@@ -133,8 +138,9 @@ def print_fault(fault: BaseException) -> None:
 
 
 def main(arguments: Optional[List[str]] = None) -> int:
-    """Runs crashfs-check with these words, or those of its command line, and returns its status,
-    which --help explains."""
+    """Runs crashfs-check with these words, or if None with those of its command line, and returns
+    its status, which --help explains. Faults are printed, not raised; only --help, --version and a
+    wrong option end the process (SystemExit)."""
     print_utf8()
     try:
         options = read_options(sys.argv[1:] if arguments is None else arguments)

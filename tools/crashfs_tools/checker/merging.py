@@ -27,7 +27,8 @@ OTHER_PLAN = (
 
 def merged_report(options: Options) -> CheckReport:
     """The report of the files of --merge. If TRACE is given, its states are made again to show how
-    files differ. Refused if the files aren't all shards of one check, or not of TRACE."""
+    files differ; otherwise no program runs. Refused if a file can't be read, if they aren't all
+    shards of one check, or not of TRACE."""
     results = merged_shards([read_json(path) for path in options.merge or []])
     if options.trace is None:
         return report_of(options, results)
@@ -42,8 +43,8 @@ def merged_report(options: Options) -> CheckReport:
 def report_of(
     options: Options, results: AllResults, trace: Optional[CheckedTrace] = None
 ) -> CheckReport:
-    """The report of results that were read, window by window. Refused if the trace has other states
-    than they."""
+    """The report of results that were read, window by window. If their trace is given, it also says
+    how files differ: Refused if the trace has other states than a window, or fewer windows."""
     report = new_report(results.head, options)
     outcomes: Dict[int, Outcome] = {}
     planned = trace.all_planned() if trace else None
@@ -52,8 +53,8 @@ def report_of(
         outcomes = findings.by_state
         report.add(findings)
         if trace is not None and planned is not None:
-            one = next(planned)
-            if Results(one.plan).identity() != window.identity():
+            one = next(planned, None)
+            if one is None or Results(one.plan).identity() != window.identity():
                 raise Refused(OTHER_PLAN)
             find_differences(Trials(trace.workplace, one), findings)
     return report

@@ -34,7 +34,7 @@ class Shard(NamedTuple):
     parts: int = 1
 
     def has_place(self, place: int) -> bool:
-        """Whether this part has the state at a place, from 0, of the list of all states."""
+        """Whether this part has the state at a place, from 0, of the list of the states to try."""
         return place % self.parts == self.part - 1
 
 
@@ -78,38 +78,42 @@ class Options:
 
     @property
     def leaves_families_out(self) -> bool:
-        """Whether --lost and --files must be given to be tried. With --serve the plan is that of
-        the server, which has prefixes and holes unless it was started with picks."""
+        """Whether the families --lost and --files are tried only if they are given. So it is with
+        --serve: the plan is that of the server, which has prefixes and holes unless it was started
+        with picks."""
         return self.quick or self.prefixes or self.serve is not None
 
     @property
     def has_every(self) -> bool:
-        """Whether all crash states are tried if they are not too many."""
+        """Whether all crash states are asked for: they are tried if they aren't too many, and not
+        too slow."""
         return not (self.families or self.leaves_families_out)
 
     @property
     def most_states(self) -> int:
-        """How many different states there may be at most for all of them to be tried."""
+        """How many different crash states there may be at most for all of them to be tried."""
         return self.every or MOST_STATES
 
     @property
     def draw_count(self) -> int:
-        """How many sets are drawn at random if the crash states are too many to be tried."""
+        """How many sets are drawn at random if the crash states are too many for all of them to be
+        tried."""
         return LIMITED_DRAWS if self.time_limit is not None else DRAWS
 
     @property
     def most_seconds(self) -> float:
-        """How many seconds all crash states may take before only some are tried. Without a bound if
-        --every or --time-limit is given, and for a shard, which has only a part of them."""
+        """How many seconds all crash states may take at most; if they would take longer, only some
+        are tried. Infinite with --every or --time-limit, and for a shard, which has only a part of
+        them."""
         is_free = self.every is not None or self.time_limit is not None or self.shard.parts > 1
         return float('inf') if is_free else MOST_SECONDS
 
     @property
     def has_lost(self) -> bool:
-        """Whether the family --lost is tried."""
+        """Whether the family --lost is tried: by default, or because it is given."""
         return self.lost or not self.leaves_families_out
 
     @property
     def has_files(self) -> bool:
-        """Whether the family --files is tried."""
+        """Whether the family --files is tried, by the same rule as --lost."""
         return self.files or not self.leaves_families_out

@@ -25,7 +25,7 @@ STATUSES = {GOOD: NONE_FAILS, BAD: SOME_FAIL, NO_ANSWER: NOT_ALL_TRIED}
 
 def show_state(options: Options, guard: Guard) -> int:
     """Shows the state that --state names, or a state of its recovery; returns the exit status.
-    Refused if there is no such state, or its recovery can't be recorded."""
+    Refused if there is no such state, or if its recovery can't be recorded."""
     with open_trace(options, guard, Progress()) as trace:
         assert options.state is not None
         number, second = options.state
@@ -37,7 +37,8 @@ def show_state(options: Options, guard: Guard) -> int:
 
 def try_and_show(trials: Trials, number: int) -> int:
     """Tries a state, lays it out a second time in a directory that stays, and prints the outcome
-    and how to run COMMAND there. Returns the exit status; Refused if the plan has no such state."""
+    and how to run COMMAND there. Returns the exit status for the outcome; Refused if the plan has
+    no such state."""
     if not trials.plan.has_state(number):
         raise Refused(f'no such state: {number} (there are {len(trials.plan.listed):,})')
     state = trials.plan.state(number)
@@ -59,8 +60,9 @@ def try_and_show(trials: Trials, number: int) -> int:
 
 
 def leave_laid_out(trials: Trials, state: State) -> Tuple[str, str]:
-    """Lays a state out where nothing removes it; returns the paths of its directory, and of a file
-    of its acknowledged lines. The directory is no mount, also with --serve."""
+    """Lays a state out below a new temporary directory, which stays after the check; an error
+    removes it. Returns the paths of the state's directory, and of a file of its acknowledged lines.
+    The directory is no mount, also with --serve."""
     folder = os.path.abspath(tempfile.mkdtemp(prefix=f'crashfs-state-{state.number}-'))
     try:
         ((_, directory),) = trials.archive_layout(folder).states({state.number})

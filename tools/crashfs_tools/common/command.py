@@ -29,12 +29,12 @@ LINE_LETTERS = 8192
 
 
 class Refused(Exception):
-    """Bad input: a line that says what is wrong, or a few lines."""
+    """Bad input, which ends a command: the line, or the few lines, that the user sees."""
 
 
 def split_command(words: List[str]) -> Tuple[List[str], List[str]]:
-    """The words before the first `--`, and those after it, which are COMMAND. COMMAND is empty if
-    there is no `--`."""
+    """The words before the first `--`, and those after it, which are COMMAND. Without `--` all
+    words are before it, and COMMAND is empty."""
     if '--' not in words:
         return words, []
     place = words.index('--')
@@ -44,8 +44,9 @@ def split_command(words: List[str]) -> Tuple[List[str], List[str]]:
 def parse_command_line(
     parser: argparse.ArgumentParser, words: List[str]
 ) -> Tuple[argparse.Namespace, List[str]]:
-    """What a parser makes of the words before the first `--`, and COMMAND. A wrong word, --help and
-    --version end the program (SystemExit)."""
+    """What a parser makes of the words before the first `--`, and COMMAND, the words after it,
+    which may be none. A wrong word, --help and --version end the program by SystemExit, after the
+    text is printed; so does a text of --help or --version that can't be printed."""
     before, command = split_command(words)
     shown = io.StringIO()
     try:
@@ -63,8 +64,8 @@ def parse_command_line(
 
 
 def print_help(program: str, text: str) -> None:
-    """Prints what --help shows. If that can't be printed, argparse itself would fail, or print
-    nothing: here a line says so, and the program ends (SystemExit)."""
+    """Prints what --help or --version shows. If it can't be printed, a line says so, and SystemExit
+    with NOT_PRINTED is raised: argparse itself would fail, or print nothing."""
     try:
         with standard_output():
             print(text, end='')
@@ -74,8 +75,8 @@ def print_help(program: str, text: str) -> None:
 
 
 def version_text(command: str) -> str:
-    """What --version prints of a command. Only a release has the module `built`, which names its
-    commit and its kit."""
+    """What --version prints of a command. Only a release has the module `built`, which gives its
+    commit and its kit; without it the text says that this is no release."""
     try:
         built = import_module('crashfs_tools.built')
     except ModuleNotFoundError:
@@ -84,8 +85,8 @@ def version_text(command: str) -> str:
 
 
 def with_program_path(command: List[str]) -> List[str]:
-    """COMMAND with the whole path of its program, since it is started in another directory; Refused
-    if there is no such program."""
+    """COMMAND, which must have a word, with the whole path of its program, since it is started in
+    another directory. Refused if PATH has no such program, or if it may not be executed."""
     name = command[0]
     path = shutil.which(name)
     if path is None:
@@ -96,14 +97,15 @@ def with_program_path(command: List[str]) -> List[str]:
 
 
 def relative_arguments(command: List[str]) -> List[str]:
-    """COMMAND's arguments that are the relative path of a file here: COMMAND runs in another
-    directory, and doesn't find it there."""
+    """COMMAND's arguments that are the relative path of a file or directory here: COMMAND runs in
+    another directory, and doesn't find it there."""
     return [word for word in command[1:] if not os.path.isabs(word) and os.path.exists(word)]
 
 
 def folder_to_write(path: str) -> str:
-    """The directory of a file that will be written; Refused if the file can't be made there. What
-    is no plain file, as /dev/null, is written in place."""
+    """The directory of a file that will be written by write_whole(), that of its target if it is a
+    link. Refused if the file can't be made there. What is written in place, `-` and what is no
+    plain file, needs no right in the directory."""
     folder = os.path.dirname(os.path.realpath(path))
     if not os.path.isdir(folder):
         raise Refused(f'{path}: its directory is not there')
@@ -116,9 +118,14 @@ def folder_to_write(path: str) -> str:
 
 
 def write_whole(path: str, pieces: Iterable[str], mode: int = 0o666) -> None:
-    """Replaces a file as a whole, and returns when that is durable; an OSError has its path, and
-    then what was there stays. A mode says who may read it at most. `-` is standard output, and what
-    is no plain file, as a device or a pipe, is written in place."""
+    """Replaces a file as a whole, and returns when that is durable; a link stays, and its target is
+    replaced. The mode is that of the old file, or by the umask, without the bits that `mode` lacks.
+    `-` is standard output; it and what is no plain file, as a device or a pipe, are written in
+    place.
+
+    An OSError has this path, or the name of standard output. Then the old file stays, unless only
+    the sync of its directory failed; what is written in place may have a part.
+    """
     if path == '-':
         with standard_output():
             sys.stdout.writelines(pieces)
@@ -135,8 +142,8 @@ def write_whole(path: str, pieces: Iterable[str], mode: int = 0o666) -> None:
 
 
 def refuse_planted(path: str) -> None:
-    """OSError if the path is a link or a pipe that another user made in a directory that everybody
-    may write, as /tmp."""
+    """OSError (EACCES) if the path is a link, a pipe or another special file that neither this user
+    nor the directory's owner made, in a directory that everybody may write, as /tmp."""
     if not os.path.lexists(path):
         return
     status, folder = os.lstat(path), os.stat(os.path.dirname(path) or '.')
@@ -148,7 +155,8 @@ def refuse_planted(path: str) -> None:
 
 def replace_file(path: str, pieces: Iterable[str], mode: int) -> None:
     """Writes a new file, which takes the path when it is whole and synced; then the directory is
-    synced. Before that, an error leaves what was there."""
+    synced. Its mode is mode_to_write() without the bits that `mode` lacks. After an OSError the old
+    file stays, unless only the last sync failed."""
     folder = os.path.dirname(path)
     number, part = tempfile.mkstemp(prefix='.' + os.path.basename(path)[:100], dir=folder)
     try:
@@ -166,7 +174,7 @@ def replace_file(path: str, pieces: Iterable[str], mode: int) -> None:
 
 def sync_directory(folder: str) -> None:
     """Makes the names of a directory durable. Nothing is done if we may not read it, or if its file
-    system can't sync directories."""
+    system can't sync directories; any other error is an OSError."""
     try:
         directory = os.open(folder, os.O_RDONLY | os.O_DIRECTORY | os.O_CLOEXEC)
     except PermissionError:
@@ -182,7 +190,7 @@ def sync_directory(folder: str) -> None:
 
 def mode_to_write(path: str) -> int:
     """The mode of a file that will take a path: that of the file there, or that of a new one by the
-    umask."""
+    umask. The umask of the process is 0 for a moment."""
     if os.path.exists(path):
         return os.stat(path).st_mode & 0o777
     umask = os.umask(0)
@@ -192,8 +200,10 @@ def mode_to_write(path: str) -> int:
 
 @contextmanager
 def standard_output() -> Iterator[None]:
-    """What is printed within this is written at its end; if it can't be, OSError with the stream's
-    name. A reader that reads no more, as `head`, is no fault: the rest goes nowhere."""
+    """What is printed within this is written out by its end. OSError with the stream's name if it
+    can't be, or if standard output is closed; any OSError that is raised within counts as one of
+    the stream. A reader that reads no more, as `head`, is no fault. In these cases later output
+    goes nowhere."""
     if sys.stdout is None:
         raise OSError(errno.EBADF, os.strerror(errno.EBADF), 'standard output')
     try:
@@ -207,8 +217,8 @@ def standard_output() -> Iterator[None]:
 
 
 def ending_text(status: int) -> str:
-    """How a process ended, as `was ended by SIGKILL`, from the status that Popen has: negative for
-    a signal."""
+    """How a process ended, as `was ended by SIGKILL` or `ended with status 1`, from the status that
+    Popen has: negative for a signal."""
     if status >= 0:
         return f'ended with status {status}'
     try:
@@ -218,8 +228,8 @@ def ending_text(status: int) -> str:
 
 
 def print_line(program: str, text: str) -> None:
-    """Prints one line on standard error, in front the program's name; nothing if that can't be
-    written."""
+    """Prints one line on standard error, after the program's name; a long one is shortened().
+    Nothing happens if it can't be written."""
     if sys.stderr is None:
         return
     try:
@@ -229,6 +239,6 @@ def print_line(program: str, text: str) -> None:
 
 
 def shortened(text: str) -> str:
-    """A text, without its middle if it is longer than LINE_LETTERS."""
+    """A text, with `...` for its middle if it is longer than LINE_LETTERS."""
     half = LINE_LETTERS // 2
     return text if len(text) <= LINE_LETTERS else f'{text[:half]} ... {text[-half:]}'

@@ -1,4 +1,5 @@
-"""The processes that came of this one: which they are, and how they are ended.
+"""The processes that this one started, and their descendants: which they are, and how they are
+ended.
 
 A reaper has the orphans of all that it started as its own children, whatever these did to their
 environment, session or user. So nothing that it started is left if it has no child.
@@ -22,7 +23,7 @@ PAUSE_SECONDS = 0.0005
 
 def die_with_parent() -> None:
     """From here on this process is killed when the thread that started it ends. Nothing happens if
-    the system can't do that."""
+    the system can't do that, or if that thread has ended already."""
     try:
         import ctypes
 
@@ -32,8 +33,8 @@ def die_with_parent() -> None:
 
 
 def become_reaper() -> bool:
-    """Makes orphans of this process's descendants its children from here on. Returns whether the
-    system could do it."""
+    """From here on orphans of this process's descendants become its children. Returns whether the
+    system could do it; if not, they become children of another process."""
     try:
         import ctypes
 
@@ -43,8 +44,9 @@ def become_reaper() -> bool:
 
 
 def children(process: int = 0) -> Set[int]:
-    """The children of a process, or of this one (0), also those that have ended until they are
-    waited for. An empty set if the process is gone."""
+    """The children of a process, or of this one (0), also those that have ended but weren't waited
+    for. An empty set if the process is gone. If the kernel has no lists of children, all processes
+    are read."""
     folder = f'/proc/{process or "self"}/task'
     try:
         lists = [f'{folder}/{task}/children' for task in os.listdir(folder)]
@@ -67,7 +69,8 @@ def has_children_lists() -> bool:
 
 
 def children_by_parents(process: int) -> Set[int]:
-    """The children of a process, from the parent that each process names: it is slower."""
+    """The children of a process, from the parent that each process names. It is slower than the
+    kernel's lists, which some kernels lack."""
     return {one for one in processes() if parent_of(one) == process}
 
 
@@ -77,7 +80,7 @@ def processes() -> Iterator[int]:
 
 
 def parent_of(process: int) -> int:
-    """The parent of a process; 0 if the process is gone."""
+    """The parent of a process; 0 if the process is gone, or has none that is seen here."""
     try:
         with open(f'/proc/{process}/stat', 'rb') as file:
             return int(file.read().rpartition(b')')[2].split()[1])
@@ -86,7 +89,8 @@ def parent_of(process: int) -> int:
 
 
 def descendants() -> Set[int]:
-    """All that came of this process and still is its child, or the child of one that is."""
+    """The children of this process, their children, and so on. An orphan is among them only if this
+    process is a reaper."""
     found: Set[int] = set()
     new = children()
     while new:
@@ -106,8 +110,8 @@ def name_of(process: int) -> str:
 
 
 def become_cleaner() -> None:
-    """Names this process CLEANER, if the system can: those who end processes let it end by
-    itself."""
+    """Names this process CLEANER, so that end_children() and end_bearers() let it end by itself at
+    first. Nothing happens if the system can't do that."""
     try:
         with open('/proc/self/comm', 'w', encoding='ascii') as file:
             file.write(CLEANER)
@@ -118,9 +122,10 @@ def become_cleaner() -> None:
 def end_children(
     spared: AbstractSet[int] = frozenset(), seconds: float = ENDING_SECONDS
 ) -> Dict[int, str]:
-    """Kills and reaps all children of this process but the spared ones, and what becomes its child
-    by that, until none is left. Returns those that still run after so many seconds, each with the
-    name of its program. A cleaner gets CLEANING_SECONDS to end by itself."""
+    """Kills all children of this process except the spared ones, and what becomes its child by
+    that, until none is left; waits for them, so that their statuses are lost. Returns those that
+    still run after `seconds`, each with the name of its program; empty if none does. A cleaner has
+    CLEANING_SECONDS to end by itself."""
     begun = time.monotonic()
     while True:
         left = children() - spared
@@ -138,8 +143,9 @@ def end_children(
 
 
 def kill_with_group(child: int) -> None:
-    """Kills a child, and its group if that can't be this process's own: a process that forks all
-    the time can't leave a group that is killed, but may be gone before it is killed itself."""
+    """Kills a child, and first the process group of one that is in another session than this
+    process: a group is killed at once, so that a process in it that forks all the time can't
+    escape. Nothing happens if the child is gone."""
     try:
         session, group = os.getsid(child), os.getpgid(child)
     except OSError:
@@ -150,7 +156,8 @@ def kill_with_group(child: int) -> None:
 
 
 def send_kill(send: Callable[[int, int], None], target: int) -> None:
-    """Kills a process or a group by `send`, unless it is another user's or is gone."""
+    """Kills a process or a group, by os.kill or os.killpg as `send`. Nothing happens if it is
+    another user's or gone."""
     try:
         send(target, signal.SIGKILL)
     except OSError:
@@ -158,8 +165,8 @@ def send_kill(send: Callable[[int, int], None], target: int) -> None:
 
 
 def reap(child: int) -> bool:
-    """Waits for a child if it has ended. Returns whether it is gone, also if it was waited for
-    before."""
+    """Waits for a child if it has ended; else nothing happens. Returns whether it is gone, also if
+    it was waited for before."""
     try:
         return os.waitpid(child, os.WNOHANG)[0] != 0
     except ChildProcessError:
@@ -167,5 +174,5 @@ def reap(child: int) -> bool:
 
 
 def processes_text(left: Dict[int, str]) -> str:
-    """Processes as `7 (sleep), 9 (sh)`: each by its number and its program."""
+    """Processes as `7 (sleep), 9 (sh)`: each number with the name of its program, ascending."""
     return ', '.join(f'{process} ({name})' for process, name in sorted(left.items()))

@@ -12,7 +12,7 @@ from .sparse import SparseBytes
 @dataclass
 class Entry:
     """A directory, a file (data has its bytes) or a symbolic link (link has its target). Entries
-    are equal if all that they have is, whether or not their bytes can be changed in place."""
+    are equal if owner, group, mode, bytes and target are, in whatever form the bytes are kept."""
 
     owner: str
     group: str
@@ -31,7 +31,8 @@ class Entry:
         return self.data is not None
 
     def write(self, at: int, data: bytes) -> None:
-        """Puts bytes into a file, in place. It grows if they end past its end."""
+        """Puts bytes into a file, in place; it grows if they end past its end, with zeros before
+        them. Only a file may be written: any other entry would become one."""
         end = at + len(data)
         whole = self.bytes_to_change(end)
         if isinstance(whole, SparseBytes):
@@ -41,7 +42,8 @@ class Entry:
         whole[at:end] = data
 
     def resize(self, length: int) -> None:
-        """Cuts the bytes of a file, or adds zeros, in place."""
+        """Cuts the bytes of a file, or adds zeros, in place. Only a file may be resized: any other
+        entry would become one."""
         whole = self.bytes_to_change(length)
         if isinstance(whole, SparseBytes):
             whole.resize(length)
@@ -50,8 +52,9 @@ class Entry:
         whole.extend(bytes(length - len(whole)))
 
     def bytes_to_change(self, length: int = 0) -> Union[bytearray, SparseBytes]:
-        """The bytes of a file that may get this length, in a form that can be changed in place; the
-        entry has that form from now on. A large file is without its pages of zeros."""
+        """The bytes of a file in a form that can be changed in place, which the entry has from now
+        on. If `length`, the size that they will have, is above the limit of older traces, they are
+        kept without pages of zeros."""
         if length > limits.FILE_BYTES and not isinstance(self.data, SparseBytes):
             self.data = SparseBytes.copy_of(bytes(self.data or b''))
         if not isinstance(self.data, (bytearray, SparseBytes)):
@@ -63,5 +66,5 @@ Entries = Dict[str, Entry]
 
 
 def parent_of(path: str) -> str:
-    """The path of the directory that has a path's last name; `/` for the root itself."""
+    """The path of the directory that has a path's last name; the root's is the root itself."""
     return path.rpartition('/')[0] or '/'

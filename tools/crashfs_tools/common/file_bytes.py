@@ -14,7 +14,8 @@ Bytes = Union[bytes, SparseBytes]
 
 def file_bytes(file: int) -> Bytes:
     """The bytes of an open file, from its beginning; of one of LARGE_BYTES or more in the form that
-    has no pages of zeros."""
+    has no pages of zeros. If the file becomes shorter meanwhile, a small one has fewer bytes, and a
+    large one has zeros for them."""
     size = os.fstat(file).st_size
     if size < LARGE_BYTES:
         return b''.join(read_pieces(file, 0, size))
@@ -27,8 +28,8 @@ def file_bytes(file: int) -> Bytes:
 
 
 def read_pieces(file: int, begin: int, end: int) -> Iterator[bytes]:
-    """The bytes of an open file from a place to another, in pieces; fewer if it has become
-    shorter."""
+    """The bytes of an open file from offset `begin` to before `end`, in pieces; fewer if the file
+    is shorter."""
     while begin < end:
         piece = os.pread(file, min(PIECE_BYTES, end - begin), begin)
         if not piece:
@@ -38,8 +39,8 @@ def read_pieces(file: int, begin: int, end: int) -> Iterator[bytes]:
 
 
 def data_ranges(file: int, size: int) -> Iterator[Tuple[int, int]]:
-    """The ranges of an open file, by their ends, that are no holes; one range, the whole file, if
-    its file system doesn't know them."""
+    """The ranges of the first `size` bytes of an open file that are no holes, each by its two ends,
+    ascending. One range, the whole file, if its file system doesn't know holes."""
     end = 0
     while end < size:
         try:

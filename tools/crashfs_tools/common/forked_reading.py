@@ -14,10 +14,12 @@ INTERNAL_ERROR = 70
 
 
 class ForkedReading:
-    """A command of the second reading that runs: as much of subprocess.Popen as is used of it. The
-    words are those of the program `crashfs`."""
+    """A command of the second reading that runs, in a fork of this process. It has as much of the
+    interface of subprocess.Popen as is used; both outputs are pipes. The words are those of the
+    program `crashfs`."""
 
     def __init__(self, words: List[str]) -> None:
+        """Starts the command. OSError if the system can't fork, or has no more pipes."""
         # Imported before the fork, so that later ones have it too.
         from crashfs_tools.reading import archive, main
 
@@ -38,8 +40,9 @@ class ForkedReading:
         self.returncode: Any = None
 
     def run_and_exit(self, words: List[str], out: int, err: int) -> NoReturn:
-        """In the new process: runs the command, with these descriptors as its two outputs, and ends
-        the process with its status. It never returns."""
+        """In the new process: runs the command, with these descriptors as its two outputs and no
+        input, and ends the process with its status. An error that isn't caught prints a traceback,
+        and is INTERNAL_ERROR. It never returns."""
         status = INTERNAL_ERROR
         try:
             die_with_parent()
@@ -59,15 +62,17 @@ class ForkedReading:
             os._exit(status)
 
     def communicate(self) -> Tuple[bytes, bytes]:
-        """Waits for its end; returns all that it printed, and what it printed as an error, which
-        must fit into the pipe, since it is read last."""
+        """Waits for its end; returns all that it printed on standard output and on standard error.
+        The latter is read last, so it must fit into its pipe."""
         with self.stdout, self.stderr:
             printed, error_text = self.stdout.read(), self.stderr.read()
         self.wait()
         return printed, error_text
 
     def wait(self) -> int:
-        """Waits for its end, and returns its status, which is negative for a signal."""
+        """Waits for its end, and returns its status, which is negative for a signal; -SIGKILL if
+        something else in this process has waited for it. Its outputs aren't read: the pipes must
+        have room."""
         if self.returncode is None:
             try:
                 ended = os.waitpid(self.process, 0)[1]
@@ -78,7 +83,7 @@ class ForkedReading:
         return int(self.returncode)
 
     def kill(self) -> None:
-        """Kills it, unless it has ended."""
+        """Kills it, unless wait() has returned its status. The caller still calls wait()."""
         if self.returncode is None:
             try:
                 os.kill(self.process, signal.SIGKILL)

@@ -32,7 +32,8 @@ WATCHER_KILLED = json.dumps([None, errno.ECHILD, 'its watcher was killed', 'temp
 class Guard:
     """Used by `with`. Start processes with `environment`, and put files below `directory`, which is
     made in `folder`, or where temporary files are, with the program's name. A guard that may not
-    reap leaves other children of this process alone."""
+    reap leaves other children of this process alone: it ends only what was started with the
+    environment."""
 
     def __init__(self, program: str, folder: Optional[str] = None, may_reap: bool = True) -> None:
         self.program = program
@@ -47,6 +48,9 @@ class Guard:
         self.unended: Dict[int, str] = {}
 
     def __enter__(self) -> Guard:
+        """Makes the directory. OSError, with the name of its place, if it can't be made; then
+        nothing is left of the guard. This process stays a reaper, if it may be one, also after the
+        end of the `with`."""
         self.is_reaper = self.may_reap and descendants.become_reaper()
         try:
             # A signal must not come before the watcher can be closed, nor reach the watcher before
@@ -61,8 +65,8 @@ class Guard:
         return self
 
     def start_watcher(self) -> None:
-        """Starts the watcher, and returns when it has made the directory. An OSError names the
-        place where it can't make one; the watcher has ended then."""
+        """Starts the watcher, and returns when it has made the directory. OSError, with the name of
+        the place, if it can't make one or is killed before: it has ended then."""
         waiting, self.alive = pipe_above_streams()
         answer, answering = pipe_above_streams()
         self.watcher = os.fork()
@@ -81,20 +85,23 @@ class Guard:
         self.directory = directory
 
     def report_other_place(self) -> None:
-        """Prints a line if the directory isn't where TMPDIR says, unless a folder was given."""
+        """Prints a line if the directory isn't in TMPDIR, because that can't be written. Nothing if
+        a folder was given."""
         named, used = os.environ.get('TMPDIR'), os.path.dirname(self.directory)
         if self.folder is None and named and os.path.realpath(named) != used:
             print_line(self.program, f'TMPDIR={named} can not be written: {used} is used')
 
     @property
     def environment(self) -> Dict[str, str]:
-        """The environment in which to start processes, so that the guard ends them."""
+        """The environment in which to start processes, so that the guard ends them: that of this
+        process as it is now, and the token."""
         return with_token(os.environ, self.token)
 
     def end_processes(self, spared: Iterable[int] = ()) -> Dict[int, str]:
-        """Ends all that came of this process, but for spared children, and all that was started
-        with the environment. Returns `unended`: what could not be ended, also by earlier calls; it
-        isn't tried again."""
+        """Ends all that was started with the environment, and, if this process is a reaper, all
+        else that came of it, except spared children; these must not have been started with the
+        environment. Returns `unended`: what could not be ended, also by earlier calls; it isn't
+        tried again. Without a reaper it is empty."""
         end_bearers(self.token)
         if self.is_reaper:
             unended = descendants.end_children({self.watcher, *self.unended, *spared})
@@ -102,8 +109,9 @@ class Guard:
         return self.unended
 
     def send_signal(self, number: int, spared: int) -> int:
-        """Sends a signal to all that came of this process or was started with the environment, but
-        for one process. Returns how many processes got it."""
+        """Sends a signal to all that was started with the environment, and, if this process is a
+        reaper, to all that came of it; but not to the process `spared`. Returns how many processes
+        got it: gone ones, and those of other users, don't."""
         sent = 0
         found = descendants.descendants() if self.is_reaper else set()
         for process in (found | bearers(self.token)) - {self.watcher, spared}:
@@ -115,7 +123,9 @@ class Guard:
         return sent
 
     def __exit__(self, *_: object) -> None:
-        """Lets the watcher clean up, waits for it, and prints what it could not remove."""
+        """Lets the watcher end processes and remove the directory, waits for it, and prints what it
+        could not remove. Exceptions aren't caught. Children that don't have the environment aren't
+        ended: end_processes() does that."""
         os.close(self.alive)
         os.waitpid(self.watcher, 0)
         for path in (self.directory, self.directory + LEFT):
@@ -123,8 +133,9 @@ class Guard:
                 print_line(self.program, f'{path} could not be removed')
 
     def run_watcher(self, waiting: int, answering: int) -> NoReturn:
-        """The watcher: it never returns. It makes the directory itself, so that no kill of the
-        first process can come between the directory and the process that removes it."""
+        """The watcher, which never returns: it makes the directory, waits until the first process
+        leaves the guard or ends, and removes all. It makes the directory itself, so that no kill of
+        the first process can come between the directory and the process that removes it."""
         try:
             # The first process may be gone before it reads the answer: that is no signal.
             for number in (*STOPS, signal.SIGPIPE):
@@ -141,7 +152,8 @@ class Guard:
             os._exit(0)
 
     def answer_directory(self, answering: int) -> None:
-        """In the watcher: makes the directory, and writes its path, or the fault, to the pipe."""
+        """In the watcher: makes the directory, and writes its path, or the fault, to the pipe. If
+        it can't be made, `directory` stays empty."""
         try:
             self.directory = new_directory(f'{self.program}-', self.folder)
             answer = json.dumps([self.directory])
@@ -154,7 +166,8 @@ class Guard:
         os.close(answering)
 
     def remove_all(self) -> None:
-        """In the watcher: ends what bears the token, and removes the directory, if there is one."""
+        """In the watcher: ends what bears the token, and, if there is a directory, unmounts what is
+        mounted below it, and removes it. What can't be unmounted or removed stays."""
         end_bearers(self.token)
         if self.directory:
             table = MountTable()
@@ -163,7 +176,8 @@ class Guard:
 
 
 def pipe_above_streams() -> Tuple[int, int]:
-    """A pipe whose descriptors are none of a standard stream, also if those are closed."""
+    """A pipe, by the ends for reading and writing, neither of which has the number of a standard
+    stream, even if these are closed. No program that is started inherits them."""
     ends = os.pipe()
     reading, writing = (fcntl.fcntl(end, fcntl.F_DUPFD_CLOEXEC, 3) for end in ends)
     for end in ends:
@@ -172,8 +186,8 @@ def pipe_above_streams() -> Tuple[int, int]:
 
 
 def new_directory(prefix: str, folder: Optional[str]) -> str:
-    """Makes a directory, in a folder or where temporary files are, and returns its path, without
-    links. An OSError names the place."""
+    """Makes a directory, in a folder or, if that is None, where temporary files are. Returns its
+    path, without links. An OSError names the place."""
     try:
         return os.path.realpath(tempfile.mkdtemp(prefix=prefix, dir=folder))
     except OSError as error:
@@ -183,18 +197,21 @@ def new_directory(prefix: str, folder: Optional[str]) -> str:
 
 
 def with_token(environment: Mapping[str, str], token: str) -> Dict[str, str]:
-    """An environment with a token more: VARIABLE has those of all guards around it."""
+    """A copy of an environment with a token more: VARIABLE then has this one after those of all
+    guards around it."""
     tokens = [*filter(None, environment.get(VARIABLE, '').split(':')), token]
     return {**environment, VARIABLE: ':'.join(tokens)}
 
 
 def bearers(token: str) -> Set[int]:
-    """The processes that were started with a token in their environment."""
+    """The processes that were started with a token in their environment. A fork has it too; a
+    process that may not be read isn't found."""
     return {process for process in descendants.processes() if has_token(process, token.encode())}
 
 
 def has_token(process: int, token: bytes) -> bool:
-    """Whether a process was started with a token; one that may not be read was not."""
+    """Whether a process was started with a token in its environment; False for one that is gone or
+    may not be read."""
     try:
         with open(f'/proc/{process}/environ', 'rb') as file:
             variables = file.read().split(b'\0')
@@ -205,8 +222,9 @@ def has_token(process: int, token: bytes) -> bool:
 
 
 def end_bearers(token: str) -> None:
-    """Kills all bearers of a token, again until none is found, since one may have just forked, or
-    for ENDING_SECONDS. A cleaner gets CLEANING_SECONDS to end by itself."""
+    """Kills all bearers of a token, again until none is found, since one may have just forked.
+    After ENDING_SECONDS it returns, even if some are left. A cleaner has CLEANING_SECONDS to end by
+    itself."""
     begun = time.monotonic()
     while time.monotonic() < begun + descendants.ENDING_SECONDS:
         found = bearers(token)
@@ -222,8 +240,8 @@ def end_bearers(token: str) -> None:
 @contextmanager
 def stops_blocked() -> Iterator[Set[Union[int, signal.Signals]]]:
     """Within this the signals of STOPS wait, and that of a time limit: what is raised in the hooks
-    of a fork is lost. Yields the signals that were blocked before: a process that is forked within
-    it sets these itself, when it is ready for signals."""
+    of a fork is lost. They come at its end. Yields the signals that were blocked before: a process
+    that is forked within it sets these itself, when it is ready for signals."""
     before = signal.pthread_sigmask(signal.SIG_BLOCK, (*STOPS, signal.SIGALRM))
     try:
         yield before
@@ -232,7 +250,7 @@ def stops_blocked() -> Iterator[Set[Union[int, signal.Signals]]]:
 
 
 class Stopped(Exception):
-    """A signal that asks a command to end: it was received."""
+    """A signal that asks a command to end was received: `number` is its number."""
 
     def __init__(self, number: int) -> None:
         super().__init__(signal.Signals(number).name)
@@ -240,7 +258,7 @@ class Stopped(Exception):
 
     @property
     def status(self) -> int:
-        """The exit status of a command that ends for it, as a shell has it."""
+        """The exit status of a command that this signal has ended, as a shell has it."""
         return 128 + self.number
 
 
@@ -250,8 +268,9 @@ class TimeUp(Exception):
 
 @contextmanager
 def time_limit(seconds: Optional[float]) -> Iterator[None]:
-    """Within this, TimeUp is raised in the main thread after so many seconds; None is no limit.
-    Must be entered in the main thread."""
+    """Within this, TimeUp is raised in the main thread after so many seconds; None, or 0, is no
+    limit. Must be entered in the main thread. There is one timer: an inner limit ends an outer
+    one."""
 
     def end(_: int, __: object) -> None:
         raise TimeUp
@@ -267,7 +286,7 @@ def time_limit(seconds: Optional[float]) -> Iterator[None]:
 
 
 def stops_heard() -> Tuple[signal.Signals, ...]:
-    """The signals that stop a command here: those of STOPS, but not SIGHUP if it is ignored, as
+    """The signals that stop a command here: those of STOPS, but not SIGHUP if it is ignored now, as
     under `nohup`."""
     if signal.getsignal(signal.SIGHUP) is signal.SIG_IGN:
         return tuple(stop for stop in STOPS if stop != signal.SIGHUP)
@@ -276,9 +295,10 @@ def stops_heard() -> Tuple[signal.Signals, ...]:
 
 def stop_by_exception() -> None:
     """From here on the first signal that stops a command raises Stopped in the main thread. It ends
-    a time limit, and all later ones are ignored, so that the command can clean up."""
+    a time limit, and all later ones of STOPS are ignored, so that the command can clean up."""
 
     def stop(number: int, _: object) -> None:
+        """Raises Stopped, at most once: a handler of the signals."""
         signal.setitimer(signal.ITIMER_REAL, 0)
         for later in STOPS:
             signal.signal(later, signal.SIG_IGN)

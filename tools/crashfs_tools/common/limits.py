@@ -19,5 +19,5 @@ USER_BYTES = 64
 
 
 def most_file_bytes(version: int) -> int:
-    """The largest length that a file may have in a trace of a version."""
+    """The largest length that a file may have in a trace of this version."""
     return LARGE_FILE_BYTES if version >= 4 else FILE_BYTES

@@ -15,7 +15,9 @@ UNMOUNTS = (['umount', '-l'], ['fusermount3', '-uz'], ['fusermount', '-uz'])
 
 
 class MountTable:
-    """The mount points of this process, by number. They are read again only if they changed."""
+    """The mount points that this process sees, by the numbers of the mounts. They are read again
+    only if they changed. Without /proc there are none. The table stays open as long as the process
+    runs."""
 
     def __init__(self) -> None:
         self.poll = select.poll()
@@ -28,8 +30,8 @@ class MountTable:
         self.points = read_points()
 
     def below(self, directory: str) -> Dict[int, str]:
-        """The mount points at a directory and below it, by number, in the order in which they were
-        mounted."""
+        """The mount points at a directory and below it, by the numbers of the mounts, in the order
+        in which they were mounted. The path must be absolute and without links."""
         if self.poll.poll(0):
             self.points = read_points()
         return {
@@ -39,8 +41,8 @@ class MountTable:
         }
 
     def unmount(self, points: Mapping[int, str]) -> List[str]:
-        """Unmounts these mount points, the last one first, lazily if they are in use. Returns those
-        that are still there."""
+        """Unmounts these mount points, the last one first, even those in use: each of UNMOUNTS is
+        tried until one succeeds. Returns the paths of those that are still there."""
         for point in reversed(list(points.values())):
             any(run_quietly([*words, point]) for words in UNMOUNTS)
         left = self.below('/')
@@ -48,7 +50,8 @@ class MountTable:
 
 
 def read_points() -> Dict[int, str]:
-    """The mount points that the system has now, by number."""
+    """The mount points that the system has now, by the numbers of the mounts. OSError if the table
+    can't be read."""
     with open(TABLE, 'rb') as lines:
         fields = [line.split(b' ') for line in lines]
     return {int(one[0]): os.fsdecode(OCTAL.sub(byte_of_escape, one[4])) for one in fields}
@@ -60,7 +63,8 @@ def byte_of_escape(match: re.Match[bytes]) -> bytes:
 
 
 def run_quietly(words: List[str]) -> bool:
-    """Runs a command without its output, and returns whether it succeeded."""
+    """Runs a command without its output, and returns whether it ended with status 0; False if it
+    can't be started."""
     try:
         ran = subprocess.run(
             words,

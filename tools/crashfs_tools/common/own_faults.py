@@ -13,8 +13,9 @@ FAULT_LETTERS = 500
 
 
 def print_own_fault(program: str, error: Exception, result: str = '') -> None:
-    """Prints one line: that an error is the program's own, and what the run did nevertheless, as
-    `no trace is written`. With the variable TRACEBACK also where it came."""
+    """Prints one line: that an error is the program's own, and, if it isn't empty, the `result` of
+    the run nevertheless, as `no trace is written`. If the variable TRACEBACK is set, the traceback
+    comes before it."""
     is_asked = bool(os.environ.get(TRACEBACK))
     if is_asked:
         # Few runs need it, and each start would take it.

@@ -19,14 +19,15 @@ SHORT = {'\n': '\\n', '\t': '\\t', '\r': '\\r'}
 
 def printable(text: str, allowed: str = '') -> str:
     """The text with an escape, such as \\x1b or \\u202e, for each character of UNPRINTABLE that
-    isn't allowed."""
+    isn't in `allowed`. A backslash stays as it is."""
     return UNPRINTABLE.sub(
         lambda match: match[0] if match[0] in allowed else escape(match[0]), text
     )
 
 
 def escape(letter: str) -> str:
-    """The escape of one character; that of a byte that isn't UTF-8 is the byte's."""
+    """The escape of one character; that of a byte that isn't UTF-8, which Python has as half of a
+    surrogate pair, is the byte's."""
     code = ord(letter)
     if letter in SHORT:
         return SHORT[letter]
@@ -38,12 +39,14 @@ def escape(letter: str) -> str:
 
 
 def count_text(count: int, noun: str) -> str:
-    """A number with what it counts, as `1 state` or `2 states`."""
+    """A number with what it counts, as `1 state` or `2,000 states`: the noun gets an s unless the
+    number is 1."""
     return f'{count:,} {noun}' if count == 1 else f'{count:,} {noun}s'
 
 
 def print_utf8() -> None:
-    """Makes standard output and standard error UTF-8, whatever the locale is."""
+    """Makes standard output and standard error UTF-8, whatever the locale is; what can't be encoded
+    is printed as an escape. Streams that were replaced by others stay."""
     for stream in (sys.stdout, sys.stderr):
         if isinstance(stream, io.TextIOWrapper):
             stream.reconfigure(encoding='utf-8', errors='backslashreplace')
@@ -51,7 +54,7 @@ def print_utf8() -> None:
 
 def prepare_standard_streams() -> None:
     """Opens standard streams that are closed, so that no other file gets their numbers: what is
-    printed there goes nowhere. What is printed is UTF-8."""
+    printed there goes nowhere, and nothing can be read. What is printed is UTF-8."""
     for number in (0, 1, 2):
         try:
             os.fstat(number)

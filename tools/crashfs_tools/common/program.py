@@ -14,7 +14,7 @@ from functools import cached_property
 from itertools import groupby
 from typing import Any, Dict, Iterator, List, Optional, Tuple, Union
 
-from .archive import ArchiveFault, Member, members
+from .archive import ArchiveFault, Member, members, number_of_state
 from .command import Refused, ending_text
 from .entry import Entries
 from .forked_reading import ForkedReading
@@ -50,18 +50,19 @@ RunningProgram = Union['subprocess.Popen[bytes]', ForkedReading]
 
 
 class ProgramFault(Exception):
-    """`crashfs` refused what it was asked: its status, and its line."""
+    """`crashfs` refused what it was asked, or failed: its status, and as text the line that says
+    why. If it printed nothing, the line says how it ended. `text` has all that it printed as an
+    error."""
 
     def __init__(self, status: int, error_text: bytes) -> None:
+        """error_text is all that the program printed as an error: its last line becomes the fault's
+        text, but its first one if the command line was wrong, since the usage comes after that."""
         self.text = error_text.decode('utf-8', 'replace').strip()
-        lines = self.text.splitlines()
+        # A path in it may have other characters that end a line for Python, such as U+2028.
+        lines = self.text.split('\n')
         # A command line parser prints its usage after its first line.
-        line = (
-            lines[0 if status == UNKNOWN_OPTION else -1]
-            if lines
-            else f'crashfs {ending_text(status)}'
-        )
-        super().__init__(line)
+        line = lines[0 if status == UNKNOWN_OPTION else -1]
+        super().__init__(line or f'crashfs {ending_text(status)}')
         self.status = status
 
     @property
@@ -72,7 +73,7 @@ class ProgramFault(Exception):
 
 class Crashfs:
     """One program file; or, unproved, the second reading. refused_version: the version of traces
-    that the program refuses and the second reading takes in its place."""
+    that the program refuses, so that the second reading takes its place; else 0."""
 
     def __init__(self, path: str, unproved: bool = False, refused_version: int = 0) -> None:
         self.path = path
@@ -81,8 +82,9 @@ class Crashfs:
 
     @staticmethod
     def program_or_reading(given: Optional[str], unproved: bool) -> Crashfs:
-        """The program, as find() finds it, or the second reading if there is none or unproved is
-        set: then `given` isn't looked at. Refused if `given` is no program."""
+        """The program, as find() finds it, or the second reading if there is none. If unproved is
+        set, it is the second reading, and `given` isn't looked at. Refused if `given` is no
+        program."""
         program = None if unproved else Crashfs.find(given)
         return program or Crashfs.second_reading()
 
@@ -93,9 +95,9 @@ class Crashfs:
 
     @staticmethod
     def find(given: Optional[str]) -> Optional[Crashfs]:
-        """The program that --crashfs names, else that of PATH, else the one that was installed with
-        these tools, or was built here; None if there is none. Refused if --crashfs names no
-        program."""
+        """The program that --crashfs names, unless `given` is None; else that of PATH, else the one
+        that was installed with these tools, or was built here. None if there is none; Refused if
+        --crashfs names no program."""
         if given is not None:
             if shutil.which(given) is None:
                 raise Refused(f'--crashfs {given}: no such program')
@@ -104,8 +106,8 @@ class Crashfs:
         return None if path is None else Crashfs(path)
 
     def for_version(self, version: int) -> Crashfs:
-        """This program; or, if it doesn't read traces of a version, the second reading, which says
-        so by its refused_version."""
+        """This program; or, if it doesn't read traces of a version, the second reading, which has
+        this version as its refused_version. Only versions from NEW_VERSION on are tried."""
         if self.unproved or version < NEW_VERSION or self.reads_version(version):
             return self
         return Crashfs.second_reading(refused_version=version)
@@ -124,15 +126,16 @@ class Crashfs:
 
     @cached_property
     def has_changes(self) -> bool:
-        """Whether the program has `tar --changes`, as its help says."""
+        """Whether the program has `tar --changes`, as its help says; False if it doesn't print
+        help. Asked once."""
         try:
             return '--changes' in self.output_of(['tar', '--help'])
         except ProgramFault:
             return False
 
     def output_of(self, words: List[str], environment: Optional[Dict[str, str]] = None) -> str:
-        """The standard output of a command; ProgramFault if its status isn't 0, or it can't be
-        started."""
+        """What a command prints on standard output. ProgramFault if its status isn't 0, or if it
+        can't be started. Without an environment it has that of this process."""
         child = self.start(words, environment)
         out, error_text = child.communicate()
         if child.returncode != 0:
@@ -140,8 +143,9 @@ class Crashfs:
         return out.decode('utf-8', 'surrogateescape')
 
     def start(self, words: List[str], environment: Optional[Dict[str, str]]) -> RunningProgram:
-        """Starts a command, the second reading without another Python. ProgramFault if it can't be
-        started."""
+        """Starts a command, with pipes as its two outputs and no input. ProgramFault if the program
+        can't be started. The second reading is a fork of this process instead, which takes no
+        environment: OSError if it can't be forked."""
         if os.path.realpath(self.path) == READING:
             return ForkedReading(words)
         try:
@@ -160,9 +164,13 @@ class Crashfs:
     def archive(
         self, words: List[str], environment: Optional[Dict[str, str]] = None
     ) -> Iterator[Iterator[Member]]:
-        """The archive that `crashfs tar` writes, as a stream that is read once, within this. At its
-        end ProgramFault if the program failed, or if what it wrote is no archive. Of the second
-        reading it has no long runs of zeros; the program doesn't know that option yet."""
+        """The entries of the archive that `crashfs tar` writes, as a stream that can be read once,
+        within this. At its end ProgramFault if the program failed, or if what it wrote is no
+        archive. An exception within kills the program, and is raised.
+
+        The second reading writes large files in pieces, without zeros; the program doesn't know
+        that option yet.
+        """
         sparse = ['--sparse'] if self.unproved else []
         child = self.start(['tar', *words, *sparse], environment)
         assert child.stdout is not None and child.stderr is not None
@@ -187,8 +195,8 @@ class Crashfs:
             )
 
     def count_states(self, trace: str, holes: bool = True) -> int:
-        """How many states a trace has: its prefixes, and with `holes` those that lack one operation
-        each. ProgramFault if the program refuses it."""
+        """How many states a trace has: its prefixes, and with `holes` also the holes. ProgramFault
+        if the program refuses the trace, or prints no list."""
         lines = self.output_of(['list', '--trace', trace, *(['--holes'] if holes else [])])
         last = lines.rstrip('\n').rpartition('\n')[2].split(' ')
         # The states are numbered from 0, and the last line is that of the last one.
@@ -197,8 +205,8 @@ class Crashfs:
         return int(last[1]) + 1
 
     def tree(self, trace: str, state: int) -> Entries:
-        """The tree of the state of a number, without the root; ProgramFault if there is no such
-        state."""
+        """The tree of the state with this number, without the root; ProgramFault if there is no
+        such state, or if the program refuses the trace."""
         tree = self.whole_tree(['--trace', trace, '--state', str(state)])
         tree.pop('/', None)
         return tree
@@ -206,15 +214,17 @@ class Crashfs:
     def trees(
         self, words: List[str], environment: Optional[Dict[str, str]] = None
     ) -> Iterator[Tuple[int, Entries]]:
-        """The states that the option `--states` among the words names, in ascending order: of each
-        its number and its tree, with the root. ProgramFault, at the end, if the program refuses
-        them."""
+        """The states that the option `--states` among the words names, in the order of its list, as
+        a stream: of each its number and its tree, with the root. ProgramFault for an entry that is
+        in no state, and, at the end, if the program refuses them. If the stream is closed before
+        its end, the program is killed."""
         with self.archive(words, environment) as archive:
             for top, state in groupby(archive, first_name):
-                yield int(top), {'/' + path[len(top) + 1 :]: entry for path, entry in state}
+                number = number_of_state(top)
+                yield number, {'/' + path[len(top) + 1 :]: entry for path, entry in state}
 
     def whole_tree(self, words: List[str], environment: Optional[Dict[str, str]] = None) -> Entries:
-        """The tree, with the root, of the one state that the options among the words name;
+        """The tree, with the root, of the one state that `--state` among the words names;
         ProgramFault if the program refuses it."""
         with self.archive(words, environment) as archive:
             return {'/' + path: entry for path, entry in archive}
@@ -226,8 +236,9 @@ def first_name(member: Member) -> str:
 
 
 def program_of_tools(tools: str) -> Optional[str]:
-    """The program that goes with the tools of a folder: if that is lib/crashfs of a release, the
-    one in its bin/; else the one that tools/build made here. None if it isn't there."""
+    """The program that goes with the tools in this folder: in a release, whose tools are in
+    lib/crashfs, the one in its bin/; else the one that tools/build made here. None if it isn't
+    there, or may not be executed."""
     folder, name = os.path.split(tools)
     is_release = name == 'crashfs' and os.path.basename(folder) == 'lib'
     path = os.path.join(os.path.dirname(folder), 'bin', 'crashfs') if is_release else BUILT
@@ -236,9 +247,10 @@ def program_of_tools(tools: str) -> Optional[str]:
 
 class ProgramOutput(io.RawIOBase):
     """A program's standard output, as a stream. What it prints as an error is read meanwhile, since
-    the program would wait forever once that pipe is full; error_text has the end of it."""
+    the program would wait forever once that pipe is full; error_text has its last PIECE_BYTES."""
 
     def __init__(self, output: int, errors: int) -> None:
+        """Reads from the descriptors of two pipes, which it doesn't close."""
         super().__init__()
         # The descriptors of the two pipes.
         self.output, self.errors = output, errors
@@ -253,7 +265,8 @@ class ProgramOutput(io.RawIOBase):
         return True
 
     def readinto(self, buffer: Any) -> int:
-        """Reads standard output into a buffer, and returns how many bytes; 0 at its end."""
+        """Waits for standard output, reads it into a buffer, and returns how many bytes it got; 0
+        at its end. What is printed as an error until then goes into error_text."""
         while True:
             ready = {one for one, _ in self.poll.poll()}
             if self.errors in ready:
@@ -262,8 +275,8 @@ class ProgramOutput(io.RawIOBase):
                 return os.readv(self.output, [buffer])
 
     def read_errors(self) -> bool:
-        """Reads a piece of what the program prints as an error, after waiting for it, into
-        error_text; returns False at its end."""
+        """Waits for a piece of what the program prints as an error, and adds it to error_text,
+        which keeps only its end. Returns False at the end of it."""
         piece = os.read(self.errors, PIECE_BYTES)
         self.error_text = (self.error_text + piece)[-PIECE_BYTES:]
         if not piece and not self.errors_ended:
@@ -273,8 +286,8 @@ class ProgramOutput(io.RawIOBase):
 
 
 def read_to_end(child: RunningProgram, streams: ProgramOutput) -> bytes:
-    """Reads the rest of what a program prints, so that it can end, and waits for it. Returns the
-    end of what it printed as an error."""
+    """Reads the rest of what a program prints, so that it can end, closes both pipes, and waits for
+    it: child.returncode is set then. Returns the end of what it printed as an error."""
     assert child.stdout is not None and child.stderr is not None
     while streams.read(PIECE_BYTES):
         pass
@@ -287,12 +300,13 @@ def read_to_end(child: RunningProgram, streams: ProgramOutput) -> bytes:
 
 
 def is_plan_too_large(fault: Exception) -> bool:
-    """Whether a fault says that a trace is too long for one plan."""
+    """Whether a fault of the program or of the second reading says that a trace is too long for one
+    plan."""
     said = fault.text if isinstance(fault, ProgramFault) else str(fault)
     return any(text in said for text in TOO_LARGE)
 
 
 def last_line(output: str) -> str:
-    """The last line of what a program printed; an empty text if it printed nothing."""
+    """The last line of what a program printed that isn't blank; an empty text if there is none."""
     lines = output.strip().splitlines()
     return lines[-1] if lines else ''

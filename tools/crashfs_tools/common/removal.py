@@ -15,8 +15,9 @@ LEFT = '.left'
 
 
 def set_folder_mode(name: str, mode: int, at: Optional[int] = None) -> None:
-    """Sets the mode of a directory. What a link at its place refers to keeps its mode: that is an
-    OSError."""
+    """Sets the mode of a directory, which needn't be readable; its name may be relative to the open
+    directory `at`. OSError if it can't, or if a link is at its place: then what the link refers to
+    keeps its mode."""
     folder = os.open(name, PLACE, dir_fd=at)
     try:
         os.chmod(f'/proc/self/fd/{folder}', mode)
@@ -26,8 +27,13 @@ def set_folder_mode(name: str, mode: int, at: Optional[int] = None) -> None:
 
 def remove_tree(path: str, at: Optional[int] = None, aside: str = '') -> bool:
     """Removes a file, or a directory whatever the modes in it; the path may be relative to the open
-    directory `at`. Returns whether it is gone: what is mounted there, or may not be removed, stays
-    in the directory `aside`, by default PATH + LEFT."""
+    directory `at`. Returns whether it is gone, also if it wasn't there. What is mounted in a
+    directory, or may not be removed from it, is left in the directory `aside`, by default PATH +
+    LEFT; with `at` it must be given.
+
+    `aside` must be on the same file system; what it had before stays in it. OSError if it can't be
+    made.
+    """
     try:
         os.unlink(path, dir_fd=at)
     except FileNotFoundError:
@@ -40,8 +46,9 @@ def remove_tree(path: str, at: Optional[int] = None, aside: str = '') -> bool:
 
 
 def remove_directory(path: str, at: Optional[int], aside: str) -> bool:
-    """Removes a directory, and returns whether it is gone, as remove_tree does. An OSError comes
-    only if `aside` can't be made."""
+    """Removes a directory, and returns whether it is gone from its path; an empty one is just
+    removed. What can't be removed is left in `aside`, which is else removed too, unless it had
+    something before. OSError as remove_tree()."""
     if remove_if_empty(path, at):
         return True
     if not os.path.isdir(aside):
@@ -52,12 +59,13 @@ def remove_directory(path: str, at: Optional[int], aside: str) -> bool:
     finally:
         os.close(file)
     if is_gone:
-        os.rmdir(aside)
+        remove_if_empty(aside, None)
     return is_gone
 
 
 def remove_if_empty(path: str, at: Optional[int]) -> bool:
-    """Removes a directory if it is empty; returns whether it is removed."""
+    """Removes a directory if it is empty. Returns whether it is removed: False also if it may not
+    be, or isn't there."""
     try:
         os.rmdir(path, dir_fd=at)
     except OSError:
@@ -66,8 +74,8 @@ def remove_if_empty(path: str, at: Optional[int]) -> bool:
 
 
 def make_aside(aside: str, path: str, at: Optional[int]) -> None:
-    """Makes the directory `aside`. If the disk has no place for it, the first thing that can be
-    removed from PATH gives its own."""
+    """Makes the directory `aside`. If the disk has no room for it, one file or empty directory in
+    PATH is removed first. OSError if it still can't be made."""
     try:
         os.mkdir(aside, OPEN_MODE)
     except OSError as error:
@@ -79,7 +87,8 @@ def make_aside(aside: str, path: str, at: Optional[int]) -> None:
 
 def remove_one(path: str, at: Optional[int]) -> None:
     """Removes one file or empty directory that is in a directory, at any depth, but nothing that is
-    mounted there."""
+    mounted there; nothing if there is none. Only the first entry of each directory is looked at.
+    OSError if it may not be removed."""
     directory = os.open(path, FOLDER, dir_fd=at)
     device = os.fstat(directory).st_dev
     try:
@@ -94,8 +103,9 @@ def remove_one(path: str, at: Optional[int]) -> None:
 
 
 def remove_first_entry(directory: int) -> Optional[int]:
-    """Removes the first entry of a directory, and returns None; if that entry is a directory that
-    isn't empty, it stays, and is returned as a descriptor. None, too, if there is no entry."""
+    """Removes the first entry of an open directory, and returns None, also if there is no entry. If
+    the entry is a directory that can't be removed, as one that isn't empty, it is returned as an
+    open descriptor, which the caller closes. OSError for a file that can't be removed."""
     with os.scandir(directory) as entries:
         entry = next(entries, None)
         is_directory = entry is not None and entry.is_dir(follow_symlinks=False)
@@ -110,9 +120,9 @@ def remove_first_entry(directory: int) -> Optional[int]:
 
 
 class Removal:
-    """Moves each directory to one that is aside before it is emptied, so that no path has more than
-    two names. The system moves no mount point, and nothing to another file system: what is behind a
-    mount is never reached."""
+    """Moves each directory to an open one, `aside`, before it is emptied, so that no path has more
+    than two names. The system moves no mount point, and nothing to another file system: what is
+    mounted in a directory is never reached."""
 
     def __init__(self, aside: int) -> None:
         self.aside = aside
@@ -121,8 +131,9 @@ class Removal:
         self.waiting: List[str] = []
 
     def remove(self, path: str, at: Optional[int]) -> bool:
-        """Removes a directory as far as it can; returns whether it is gone from its path. What may
-        not be removed stays aside."""
+        """Removes a directory as far as it can. Returns whether it is gone with all that was in it;
+        what may not be removed stays in `aside`, or, if it can't be moved, at its path. It raises
+        no OSError."""
         is_gone = self.move_aside(path, at)
         while self.waiting:
             name = self.waiting.pop()
@@ -134,7 +145,8 @@ class Removal:
         return is_gone
 
     def move_aside(self, name: str, at: Optional[int]) -> bool:
-        """Moves a directory aside under a name that is new; returns whether it may be moved."""
+        """Moves a directory to `aside` under a new name, and notes it to be removed. Returns False
+        if it may not be moved; then it stays."""
         moved = f'{self.mark}-{self.count}'
         self.count += 1
         try:
@@ -149,7 +161,9 @@ class Removal:
         return True
 
     def empty_directory(self, name: str) -> None:
-        """Removes the files of a directory, and moves its directories aside."""
+        """Removes the files of a directory in `aside`, and moves its directories to `aside`; one
+        that can't be moved stays. OSError for a file that can't be removed: then the rest stays
+        too."""
         directory = self.open_aside(name)
         try:
             with os.scandir(directory) as entries:
@@ -163,7 +177,8 @@ class Removal:
             os.close(directory)
 
     def open_aside(self, name: str) -> int:
-        """Opens a directory that is aside, and gives it the rights that removals need."""
+        """Opens a directory in `aside`, and gives its owner all rights. OSError if it can't. The
+        caller closes it."""
         try:
             directory = os.open(name, FOLDER, dir_fd=self.aside)
         except PermissionError:

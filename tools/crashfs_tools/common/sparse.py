@@ -22,8 +22,8 @@ Content = Union[bytes, bytearray, 'SparseBytes']
 
 
 class SparseBytes:
-    """Bytes that are changed in place. pages has those that may have other bytes than zeros, by
-    their numbers, each of PAGE_BYTES."""
+    """Bytes that are changed in place. pages has, by their numbers, those that may have other bytes
+    than zeros, each of PAGE_BYTES; after `length` they have zeros only."""
 
     __slots__ = ('length', 'pages')
 
@@ -35,13 +35,13 @@ class SparseBytes:
 
     @staticmethod
     def copy_of(data: Content) -> SparseBytes:
-        """A copy of bytes, in this form."""
+        """A copy of bytes of any form, in this form."""
         if isinstance(data, SparseBytes):
             return data.copy()
         return SparseBytes(len(data), [(0, bytes(data))])
 
     def copy(self) -> SparseBytes:
-        """A copy that changes by itself."""
+        """A copy: changes of one don't change the other."""
         made = SparseBytes(self.length)
         made.pages = {number: page.copy() for number, page in self.pages.items()}
         return made
@@ -57,6 +57,8 @@ class SparseBytes:
         return self.read(begin, end - begin)
 
     def __eq__(self, other: object) -> bool:
+        """Whether the bytes are equal, also to bytes of another form; which pages are kept makes no
+        difference."""
         if isinstance(other, SparseBytes):
             return self.length == other.length and dict(self.data_pages()) == dict(
                 other.data_pages()
@@ -74,7 +76,8 @@ class SparseBytes:
                 yield number, bytes(page)
 
     def read(self, at: int, count: int) -> bytes:
-        """So many bytes from a place on; fewer if the end comes before."""
+        """The next `count` bytes from an offset; fewer if the end comes before, and none if the
+        offset is past it."""
         end = min(at + count, self.length)
         found = []
         while at < end:
@@ -85,7 +88,8 @@ class SparseBytes:
         return b''.join(found)
 
     def write(self, at: int, data: Union[bytes, bytearray]) -> None:
-        """Puts bytes at a place; zeros come before it if it is past the end."""
+        """Puts bytes at an offset; they grow if this ends past their end, with zeros before it.
+        Zeros make no new pages."""
         self.length = max(self.length, at + len(data))
         begin = 0
         while begin < len(data):
@@ -99,7 +103,8 @@ class SparseBytes:
                 self.pages[number][first : first + len(piece)] = piece
 
     def clear(self, begin: int, end: int) -> None:
-        """Makes the bytes of a range zeros; whole pages take no memory from then on."""
+        """Makes the bytes from offset `begin` to before `end` zeros; pages that are wholly among
+        them take no memory from then on. The length stays."""
         end = min(end, self.length)
         first, last = begin // PAGE_BYTES, -(-end // PAGE_BYTES)
         numbers: Iterable[int] = range(first, last)
@@ -117,7 +122,8 @@ class SparseBytes:
                 page[start - base : stop - base] = bytes(stop - start)
 
     def data_ranges(self, begin: int, end: int) -> List[Tuple[int, int]]:
-        """The parts of a range, each by its two ends, whose pages aren't all zeros; ascending."""
+        """The parts of a range whose pages aren't all zeros, each by its two ends, ascending.
+        Neighbours may be apart: no part is longer than PART_BYTES."""
         found = []
         for at, run in list(self.page_runs()):
             first, last = max(begin, at), min(end, at + len(run))
@@ -126,19 +132,20 @@ class SparseBytes:
         return found
 
     def resize(self, length: int) -> None:
-        """Cuts the bytes, or adds zeros."""
+        """Cuts the bytes, or adds zeros. Bytes that were cut don't come back."""
         if length < self.length:
             self.clear(length, self.length + PAGE_BYTES)
         self.length = length
 
     def parts(self) -> List[Part]:
-        """What isn't zero, as pieces, each after its place, ascending. A part begins and ends with
-        other bytes than zeros, has no long run of zeros, and is text if it is long enough."""
+        """What isn't zero, as pieces, each after its offset, ascending. A part begins and ends with
+        other bytes than zeros, and has no GAP_BYTES zeros together; a long text is a part by
+        itself."""
         return [part for begin, run in self.page_runs() for part in parts_of(begin, run)]
 
     def page_runs(self) -> Iterator[Part]:
-        """The pages that aren't all zeros, each after its place, ascending; neighbours are joined
-        up to PART_BYTES."""
+        """The pages that aren't all zeros, each after its offset, ascending; neighbours are joined
+        up to PART_BYTES. The last page ends at the length."""
         begin = 0
         pages: List[bytes] = []
         for number, page in sorted(self.data_pages()):
@@ -154,7 +161,7 @@ class SparseBytes:
 
 
 def parts_of(begin: int, data: bytes) -> Iterator[Part]:
-    """The parts, as SparseBytes.parts has them, of some bytes that are at a place."""
+    """The parts, as SparseBytes.parts() has them, of bytes at offset `begin` of a file."""
     at = 0
     for gap in GAP.finditer(data):
         yield from without_edge_zeros(begin + at, data[at : gap.start()])
@@ -163,8 +170,8 @@ def parts_of(begin: int, data: bytes) -> Iterator[Part]:
 
 
 def without_edge_zeros(at: int, data: bytes) -> Iterator[Part]:
-    """The bytes at a place without zeros at their edges, in parts: each long text is one. None if
-    all are zeros."""
+    """The bytes at an offset without zeros at their edges, in parts, each after its offset: each
+    long text is one. None if all are zeros."""
     left = data.strip(b'\0')
     at, end = at + len(data) - len(data.lstrip(b'\0')), 0
     for text in TEXT.finditer(left):
@@ -178,7 +185,7 @@ def without_edge_zeros(at: int, data: bytes) -> Iterator[Part]:
 
 def first_difference(one: Content, other: Content) -> int:
     """The offset at which two files begin to differ: the length of the shorter one if the other
-    begins with it."""
+    begins with it, and so the length of both if they are equal."""
     length = min(len(one), len(other))
     for begin in pages_to_compare(one, other, length):
         pieces = [bytes(data[begin : min(begin + PAGE_BYTES, length)]) for data in (one, other)]
@@ -189,7 +196,8 @@ def first_difference(one: Content, other: Content) -> int:
 
 
 def pages_to_compare(one: Content, other: Content, length: int) -> Iterable[int]:
-    """The offsets of the pages, up to a length, in which two files can differ."""
+    """The offsets of the pages, up to a length, in which two files can differ; ascending. If both
+    are SparseBytes, pages that neither has are left out."""
     if isinstance(one, SparseBytes) and isinstance(other, SparseBytes):
         begins = (page * PAGE_BYTES for page in sorted(one.pages.keys() | other.pages.keys()))
         return (begin for begin in begins if begin < length)
@@ -197,7 +205,8 @@ def pages_to_compare(one: Content, other: Content, length: int) -> Iterable[int]
 
 
 def has_many_zeros(data: Union[bytes, bytearray]) -> bool:
-    """Whether at least half of the pages of a large file are zeros."""
+    """Whether at least half of the pages of a file are zeros. False for one of less than
+    LARGE_BYTES."""
     if len(data) < LARGE_BYTES:
         return False
     pages = range(0, len(data), PAGE_BYTES)

@@ -20,7 +20,7 @@ WRITTEN_VERSION = 3
 
 
 class TraceError(Refused):
-    """A text that is no trace."""
+    """A text that is no trace, or not one of its version."""
 
 
 @dataclass(frozen=True)
@@ -35,7 +35,8 @@ class Header:
 @dataclass(frozen=True)
 class Start:
     """A directory (data is None) or file of the start tree. The order of the fields here and below
-    is that of the keys in a trace. Version 4 writes SparseBytes in parts."""
+    is that of the keys in a trace. Version 4 writes SparseBytes in parts; earlier ones write them
+    whole."""
 
     path: str
     owner: str
@@ -98,7 +99,7 @@ class Rmdir:
 
 @dataclass(frozen=True)
 class Rename:
-    """A name becomes another, also in the place of what has that."""
+    """What is at a path gets another path, and replaces what is there."""
 
     source: str
     target: str
@@ -192,8 +193,9 @@ class Say:
 
     @staticmethod
     def from_line(line: bytes) -> Say:
-        """A line that was acknowledged, as far as a trace can have it: its first SAY_BYTES bytes,
-        with a sign in the place of what is no UTF-8."""
+        """The Say of a line that a program printed, as far as a trace can have it: at most its
+        first SAY_BYTES bytes, with a replacement character for bytes that aren't UTF-8. A character
+        that would be cut is left out."""
         text = line.decode('utf-8', 'replace').encode()[: limits.SAY_BYTES]
         return Say(text.decode('utf-8', 'ignore'))
 
@@ -252,8 +254,9 @@ BLANKS = ' \t\r\n'
 
 @dataclass
 class Trace:
-    """A whole trace. One of version 1 has no profile: its directory operations are in no order
-    but that of `blocks`. notes has the texts of lines by the operation's place, from 0."""
+    """A whole trace. One of version 1 has no profile: its directory operations are ordered as in
+    `blocks`. notes has the notes of operations, by their places from 0; only lines of version 3 and
+    later have them. What an operation needs isn't checked here."""
 
     header: Header
     start: List[StartLine] = field(default_factory=list)
@@ -268,7 +271,9 @@ class Trace:
         return SINCE.get(kind, 1) <= self.version
 
     def lines(self) -> Iterator[str]:
-        """The lines of the trace as text, each without its line feed."""
+        """The lines of the trace as text, the header first, each without its line feed. KeyError
+        for an operation of an unknown class; whether its version has each line isn't checked, see
+        has_kind()."""
         yield as_json({**self.version_values(), **values_of(self.header)})
         for entry in self.start:
             yield start_line(entry, self.version)
@@ -285,8 +290,9 @@ class Trace:
         return values
 
     def operation_values(self, place: int, operation: Operation) -> Dict[str, Any]:
-        """The keys and values of the line of the operation at a place, from 0. A version without
-        fdatasync has a sync of the bytes of the whole file."""
+        """The keys and values of the line of the operation at a place, from 0. In versions without
+        fdatasync, that is written as a sync of the bytes of the whole file; versions before 3 leave
+        notes out."""
         if self.version < SINCE[Fdatasync] and isinstance(operation, Fdatasync):
             operation = FsyncRange(operation.path, 0, limits.FILE_BYTES)
         values = {'op': KIND_OF[type(operation)], **values_of(operation, self.version)}
@@ -300,7 +306,8 @@ class Trace:
 
 
 def start_line(entry: StartLine, version: int) -> str:
-    """An entry of the start tree as a line of a trace of this version."""
+    """An entry of the start tree as a line of a trace of this version, without its line feed. In
+    version 4 a file is in parts if that is shorter."""
     values = values_of(in_parts_if_shorter(entry) if version >= 4 else entry, version)
     if isinstance(entry, StartLink):
         return as_json({'start': 'link', **values})
@@ -312,7 +319,8 @@ def start_line(entry: StartLine, version: int) -> str:
 
 
 def in_parts_if_shorter(entry: StartLine) -> StartLine:
-    """An entry of the start tree that is written in parts, if that is shorter; else itself."""
+    """An entry of the start tree, with its bytes as SparseBytes if it is a file that takes less
+    room in parts; else itself. Text that people can read is never in parts."""
     if not isinstance(entry, Start) or not isinstance(entry.data, bytes):
         return entry
     if len(entry.data) < LEAST_BYTES_IN_PARTS or readable_text(entry.data):
@@ -327,7 +335,8 @@ DIRECTORY_KEYS = ('path', 'owner', 'group', 'mode')
 
 def values_of(item: Any, version: int = 1) -> Dict[str, Any]:
     """The keys and values of a line of a trace of this version, from an operation, a start line or
-    a header. Their order, and their names but for KEYS, are those of its fields."""
+    a header, but without the key that says what it is. Their order, and their names except for
+    KEYS, are those of its fields."""
     values: Dict[str, Any] = {}
     for part in dataclasses.fields(item):
         value = getattr(item, part.name)
@@ -340,8 +349,9 @@ def values_of(item: Any, version: int = 1) -> Dict[str, Any]:
 
 
 def bytes_value(data: Union[bytes, SparseBytes], version: int) -> Dict[str, Any]:
-    """Bytes as a line of this version has them: as `text` if people can read it, else as `bytes`,
-    by numbers; of SparseBytes `length` and `parts`, if the version has those."""
+    """Bytes as a line of this version has them: since version 3 as `text` if people can read it;
+    else as `bytes`, in hexadecimal digits, as empty ones always are. SparseBytes are `length` and
+    `parts` since version 4."""
     if isinstance(data, SparseBytes):
         if version >= 4:
             parts = [{'at': at, **bytes_value(part, version)} for at, part in data.parts()]
@@ -355,7 +365,8 @@ def bytes_value(data: Union[bytes, SparseBytes], version: int) -> Dict[str, Any]
 
 
 def readable_text(data: bytes) -> str:
-    """Bytes as a text that people can read; an empty text if they aren't one."""
+    """Bytes as a text that people can read, of printable characters and line feeds; an empty text
+    if they aren't one, or are none."""
     try:
         text = data.decode('utf-8')
     except UnicodeDecodeError:
@@ -369,15 +380,17 @@ def as_json(fields: Dict[str, Any]) -> str:
 
 
 def fields_of_line(number: int, line: str) -> Any:
-    """What the line with this number has as JSON, of any type; TraceError if it is no JSON."""
+    """What the line with this number has as JSON, of any type. TraceError, with the number, if it
+    is no JSON, or has more levels than Python reads."""
     try:
         return json.loads(line)
-    except ValueError as error:
+    except (ValueError, RecursionError) as error:
         raise TraceError(f'line {number} is no line of a trace ({error})') from error
 
 
 def fields_of_lines(lines: Iterable[str]) -> Iterator[Tuple[int, Any]]:
-    """The number and the fields of each line that isn't empty; TraceError if it is no JSON."""
+    """The number, from 1, and the fields of each line that isn't empty, as they are read; the
+    fields may be of any type. TraceError, in its turn, for one that is no JSON."""
     for number, line in enumerate(lines, 1):
         if line.strip(BLANKS):
             yield number, fields_of_line(number, line)

@@ -1,5 +1,5 @@
 """The lines of a trace that `crashfs` has accepted, each read once: in words, as reports show them,
-with the sync that makes each durable; and traces that differ in some lines."""
+with the sync that makes each durable. And traces with more or fewer lines."""
 
 from __future__ import annotations
 
@@ -35,7 +35,7 @@ RANDOM = [
 
 
 def without_numbers(text: str) -> str:
-    """A name or a cause with `#` in the place of each number and random part (RANDOM)."""
+    """A name, or the cause of a failure, with `#` for each number and random part (RANDOM)."""
     for form in RANDOM:
         text = form.sub('#', text)
     return text
@@ -43,7 +43,7 @@ def without_numbers(text: str) -> str:
 
 class TraceLine(NamedTuple):
     """A line of an operation. path is its first path, target the second one of a rename or link;
-    details are what else it says, but for the bytes."""
+    details are what else it has, except the bytes. What a line lacks is empty."""
 
     number: int
     word: str
@@ -54,7 +54,7 @@ class TraceLine(NamedTuple):
 
     @property
     def text(self) -> str:
-        """The line in words, as `write /f, 5 bytes at 0`."""
+        """The line in words, as `write /f, 5 bytes at 0`; without its number and its note."""
         if self.word == 'say':
             return f'say "{self.details}"'
         words = [self.word, self.path, f'to {self.target}' if self.target else '']
@@ -63,13 +63,13 @@ class TraceLine(NamedTuple):
 
     @property
     def statement(self) -> str:
-        """The same for all lines that one statement of a program makes: the word and the paths,
-        without numbers and random parts."""
+        """A text that is equal for all lines that one statement of a program makes: the word and
+        the paths, without numbers and random parts."""
         return ' '.join([self.word, without_numbers(self.path), without_numbers(self.target)])
 
     def is_apart_from(self, other: TraceLine) -> bool:
         """Whether no path of one line is, or is below, a path of the other: then a program may
-        change their order."""
+        change their order. A line without a path, such as a sync, is apart from all."""
         return not any(
             one.startswith(two) or two.startswith(one)
             for one in self.paths_with_slash
@@ -78,19 +78,23 @@ class TraceLine(NamedTuple):
 
     @property
     def paths_with_slash(self) -> List[str]:
-        """The one or two paths of the line, each with a slash at its end."""
+        """The paths of the line, each with a slash at its end; two of a rename or link, none of a
+        sync or say."""
         return [path.rstrip('/') + '/' for path in (self.path, self.target) if path]
 
     def takes_path(self, path: str) -> bool:
-        """Whether a path doesn't name the same file, or directory, after this line as before it:
-        the line renames or removes that or a directory above it, or renames another to the path."""
+        """Whether a path may name another file or directory, or none, after this line: the line
+        renames or removes what is there or a directory above it, or renames something else to it. A
+        rename of something to itself doesn't."""
         if self.word not in PATH_CHANGES or self.path == self.target:
             return False
         return self.target == path or f'{path}/'.startswith(f'{self.path}/')
 
     @property
     def synced_by(self) -> Optional[str]:
-        """The path whose fsync makes the line durable; None for a line that no fsync does."""
+        """The path whose fsync makes the line durable: its own if it changes a file or directory,
+        else the parent of the entry that it makes or removes; of a rename or link that of the new
+        one. None if no fsync does, as for a sync or say."""
         if self.word in CHANGES:
             return self.path
         if self.word in ENTRY_CHANGES:
@@ -99,7 +103,8 @@ class TraceLine(NamedTuple):
 
 
 def line_in_words(number: int, fields: Dict[str, Any]) -> TraceLine:
-    """The line of an operation in words, from its number and its fields."""
+    """The line of an operation as a TraceLine, from its number and its fields. KeyError if it lacks
+    a key that its operation has."""
     path = fields.get('path', fields.get('from', ''))
     return TraceLine(
         number,
@@ -112,8 +117,8 @@ def line_in_words(number: int, fields: Dict[str, Any]) -> TraceLine:
 
 
 def details_of(fields: Dict[str, Any]) -> str:
-    """What the fields of an operation say in addition to its paths, but no bytes; empty if there
-    is no more."""
+    """What the fields of an operation have in addition to its paths, in words: a say's text, cut to
+    LARGEST_SAY letters, and of a write only how many bytes. Empty if there is no more."""
     if fields['op'] == 'say':
         text: str = fields['text']
         return text if len(text) <= LARGEST_SAY else f'{text[:LARGEST_SAY]}..'
@@ -136,8 +141,8 @@ def details_of(fields: Dict[str, Any]) -> str:
 
 
 class TraceText(NamedTuple):
-    """What reports need of a trace that `crashfs` has accepted: the operations in words, by the
-    numbers of their lines, and the acknowledged texts."""
+    """What reports need of a trace that `crashfs` has accepted: its operations, by the numbers of
+    their lines, and the acknowledged texts, whole and in their order."""
 
     operations: Dict[int, TraceLine]
     acknowledged: List[str]
@@ -145,7 +150,7 @@ class TraceText(NamedTuple):
 
 def read_text(text: str) -> TraceText:
     """The operations and acknowledged texts of a trace that `crashfs` has accepted, of any version.
-    Of others TraceError, KeyError or TypeError may come."""
+    For others it may raise TraceError, KeyError or TypeError."""
     operations: Dict[int, TraceLine] = {}
     acknowledged: List[str] = []
     for number, fields in fields_of_lines(text.split('\n')):
@@ -157,8 +162,8 @@ def read_text(text: str) -> TraceText:
 
 
 def trace_version(text: str) -> int:
-    """The version that a trace's header gives; 0 if there is no header, or its version is no
-    number."""
+    """The version that a trace's header gives, known or not; 0 if there is no header, or if its
+    version is no whole number. Nothing after the header is read."""
     try:
         _, header = next(fields_of_lines(StringIO(text)))
         version = header['trace']
@@ -168,15 +173,16 @@ def trace_version(text: str) -> int:
 
 
 def root_owner(lines: Iterable[str]) -> str:
-    """The owner of the root, from the lines of a trace that `crashfs` has accepted: the first one
-    is its header."""
+    """The owner of the root, from the lines of a trace that `crashfs` has accepted: of them only
+    the header is read."""
     _, header = next(fields_of_lines(lines))
     return str(header['owner'])
 
 
 def with_syncs(text: str, points: Iterable[Tuple[int, str]]) -> str:
-    """The text of a trace with more syncs: each of the points is a line's number, and the path of
-    an fsync that comes after it."""
+    """The text of a trace with more syncs. Each of the points is the number of a line, and the path
+    of an fsync that comes after it; those after one line are in the order of their paths. The
+    numbers are those before any is added."""
     paths: Dict[int, List[str]] = {}
     for number, path in sorted(points):
         paths.setdefault(number, []).append(path)
@@ -188,15 +194,17 @@ def with_syncs(text: str, points: Iterable[Tuple[int, str]]) -> str:
 
 
 def without_says(text: str) -> str:
-    """The text of a trace without its acknowledged lines. TraceError if a line is no JSON."""
+    """The text of a trace without its acknowledged lines. TraceError if a line is no JSON. If
+    nothing is left out, it is the same text."""
     lines = text.split('\n')
     says = {number for number, fields in fields_of_lines(lines) if fields.get('op') == 'say'}
     return '\n'.join(line for number, line in enumerate(lines, 1) if number not in says)
 
 
 def is_large_trace(lines: Iterable[str], most_entries: int, most_bytes: int) -> bool:
-    """Whether a trace has at least so many start lines, or so many bytes in its lines and in the
-    lengths that truncates set. TraceError if a line is no JSON."""
+    """Whether a trace has at least `most_entries` start lines, or `most_bytes` bytes in its lines
+    and in the lengths that truncates set. No line is read after that is known. TraceError if a line
+    before is no JSON."""
     entries = size = 0
     for number, line in enumerate(lines, 1):
         fields = fields_of_line(number, line) if line.strip(BLANKS) else {}

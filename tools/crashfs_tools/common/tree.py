@@ -32,9 +32,12 @@ from .trace import (
     Write,
 )
 
+ROOT_FAULT = '/ is the root'
+
 
 def path_fault(path: str) -> Optional[str]:
-    """Why a trace can't have this path, in words, or None."""
+    """Why a trace can't have this path, in words, or None if it can. Whether something is there
+    isn't looked at."""
     names = path.split('/')[1:]
     if len(names) > limits.PATH_NAMES:
         return f'a path of more than {limits.PATH_NAMES} names'
@@ -46,9 +49,10 @@ def path_fault(path: str) -> Optional[str]:
 
 
 class Tree:
-    """The entries by path. files has the number of the file or directory at each path: all paths
-    of a file have its number, and share its entry. micro_operations counts what `crashfs` makes of
-    the operations. version may change from 3 to 4."""
+    """The entries by path. files has the number of the file, link or directory at each path: all
+    paths of a file have its number, and share its entry. records counts what was ever made or
+    linked, the root too. micro_operations counts what `crashfs` makes of the operations. version
+    may change from 3 to 4."""
 
     def __init__(
         self,
@@ -59,6 +63,8 @@ class Tree:
         version: int = 3,
         profile: str = BLOCKS,
     ) -> None:
+        """A tree that has only the root, with these rights, in a trace of this version, profile and
+        size of blocks."""
         self.entries: Entries = {'/': Entry(owner, group, mode, None)}
         self.files: Dict[str, int] = {'/': 0}
         self.records = 1
@@ -70,11 +76,13 @@ class Tree:
 
     @property
     def micro_operations(self) -> int:
-        """How many micro-operations the operations are in the tree's version."""
+        """How many micro-operations the applied operations have in the tree's version, as it is
+        now."""
         return self.steps_of_all + (self.steps_of_version_4 if self.version >= 4 else 0)
 
     def add_start(self, entry: StartLine) -> None:
-        """Adds the file, directory or link of a start line, whose parent must be there."""
+        """Adds the file, directory or link of a start line. Nothing is checked: its parent must be
+        there, its path free, and KeyError comes if the source of a link is missing."""
         if isinstance(entry, StartLink):
             self.add_link(entry.source, entry.path)
         elif isinstance(entry, StartSymlink):
@@ -84,19 +92,22 @@ class Tree:
             self.add_new(entry.path, Entry(entry.owner, entry.group, entry.mode, data))
 
     def add_new(self, path: str, entry: Entry) -> None:
-        """Adds a new file, directory or symbolic link."""
+        """Adds a new file, directory or symbolic link, with the next number. Its path must be
+        free."""
         self.entries[path], self.files[path] = entry, self.records
         self.records += 1
 
     def add_link(self, source: str, target: str) -> None:
-        """Gives a file another path, which must be free."""
+        """Gives the file at `source` another path, which must be free; KeyError if `source` isn't
+        there."""
         self.entries[target], self.files[target] = self.entries[source], self.files[source]
         self.records += 1
 
     # What an operation needs
 
     def fault(self, operation: Operation) -> Optional[str]:
-        """Why the trace can't have this operation here, in words, or None."""
+        """Why the trace can't have this operation here, in words, or None if it can. Nothing is
+        changed. A say or a sync is always possible: the bytes of a say aren't counted."""
         if isinstance(operation, (Creat, Mkdir, Symlink)):
             return self.new_fault(operation.path)
         if isinstance(operation, Rename):
@@ -114,7 +125,8 @@ class Tree:
         return None
 
     def new_fault(self, path: str) -> Optional[str]:
-        """Why nothing can be made at a path; None, here and below, if it can."""
+        """Why nothing can be made at a path, by its parent, its names or the count of records;
+        None, here and below, if it can."""
         parent = self.entries.get(parent_of(path))
         if parent is None or not parent.is_directory:
             return f'{parent_of(path)} is no directory of the trace'
@@ -125,7 +137,7 @@ class Tree:
         return path_fault(path)
 
     def unlink_fault(self, path: str) -> Optional[str]:
-        """Why a path can't be unlinked: nothing is there, or a directory."""
+        """Why a path can't be unlinked, as nothing or a directory is there; None if it can."""
         entry = self.entries.get(path)
         if entry is None:
             return f'{path} is not there'
@@ -136,19 +148,21 @@ class Tree:
         return self.unlink_fault(path) or self.link_fault(path)
 
     def rights_fault(self, operation: Union[Chmod, Chown, Fsync]) -> Optional[str]:
-        """Why an operation can't change or sync the rights of its path; None if it can."""
+        """Why an operation can't be on its path, which must be there; of these three only a chown
+        may be on a symbolic link. None if it can."""
         if operation.path not in self.entries:
             return f'{operation.path} is not there'
         return None if isinstance(operation, Chown) else self.link_fault(operation.path)
 
     def link_fault(self, path: str) -> Optional[str]:
-        """Why an operation that follows symbolic links can't be on a path that is there: one is
-        there. None if it can."""
+        """Why an operation that follows symbolic links can't be on a path: one is there. None if
+        another entry is. KeyError if there is none."""
         is_link = self.entries[path].link is not None
         return f'{path} is a symbolic link' if is_link else None
 
     def rename_fault(self, operation: Rename) -> Optional[str]:
-        """Why the trace can't have a rename here; None if it can."""
+        """Why the trace can't have a rename here; None if it can, also for one that does
+        nothing."""
         source, target = operation.source, operation.target
         moved, replaced = self.entries.get(source), self.entries.get(target)
         parent = self.entries.get(parent_of(target))
@@ -164,9 +178,13 @@ class Tree:
         return fault or self.records_fault(operation) or path_fault(target)
 
     def directory_fault(self, source: str, target: str) -> Optional[str]:
-        """Why a directory can't be renamed from `source` to `target`; None if it can."""
+        """Why a directory can't be renamed from `source` to `target`; None if it can. Before
+        version 4 none can, and never the root. It may replace an empty directory, or be renamed to
+        itself."""
         if self.version < 4:
             return f'{source} is a directory'
+        if source == '/':
+            return ROOT_FAULT
         if target == source or target not in self.entries:
             return f'{target} is below {source}' if target.startswith(source + '/') else None
         if target.startswith(source + '/'):
@@ -174,22 +192,25 @@ class Tree:
         return self.rmdir_fault(target)
 
     def records_fault(self, operation: Rename) -> Optional[str]:
-        """Why there is no room for a rename, which counts as a record if it goes into another
-        directory; None if there is."""
+        """Why there is no room for a rename; None if there is. In version 4 one into another
+        directory counts as a record."""
         is_counted = self.version >= 4 and self.changes_directory(operation)
         if is_counted and self.records >= limits.RECORDS:
             return f'more than {limits.RECORDS} files and directories'
         return None
 
     def changes_directory(self, operation: Rename) -> bool:
-        """Whether a rename moves something into another directory; onto the same file it moves
-        nothing."""
+        """Whether a rename moves something into another directory; onto another path of the same
+        file it moves nothing. KeyError if nothing is at its source."""
         source, target = operation.source, operation.target
         is_nothing = self.files[source] == self.files.get(target)
         return parent_of(source) != parent_of(target) and not is_nothing
 
     def rmdir_fault(self, path: str) -> Optional[str]:
-        """Why a path isn't that of an empty directory; None if it is."""
+        """Why a path isn't that of an empty directory that may be removed, as the root may not;
+        None if it is."""
+        if path == '/':
+            return ROOT_FAULT
         entry = self.entries.get(path)
         if entry is None or not entry.is_directory:
             return f'{path} is no directory of the trace'
@@ -198,7 +219,8 @@ class Tree:
         return f'{path} has entries' if full else None
 
     def size_fault(self, operation: Operation) -> Optional[str]:
-        """Why a file can't get the size that an operation gives it; None if it can."""
+        """Why a file can't get the size that a write or truncate gives it; None if it can. A write
+        of no bytes gives it none, wherever it is."""
         end, most = 0, limits.most_file_bytes(self.version)
         if isinstance(operation, Write):
             end = operation.offset + len(operation.data) if operation.data else 0
@@ -209,7 +231,8 @@ class Tree:
     # What an operation does
 
     def apply(self, operation: Operation) -> None:
-        """Does an operation, for which fault() must be None, and counts its micro-operations."""
+        """Does an operation, for which fault() must be None, and counts its micro-operations. A
+        sync does nothing."""
         if isinstance(operation, (Creat, Mkdir)):
             data = b'' if isinstance(operation, Creat) else None
             entry = Entry(operation.owner, operation.group, operation.mode, data)
@@ -225,8 +248,8 @@ class Tree:
         self.steps_of_all += self.apply_in_place(operation)
 
     def apply_rename(self, operation: Rename) -> None:
-        """Renames, with what is below a directory. A rename onto another path of the same file, or
-        of a directory onto itself, does nothing."""
+        """Renames, with all that is below a directory, and replaces what is at the target. One onto
+        another path of the same file, or of a directory onto itself, does nothing."""
         source, target = operation.source, operation.target
         if self.files[source] == self.files.get(target):
             return
@@ -243,8 +266,9 @@ class Tree:
         self.steps_of_all += 1
 
     def apply_in_place(self, operation: Operation) -> int:
-        """Changes bytes, length or rights as an operation does that changes no names. Returns how
-        many micro-operations the operation has in all versions, but for a rename."""
+        """Changes bytes, length or rights, for an operation that does so; for others nothing.
+        Returns how many micro-operations the operation has in all versions, but 0 for a rename.
+        Those that only version 4 has are counted in steps_of_version_4."""
         if isinstance(operation, Write):
             return self.apply_write(operation)
         if isinstance(operation, Truncate):
@@ -254,7 +278,8 @@ class Tree:
         return int(isinstance(operation, (Creat, Mkdir, Symlink, Unlink, Rmdir, Link, Say)))
 
     def apply_write(self, operation: Write) -> int:
-        """Writes bytes, and returns how many micro-operations that is in all versions."""
+        """Writes bytes, and returns how many micro-operations that is in all versions; 0 if there
+        are none. The one that only version 4 has is counted in steps_of_version_4."""
         entry = self.entries[operation.path]
         size = len(entry.data or b'')
         if not operation.data:
@@ -265,7 +290,8 @@ class Tree:
         return int(end > size) + self.count_blocks(operation.offset, end)
 
     def apply_truncate(self, operation: Truncate) -> int:
-        """Sets a length, and returns how many micro-operations that is in all versions."""
+        """Sets a length, and returns how many micro-operations that is in all versions; 0 if the
+        file has it. The zeros that only version 4 has are counted in steps_of_version_4."""
         entry, length = self.entries[operation.path], operation.length
         size = len(entry.data or b'')
         entry.resize(length)
@@ -275,12 +301,13 @@ class Tree:
         return int(size != length)
 
     def count_blocks(self, begin: int, end: int) -> int:
-        """How many blocks have bytes of a range that isn't empty."""
+        """How many blocks have bytes of a range, from offset `begin` to before `end`; it must not
+        be empty."""
         return (end - 1) // self.block - begin // self.block + 1
 
     def set_rights(self, operation: Union[Chmod, Chown]) -> int:
-        """Sets a mode or an owner and group. Returns how many micro-operations that is: 1, or 0 if
-        they were so before."""
+        """Sets a mode, or an owner and a group. Returns how many micro-operations that is: 1, or 0
+        if they were so before."""
         entry = self.entries[operation.path]
         before = entry.owner, entry.group, entry.mode
         if isinstance(operation, Chmod):
@@ -297,19 +324,20 @@ def symlink_entry(made: Union[Symlink, StartSymlink]) -> Entry:
 
 def page_end(length: int) -> int:
     """The end of the page in which a file of this length ends: the length itself if it is whole
-    pages."""
+    pages, as 0 is."""
     return -(-length // limits.PAGE_BYTES) * limits.PAGE_BYTES
 
 
 def grows_past_page(size: int, end: int) -> bool:
-    """Whether a write up to `end` gives a file of this size two new sizes in version 4: first the
-    end of its last page, which it has in part, and then its own end."""
+    """Whether a write up to `end` gives a file of this size two new sizes in version 4: the end of
+    its last page, which it uses only in part, and then its own end."""
     return size < page_end(size) < end
 
 
 def start_lines(entries: Entries, files: Dict[str, int]) -> Tuple[Header, List[StartLine]]:
-    """The header and the start lines of a tree, each after its directory. files has one number for
-    all paths of a file; its first path has the file's line, the others are links to it."""
+    """The header and the start lines of a tree, in the order of the names of their paths: each
+    after its directory. files has one number for all paths of a file; the first of them has the
+    file's line, the others are links to it. Later changes of the tree don't change the lines."""
     root = entries['/']
     firsts: Dict[int, str] = {}
     lines: List[StartLine] = []
@@ -326,8 +354,8 @@ def start_lines(entries: Entries, files: Dict[str, int]) -> Tuple[Header, List[S
 
 
 def copied_bytes(entry: Entry) -> Union[bytes, SparseBytes, None]:
-    """A copy of the bytes of a file, which later operations don't change; None for a directory. Of
-    a large file it is without pages of zeros."""
+    """A copy of the bytes of a file, which later operations don't change; None for a directory. One
+    of LARGE_BYTES or more is without pages of zeros."""
     if isinstance(entry.data, SparseBytes) or len(entry.data or b'') >= LARGE_BYTES:
         return SparseBytes.copy_of(entry.data or b'')
     return None if entry.data is None else bytes(entry.data)

@@ -18,20 +18,21 @@ from .owners import Owners
 
 
 class Crash(NamedTuple):
-    """When the power failed, and what the kernel had written by then."""
+    """When the power failed, and what the kernel had been made to write by then."""
 
     moment: Moment
     lever: Lever
 
     @property
     def rank(self) -> Tuple[int, int]:
-        """Crashes for which the kernel wrote less by itself come first, then earlier ones."""
+        """A key for sorting: crashes for which the kernel was made to write less come first, then
+        earlier ones."""
         return self.lever.rank, self.moment.done
 
 
 @dataclass
 class Disk:
-    """A tree that was on disks of a file system, its digest, and the crashes that left it."""
+    """A tree that crashes left on a file system, its digest, and all the crashes that left it."""
 
     tree: Entries
     digest: str
@@ -40,13 +41,14 @@ class Disk:
     @property
     def line_counts(self) -> List[int]:
         """How many lines may be acknowledged when the disk has this tree: each number that one of
-        its crashes allows, in ascending order."""
+        its crashes allows, once, ascending."""
         return sorted({count for one in self.crashes for count in one.moment.line_counts})
 
 
 def read_tree(top: str, owners: Owners) -> Entries:
-    """Reads the tree below a directory, which is `/` in it, in the order of paths. No symbolic link
-    is followed."""
+    """Reads the tree below a directory, which is `/` in it, in the order of its paths. No symbolic
+    link is followed. A directory whose entries can't be listed has none; any other error is an
+    OSError."""
     tree: Entries = {'/': read_entry(top, owners)}
     for here, names, files in os.walk(top):
         base = here[len(top) :]
@@ -56,7 +58,9 @@ def read_tree(top: str, owners: Owners) -> Entries:
 
 
 def read_entry(path: str, owners: Owners) -> Entry:
-    """Reads a directory, a file with its bytes, or a symbolic link with its text."""
+    """Reads a directory, a file with its bytes, or a symbolic link with its target; of a mode only
+    the permission bits. A number of a user or group that the trace doesn't name is a text of its
+    digits."""
     status = os.lstat(path)
     user, group = owners.users.name(status.st_uid), owners.groups.name(status.st_gid)
     entry = Entry(user, group, status.st_mode & 0o777, None)
@@ -72,8 +76,8 @@ def read_entry(path: str, owners: Owners) -> Entry:
 
 
 def digest_of(tree: Entries) -> str:
-    """Equal trees have equal digests, in whatever order their paths are and however their bytes are
-    kept; others do not."""
+    """A digest that equal trees share, in whatever order their paths are and however their bytes
+    are kept; different trees have different ones."""
     digest = hashlib.sha256()
     for path in sorted(tree):
         for piece in digested_pieces(path, tree[path]):
@@ -84,8 +88,8 @@ def digest_of(tree: Entries) -> str:
 
 def digested_pieces(path: str, entry: Entry) -> Iterator[bytes]:
     """What a digest has of one entry: its path, its rights and its content. A letter says whether
-    that is a link's text, a file's bytes or a large file's pages. Of these only pages with data are
-    given, with their numbers, since zeros may be kept as holes or not."""
+    that is a link's target (l), a file's bytes (f) or a large file's pages (s). Of these only pages
+    with data are given, with their numbers, since zeros may be kept as holes or not."""
     yield os.fsencode(path)
     yield f'{entry.owner}\0{entry.group}\0{entry.mode:o}'.encode('utf-8', 'surrogateescape')
     if entry.link is not None:

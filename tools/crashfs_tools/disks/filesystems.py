@@ -48,7 +48,7 @@ EXT4 = FileSystem('ext4', 'mkfs.ext4', (*EXT_BLOCKS, '-J', 'size=4', *LAZY), 24 
 
 
 def ext4_with(name: str, options: str) -> FileSystem:
-    """ext4 with options of its own, as mount(2) passes them, under another name."""
+    """ext4 with other options, as mount(2) passes them, under another name."""
     return FileSystem(name, EXT4.program, EXT4.words, EXT4.size, options)
 
 
@@ -70,23 +70,25 @@ USUAL_BYTES = 8 * MEBIBYTE
 
 
 def with_room(filesystem: FileSystem, size: int) -> FileSystem:
-    """The file system with images that have room for a session that writes so many bytes: two bytes
-    for each that is too many for the usual size, in whole MiB, since a file system may keep the old
-    bytes of a file until the new ones are committed."""
+    """The file system with images that have room for a session that writes `size` bytes. Above
+    USUAL_BYTES each byte takes two, in whole MiB, since a file system may keep the old bytes of a
+    file until the new ones are committed."""
     more = max(0, size - USUAL_BYTES)
     return replace(filesystem, size=filesystem.size + -(-2 * more // MEBIBYTE) * MEBIBYTE)
 
 
 def bytes_written(trace: Trace) -> int:
-    """How many bytes the files of a session take at most: the start tree's and each write's. Each
-    run of bytes is counted with two pages more, in which it may begin and end."""
+    """How many bytes the files of a session take at most: those of the start tree and of each
+    write. Each run of bytes counts two pages more, in which it may begin and end. Truncates count
+    nothing: they make holes."""
     sizes = [len(run) for line in trace.start for run in start_runs(line)]
     sizes += [len(one.data) for one in trace.operations if isinstance(one, Write)]
     return sum(size + 2 * PAGE_BYTES for size in sizes)
 
 
 def start_runs(line: StartLine) -> List[bytes]:
-    """The bytes of a start line's file, without its holes; none if it is no file."""
+    """The bytes of a start line's file, in runs, without holes if it has them; none if it is no
+    file."""
     if not isinstance(line, Start) or line.data is None:
         return []
     if isinstance(line.data, SparseBytes):
@@ -96,7 +98,7 @@ def start_runs(line: StartLine) -> List[bytes]:
 
 def filesystems_of(names: Sequence[str]) -> List[FileSystem]:
     """The file systems that --disks names, each once, in the order of the names. Refused if one
-    isn't known."""
+    isn't known. Whether this machine has them isn't checked."""
     unknown = [name for name in names if name not in KNOWN]
     if unknown:
         raise Refused(f'--disks {unknown[0]}: no such file system (known: {", ".join(KNOWN)})')
@@ -104,15 +106,15 @@ def filesystems_of(names: Sequence[str]) -> List[FileSystem]:
 
 
 def require_filesystems(names: Sequence[str]) -> None:
-    """Refused if a file system isn't known, or this machine or user can't make and mount it."""
+    """Refused if a file system isn't known, or if this machine or user can't make and mount it."""
     missing = missing_requirement(filesystems_of(names))
     if missing is not None:
         raise Refused(f'--disks: {missing}')
 
 
 def missing_requirement(filesystems: Sequence[FileSystem]) -> Optional[str]:
-    """The first thing that these file systems need and that this machine or user doesn't have; None
-    if nothing is missing."""
+    """The first thing that these file systems need and that this machine or user lacks, in words;
+    None if nothing is missing. Whether the kernel can mount them isn't tried."""
     if os.geteuid() != 0:
         return 'it needs root, to make and mount disk images'
     mounts = missing_own_mounts()

@@ -25,24 +25,25 @@ libc = ctypes.CDLL(None, use_errno=True)
 
 
 def make_image(filesystem: FileSystem, image: str) -> None:
-    """Makes an empty file system in a new image. FileExistsError if there is one; Refused if the
-    file system's program fails."""
+    """Makes an empty file system in a new image. FileExistsError if there is one already; Refused
+    if the file system's program fails, OSError if it isn't there: then the image stays."""
     with open(image, 'xb') as file:
         file.truncate(filesystem.size)
     run_program([filesystem.program, *filesystem.words, image])
 
 
 def dig_holes(image: str) -> None:
-    """Makes holes of the zeros in an image, such as those of a new log. It has the same bytes, and
-    copies are faster."""
+    """Makes holes of the zeros in an image, such as those of a new log, so that copies are faster.
+    Its bytes stay the same. Refused if that fails."""
     run_program(['fallocate', '--dig-holes', image])
 
 
 @contextmanager
 def mounted(filesystem: FileSystem, image: str, point: str) -> Iterator[str]:
-    """Within this an image is mounted at a directory, which is made if it isn't there; it has the
-    directory's path. The mount keeps the loop device, which is free again when it is unmounted.
-    Refused if the image can't be mounted."""
+    """Within this an image is mounted at a directory, which is made if it isn't there, and stays.
+    Yields the directory's path. The mount keeps the loop device, which is free again after the
+    unmount. Refused if no device is free or the image can't be mounted; OSError, at the end, if it
+    is still in use."""
     os.makedirs(point, exist_ok=True)
     with attached(image) as device:
         mount(filesystem, device, point)
@@ -53,7 +54,7 @@ def mounted(filesystem: FileSystem, image: str, point: str) -> Iterator[str]:
 
 
 def mount(filesystem: FileSystem, device: str, point: str) -> None:
-    """Mounts a device with the file system's options; Refused if it can't be mounted. It is the
+    """Mounts a device with the file system's options; Refused if it can't be mounted. It uses the
     system call: the program `mount` takes four times as long."""
     words = [os.fsencode(word) for word in (device, point, filesystem.kind, filesystem.options)]
     if libc.mount(*words[:3], 0, words[3]):
@@ -63,7 +64,8 @@ def mount(filesystem: FileSystem, device: str, point: str) -> None:
 
 def unmount(point: str) -> None:
     """Unmounts what is mounted at a directory. The kernel may use it for a moment longer, so it is
-    tried again for some seconds; OSError if it is in use even then."""
+    tried again for UMOUNT_TRIES times UMOUNT_SECONDS. OSError if it is in use even then, or if
+    nothing is mounted there."""
     for _ in range(UMOUNT_TRIES):
         if libc.umount2(os.fsencode(point), 0) == 0:
             return
@@ -74,7 +76,8 @@ def unmount(point: str) -> None:
 
 
 def copy_image(source: str, target: str) -> None:
-    """Copies an image to a path, and replaces what is there. Holes stay holes."""
+    """Copies an image to a path, and replaces the bytes of what is there. Holes stay holes. After
+    an OSError a part of the copy is left."""
     with open(source, 'rb') as old, open(target, 'wb') as new:
         size = os.fstat(old.fileno()).st_size
         new.truncate(size)
@@ -88,15 +91,15 @@ def copy_image(source: str, target: str) -> None:
 
 
 def repair_image(filesystem: FileSystem, image: str) -> None:
-    """Repairs an image of a file system without a log, which can't be mounted after a crash; does
-    nothing if it has one, which the mount replays. Refused if it can't be repaired."""
+    """Repairs an image of a file system without a log, which can't be mounted after a crash. Does
+    nothing for one with a log, which the mount replays. Refused if it can't be repaired."""
     if filesystem.repair:
         run_program([*filesystem.repair, image], highest_status=REPAIRED)
 
 
 def run_program(words: Sequence[str], highest_status: int = 0) -> None:
     """Runs a program to its end. Refused, with the first line that it printed, if its status is
-    above the highest one or a signal has ended it."""
+    above `highest_status` or a signal has ended it; OSError if it can't be started."""
     done = subprocess.run(
         words,
         stdin=subprocess.DEVNULL,

@@ -16,7 +16,8 @@ Unsynced = Sequence[Sequence[UnsyncedChange]]
 
 
 class Lever(Enum):
-    """The value says in a report what was on the disk besides what the session had synced."""
+    """What the kernel is made to write before a crash. The value says in a report what was on the
+    disk besides what the session had synced."""
 
     NOTHING = 'nothing more written'
     LOG = 'the log written'
@@ -28,13 +29,13 @@ class Lever(Enum):
 
     @property
     def rank(self) -> int:
-        """Its place in the order of the levers."""
+        """Its place in the order of the levers, from 0 for NOTHING."""
         return list(Lever).index(self)
 
 
 class Pull(NamedTuple):
-    """A lever; for ONE also the file's place among those with unsynced bytes, and for EARLIER the
-    change after which its file is written."""
+    """One use of a lever. `place` is only for ONE: which of the files with unsynced bytes is
+    written. `change` is only for EARLIER: the change after which its file is written."""
 
     lever: Lever
     place: Optional[int] = None
@@ -42,8 +43,10 @@ class Pull(NamedTuple):
 
 
 def pulls(lever: Lever, unsynced: Unsynced, done: int) -> Iterator[Pull]:
-    """The pulls of a lever that can write something which no other pull does, if so many operations
-    are done. ONE is pulled for each of several files; for a single one it would be BOTH."""
+    """The pulls of a lever, after `done` operations, that may write something which no other pull
+    writes. ONE has one for each file with unsynced bytes, but none for a single file, where it
+    would be BOTH. EARLIER has those of earlier_changes(). The others have one, but BYTES and BOTH
+    none without unsynced bytes."""
     if lever is Lever.ONE:
         yield from (Pull(lever, place) for place in range(len(unsynced)) if len(unsynced) > 1)
     elif lever is Lever.EARLIER:
@@ -53,9 +56,9 @@ def pulls(lever: Lever, unsynced: Unsynced, done: int) -> Iterator[Pull]:
 
 
 def earlier_changes(unsynced: Unsynced, done: int) -> List[UnsyncedChange]:
-    """The changes after which a file may have been written, but not after its last one: those of
-    the files that the last operation did not change. There are none if it changed no file, since
-    the others then have no new bytes."""
+    """The changes after which EARLIER may write a file: all but the last one of each file that the
+    last of `done` operations did not change, but at most MOST_EARLIER, the latest. None if that
+    operation changed no file: the other files then have nothing new to be written last."""
     if not any(changes[-1].done == done for changes in unsynced):
         return []
     others = [changes for changes in unsynced if changes[-1].done != done]
@@ -63,14 +66,15 @@ def earlier_changes(unsynced: Unsynced, done: int) -> List[UnsyncedChange]:
 
 
 def write_earlier(replay: Replay, one: Pull) -> None:
-    """Makes the kernel write the file of a pull of EARLIER, if its change is the last operation."""
+    """Makes the kernel write the file of a pull of EARLIER, if the replay's last operation is the
+    pull's change; does nothing for other pulls."""
     if one.change is not None and one.change.done == replay.done:
         replay.write_back(replay.inode(one.change.path))
 
 
 def pull(replay: Replay, one: Pull, other: str) -> None:
-    """Makes the kernel write what a pull says. other is the path of a file that isn't the session's
-    on the same file system: its fsync writes the log."""
+    """Makes the kernel write what a pull of a lever writes at the crash. `other` is the path of a
+    file that isn't the session's on the same file system: its fsync writes the log."""
     lever = one.lever
     if lever in (Lever.BYTES, Lever.BOTH, Lever.ONE, Lever.EARLIER):
         for inode in files_to_write(replay, one):
@@ -82,15 +86,15 @@ def pull(replay: Replay, one: Pull, other: str) -> None:
 
 
 def files_to_write(replay: Replay, one: Pull) -> List[int]:
-    """The inodes of the files whose bytes a pull writes: those with unsynced bytes, of which ONE
-    takes one and EARLIER all but the one that was written before."""
+    """The inodes of the files whose bytes a pull writes at the crash: all that have unsynced ones;
+    but with ONE only one of them, and with EARLIER all except the file that was written before."""
     files = [inode for inode, changes in replay.unsynced.items() if one.change not in changes]
     return files if one.place is None else files[one.place : one.place + 1]
 
 
 def write_log(other: str) -> None:
-    """Makes the file system write its log, by a change and an fsync of a file; makes the file if it
-    isn't there."""
+    """Makes the file system write its log, by a change and an fsync of the file `other`, which is
+    made if it isn't there."""
     descriptor = os.open(other, os.O_RDWR | os.O_CREAT | os.O_CLOEXEC, 0o600)
     try:
         os.pwrite(descriptor, os.urandom(8), 0)

@@ -25,8 +25,8 @@ TRIES = 100
 
 @contextmanager
 def attached(image: str) -> Iterator[str]:
-    """Within this an image is a loop device; it has the device's path. If the device is mounted
-    meanwhile, it has the image until it is unmounted. Refused if no device is free."""
+    """Within this an image is a loop device. Yields the device's path. If the device is mounted
+    meanwhile, it keeps the image until it is unmounted. Refused if no device is free."""
     descriptor, path = open_loop_device(image)
     try:
         yield path
@@ -35,8 +35,9 @@ def attached(image: str) -> Iterator[str]:
 
 
 def open_loop_device(image: str) -> Tuple[int, str]:
-    """Opens a free loop device and gives it an image; returns its descriptor and its path. Refused
-    if none is free."""
+    """Opens a free loop device and gives it an image; returns its descriptor, which the caller
+    closes, and its path. Refused if other processes took each of TRIES devices first; OSError if
+    one can't be opened."""
     control = os.open(LOOP_CONTROL, os.O_RDWR | os.O_CLOEXEC)
     file = os.open(image, os.O_RDWR | os.O_CLOEXEC)
     try:
@@ -52,8 +53,8 @@ def open_loop_device(image: str) -> Tuple[int, str]:
 
 
 def open_with_file(path: str, file: int) -> Optional[int]:
-    """Opens a loop device and gives it an image's file; None if another process has taken the
-    device."""
+    """Opens a loop device and gives it an image's file, which may be closed then; returns its
+    descriptor. None if another process has taken the device; any other fault is an OSError."""
     device = os.open(path, os.O_RDWR | os.O_CLOEXEC)
     try:
         fcntl.ioctl(device, LOOP_CONFIGURE, CONFIG.pack(file, 0, AUTOCLEAR))

@@ -8,8 +8,9 @@ from crashfs_tools.common.trace import Operation, Say
 
 
 class Moment(NamedTuple):
-    """A moment after so many operations are done, at which from least to most lines may be
-    acknowledged. line is the trace's line of the last operation, 0 before the first."""
+    """A moment of a session after its first `done` operations, at which from `least` to `most`
+    lines may be acknowledged. `line` is the number of the last operation's line in the trace, 0
+    before the first."""
 
     done: int
     least: int
@@ -18,14 +19,15 @@ class Moment(NamedTuple):
 
     @property
     def line_counts(self) -> range:
-        """How many lines may be acknowledged at the moment: each such number."""
+        """Each number of lines that may be acknowledged at the moment."""
         return range(self.least, self.most + 1)
 
 
 def moments(operations: List[Operation], first_line: int) -> Iterator[Moment]:
-    """The moments at which the disk may differ, from the start to the end. Acknowledging a line
-    changes nothing on the disk, so the lines that follow an operation are in its moment. first_line
-    is the trace's line of the first operation."""
+    """The moments at which the disk may differ, from the start to the end: the start, and one after
+    each operation that is no say. To acknowledge a line changes nothing on the disk, so the says
+    that follow an operation are in its moment. `first_line` is the number of the first operation's
+    line."""
     done = says = 0
     while True:
         least = says

@@ -17,15 +17,16 @@ libc = ctypes.CDLL(None, use_errno=True)
 
 
 def use_own_mounts() -> None:
-    """From here on mounts of this process are its own. Refused if the system doesn't allow that."""
+    """From here on mounts that this process makes are seen by no other process, except by its new
+    children. Refused if the system doesn't allow that."""
     fault = unshare_mounts()
     if fault:
         raise Refused(f'--disks: {fault_text(fault)}')
 
 
 def missing_own_mounts() -> Optional[str]:
-    """Why a process can't have mounts of its own here; None if it can. Another process tries it:
-    the mounts of this one stay as they are."""
+    """Why a process can't have mounts of its own here, in words; None if it can. A fork tries it:
+    the mounts of this process stay as they are."""
     with stops_blocked():
         process = os.fork()
         if process == 0:
@@ -39,15 +40,15 @@ def missing_own_mounts() -> Optional[str]:
 
 
 def unshare_mounts() -> int:
-    """Gives this process a copy of all mounts, of which nobody else sees a change; returns the
-    error number of the call that fails, or 0."""
+    """Gives this process a copy of all mounts, whose changes other processes don't see, nor it
+    theirs. Returns 0, or the error number of the call that fails."""
     if libc.unshare(CLONE_NEWNS) or libc.mount(None, b'/', None, MS_REC | MS_PRIVATE, None):
         return ctypes.get_errno()
     return 0
 
 
 def fault_text(fault: int) -> str:
-    """What the error number of `unshare_mounts` means. In a chroot, `/` may be a directory like any
-    other, and the mount that it is in can't be changed from there."""
+    """What an error number of unshare_mounts() means, in words. In a chroot, `/` may be a directory
+    like any other, and the mount that it is in can't be changed from there."""
     reason = '/ is not a mount point' if fault == errno.EINVAL else os.strerror(fault)
     return f"a process can't have mounts of its own: {reason}"

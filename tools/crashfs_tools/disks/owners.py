@@ -22,7 +22,7 @@ FIRST_UNKNOWN = 200_000
 
 
 class Numbers:
-    """The numbers of users, or of groups. A name keeps the number that it was first given."""
+    """The numbers of users, or of groups. A name keeps the number that it was given first."""
 
     def __init__(self, are_groups: bool) -> None:
         self.are_groups = are_groups
@@ -30,23 +30,24 @@ class Numbers:
         self.names: Dict[int, str] = {}
 
     def number(self, name: str) -> int:
-        """The number of a name: this machine's if it knows the name, else one of our own."""
+        """The number of a name, which is given to it at the first call: this machine's if it knows
+        the name, else one from FIRST_UNKNOWN on."""
         if name not in self.numbers:
             self.numbers[name] = self.first_number(name)
             self.names.setdefault(self.numbers[name], name)
         return self.numbers[name]
 
     def first_number(self, name: str) -> int:
-        """The number of a name that has none yet. Unknown names have different ones, since each is
-        kept before the next is asked for."""
+        """The number for a name that has none yet. It isn't kept here: number() does that, so that
+        each unknown name gets another one."""
         try:
             return grp.getgrnam(name).gr_gid if self.are_groups else pwd.getpwnam(name).pw_uid
         except KeyError:
             return FIRST_UNKNOWN + len(self.numbers)
 
     def name(self, number: int) -> str:
-        """The first of the names that were given this number, as several may be; the number as a
-        text if none was."""
+        """The first of the names that were given this number, as several may share it; if none was,
+        the number as a text."""
         return self.names.get(number, str(number))
 
 

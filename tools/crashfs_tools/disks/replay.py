@@ -47,8 +47,9 @@ libc = ctypes.CDLL(None, use_errno=True)
 
 def lay_out_start(trace: Trace, top: str, owners: Owners) -> None:
     """Makes the start tree of a trace in a new directory, and writes it to the disk. Owners and
-    modes are set from the last entry to the first, so that a directory's own come after those of
-    what is in it. Symbolic links come last: nothing is made through one."""
+    modes are set from the last entry to the first, so that a directory's come after those of what
+    is in it. Symbolic links come last: nothing is made through one. FileExistsError if the
+    directory is there; after an OSError a part of the tree is left."""
     os.mkdir(top, NEW_DIRECTORY)
     for entry in trace.start:
         if isinstance(entry, StartLink):
@@ -68,8 +69,8 @@ def lay_out_start(trace: Trace, top: str, owners: Owners) -> None:
 
 
 def make_entry(path: str, data: Union[bytes, SparseBytes, None]) -> None:
-    """Makes a file with these bytes, or a directory if there are none. Where a large file has no
-    bytes, it has a hole."""
+    """Makes a file with these bytes; pages of zeros of SparseBytes become holes. Or a directory, if
+    `data` is None. Owner and mode aren't set here. FileExistsError if something is there."""
     if data is None:
         os.mkdir(path, NEW_DIRECTORY)
         return
@@ -81,8 +82,8 @@ def make_entry(path: str, data: Union[bytes, SparseBytes, None]) -> None:
 
 
 def make_symlink(path: str, made: Union[Symlink, StartSymlink], owners: Owners) -> None:
-    """Makes a symbolic link with its owner and group. They are set only if the new link has others:
-    each change of them is one that the session didn't make."""
+    """Makes a symbolic link, and sets its owner and group, unless it has them already: a call that
+    changes them is one that the session didn't make."""
     os.symlink(made.link, path)
     rights = owners.users.number(made.owner), owners.groups.number(made.group)
     status = os.lstat(path)
@@ -91,19 +92,22 @@ def make_symlink(path: str, made: Union[Symlink, StartSymlink], owners: Owners) 
 
 
 class UnsyncedChange(NamedTuple):
-    """An operation that changed a file's bytes or size: how many operations were done with it, and
-    the file's path then."""
+    """An operation that changed a file's bytes or size: the number of operations up to it, itself
+    included, and the file's path then."""
 
     done: int
     path: str
 
 
 class Replay:
-    """The session in a directory, made again as root, so that modes don't hinder it. Each kind of
-    operation has a method of its name; an OSError of its call is raised. Files stay open, so that a
-    file is written and synced by the same descriptor. done is how many operations were made.
-    unsynced has by inode the changes of each file that no sync of the file covers; the files are in
-    the order of their first ones."""
+    """The session in the directory `top`, made again as root, so that modes don't hinder it. Each
+    kind of operation has a method of its name; an OSError of its call is raised. Files stay open
+    until the end of the `with`, so that a file is written and synced by the same descriptor. done
+    is how many operations were made.
+
+    unsynced has, by inode, the changes of each file since the last sync that covers them all; the
+    files are in the order of their first ones.
+    """
 
     def __init__(self, top: str, owners: Owners) -> None:
         self.top = top
@@ -120,28 +124,30 @@ class Replay:
             os.close(descriptor)
 
     def path(self, path: str) -> str:
-        """Where a path of the trace is on the disk."""
+        """The path on the disk of a path of the trace."""
         return self.top if path == '/' else self.top + path
 
     def descriptor(self, path: str) -> int:
-        """The descriptor of a file, which is opened at the first call. It is found by the inode,
-        since a file may have several names, or another one than when it was opened."""
+        """The descriptor of a file, which is opened at the first call and stays open. It is found
+        by the inode, since a file may have several names, or another one than when it was
+        opened."""
         inode = self.inode(path)
         if inode not in self.files:
             self.files[inode] = os.open(self.path(path), OPEN_FILE)
         return self.files[inode]
 
     def inode(self, path: str) -> int:
-        """The inode of a file of the trace."""
+        """The inode of what is at a path of the trace; FileNotFoundError if nothing is."""
         return os.lstat(self.path(path)).st_ino
 
     def do(self, operation: Operation) -> None:
-        """Makes an operation, after those before it."""
+        """Makes an operation; those before it must have been made. It counts in `done` even if it
+        raises an OSError."""
         self.done += 1
         CALLS[type(operation)](self, operation)
 
     def creat(self, made: Creat) -> None:
-        """Makes a new file, and keeps it open."""
+        """Makes a new file, and keeps it open. FileExistsError if something is there."""
         descriptor = os.open(self.path(made.path), NEW_FILE, made.mode)
         self.files[os.fstat(descriptor).st_ino] = descriptor
         self.set_rights(made)
@@ -151,8 +157,8 @@ class Replay:
         self.set_rights(made)
 
     def set_rights(self, made: Union[Creat, Mkdir]) -> None:
-        """Sets the owner, group and mode of what was made, but only those that it doesn't have
-        already: each change is one that the session didn't make."""
+        """Sets the owner, group and mode of what was made, unless it has them already: a call that
+        changes them is one that the session didn't make."""
         user = self.owners.users.number(made.owner)
         group = self.owners.groups.number(made.group)
         status = os.lstat(self.path(made.path))
@@ -174,7 +180,8 @@ class Replay:
         os.link(self.path(one.source), self.path(one.target))
 
     def write(self, one: Write) -> None:
-        """Writes all bytes, by as many calls as that takes."""
+        """Writes all bytes, by as many calls as that takes. A write of no bytes counts as a change
+        too."""
         left, at = one.data, one.offset
         while left:
             count = os.pwrite(self.descriptor(one.path), left, at)
@@ -186,20 +193,21 @@ class Replay:
         self.note_unsynced(one.path)
 
     def note_unsynced(self, path: str) -> None:
-        """Notes that a file has bytes that no sync covers."""
+        """Notes that the operation in progress changed a file's bytes or size, which no sync covers
+        yet."""
         self.unsynced.setdefault(self.inode(path), []).append(UnsyncedChange(self.done, path))
 
     def chmod(self, one: Chmod) -> None:
         os.chmod(self.path(one.path), one.mode)
 
     def chown(self, one: Chown) -> None:
-        """Changes the owner and group of a path; of a symbolic link its own."""
+        """Changes the owner and group of what is at a path; of a symbolic link its own."""
         users, groups = self.owners.users, self.owners.groups
         user, group = users.number(one.owner), groups.number(one.group)
         os.chown(self.path(one.path), user, group, follow_symlinks=False)
 
     def fsync(self, one: Fsync) -> None:
-        """Syncs a directory, or a file, which then has no unsynced bytes."""
+        """Syncs a directory, or a file, which then has no unsynced changes."""
         if os.path.isdir(self.path(one.path)):
             sync_directory(self.path(one.path))
         else:
@@ -215,7 +223,8 @@ class Replay:
 
     def fsync_range(self, one: FsyncRange) -> None:
         """A sync of the whole file is an fdatasync; one of a part is made by msync, which syncs
-        only the pages of the part. After that the file still counts as unsynced."""
+        only the pages of the part. After the latter all changes of the file still count as
+        unsynced. A part past the file's end syncs nothing."""
         descriptor = self.descriptor(one.path)
         size = os.fstat(descriptor).st_size
         if one.offset == 0 and one.length >= size:
@@ -236,8 +245,9 @@ class Replay:
         """Does nothing: to acknowledge a line changes nothing on the disk."""
 
     def write_back(self, inode: int) -> None:
-        """Writes the bytes of a file to the disk, and nothing of the log. A file that the session
-        has not opened has none to write."""
+        """Writes the bytes of a file, given by its inode, to the disk, and nothing of the log. Does
+        nothing for a file that the session hasn't opened, which has none to write. OSError if it
+        fails. The file still counts as unsynced."""
         if inode in self.files and libc.sync_file_range(
             self.files[inode],
             ctypes.c_int64(0),
@@ -269,13 +279,13 @@ CALLS: Dict[Type[Any], Callable[[Replay, Any], None]] = {
 
 
 def sync_directory(path: str) -> None:
-    """Makes the names in a directory durable."""
+    """Makes the names in a directory durable; OSError if it can't."""
     with open_directory(path) as descriptor:
         os.fsync(descriptor)
 
 
 def sync_file_system(path: str) -> None:
-    """Makes the file system that a directory is in durable, all of it; OSError if it can't."""
+    """Makes all of the file system that a directory is in durable; OSError if it can't."""
     with open_directory(path) as descriptor:
         if libc.syncfs(descriptor):
             raise OSError(ctypes.get_errno(), os.strerror(ctypes.get_errno()), path)
@@ -283,7 +293,7 @@ def sync_file_system(path: str) -> None:
 
 @contextmanager
 def open_directory(path: str) -> Iterator[int]:
-    """Within this a directory is open, as the descriptor."""
+    """Within this a directory is open. Yields its descriptor."""
     descriptor = os.open(path, os.O_RDONLY | os.O_DIRECTORY | os.O_CLOEXEC)
     try:
         yield descriptor

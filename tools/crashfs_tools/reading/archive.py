@@ -15,8 +15,9 @@ KINDS = {'dir': tarfile.DIRTYPE, 'file': tarfile.REGTYPE, 'symlink': tarfile.SYM
 
 
 class ArchiveWriter:
-    """Writes an archive of states of a plan as a stream; use it in a `with`, at whose end the
-    archive ends. With sparse, large files of zeros are written in pieces."""
+    """Writes an archive of states of a plan to `out`, a stream that stays open. Use it in a `with`,
+    at whose end the archive is ended. The numbers of states must be those of the plan. With
+    `sparse`, large files with many zeros are written in pieces."""
 
     def __init__(self, plan: StateList, out: BinaryIO, sparse: bool = False) -> None:
         self.plan = plan
@@ -27,29 +28,32 @@ class ArchiveWriter:
         return self
 
     def __exit__(self, *_: object) -> None:
-        """Ends the archive by two empty blocks, without the padding that fills a record of a
-        tape."""
+        """Ends the archive by two blocks of zeros, also after an error, which isn't caught. The
+        padding that fills a tape's record, which tarfile itself would add, is left out."""
         stream = self.file.fileobj
         assert stream is not None
         stream.write(bytes(2 * tarfile.BLOCKSIZE))
         stream.close()
 
     def tree(self, number: int) -> Dict[str, Item]:
-        """The tree of the state of a number."""
+        """The tree of the state with this number: what is at each path."""
         return self.plan.trees.tree(self.plan.states[number][1])
 
     def write_state(self, number: int) -> None:
-        """Writes the tree of one state, the root as `./`."""
+        """Writes the tree of one state. The root's name is `./`; the other names are the paths
+        without their first slash."""
         self.write_tree(number, './')
 
     def write_states(self, numbers: List[int]) -> None:
-        """Writes the trees of states, each below a directory of its number."""
+        """Writes the trees of states, in this order, each below a directory that has the state's
+        number as its name."""
         for number in numbers:
             self.write_tree(number, f'{number}/')
 
     def write_changes(self, numbers: List[int]) -> None:
-        """Writes what differs between state 0 and each of some states: first the names of the paths
-        that are gone, then the entries that are new or others."""
+        """Writes how each of some states N differs from state 0: first a file `N.missing` with the
+        names of the paths that only state 0 has, each ended by a NUL; then, below `N/`, the entries
+        that are new or differ. A state that doesn't differ has only its empty `N.missing`."""
         start = self.tree(0)
         for number in numbers:
             tree = self.tree(number)
@@ -63,14 +67,16 @@ class ArchiveWriter:
                     self.write_item(f'{number}{path}', tree[path])
 
     def write_tree(self, number: int, top: str) -> None:
-        """Writes the tree of a state; top, which ends in a slash, is put before its paths."""
+        """Writes the tree of a state. `top`, which ends in a slash, is the name of the root; the
+        other names begin with it, unless it is `./`, which they leave out."""
         tree = self.tree(number)
         for path in paths_in_order(tree):
             name = top if path == '/' else ('' if top == './' else top) + path[1:]
             self.write_item(name, tree[path])
 
     def write_item(self, name: str, item: Item) -> None:
-        """Writes one file, directory or symbolic link by a name."""
+        """Writes one file, directory or symbolic link, with its owner, group and mode. Slashes at
+        the end of its name are dropped: tarfile adds that of a directory."""
         info = tarfile.TarInfo(name.rstrip('/'))
         info.type = KINDS[item.kind]
         (info.uname, info.gname, mode), data = item.rights, item.data
@@ -87,8 +93,9 @@ class ArchiveWriter:
             self.file.addfile(info, Reader(data, [(0, data.length)]))
 
     def write_sparse(self, info: tarfile.TarInfo, data: Data) -> None:
-        """Writes a file in pieces, in the PAX format 1.0 of GNU tar: a map, then the pieces. Into
-        the info it writes the name that this format has, and its fields."""
+        """Writes a file in pieces, in the PAX format 1.0 of GNU tar: a map of the pieces, then
+        their bytes. It changes `info`, which then has the name, the size and the fields of this
+        format."""
         runs = runs_of(data)
         head = map_of(runs, data.length)
         above, slash, name = info.name.rpartition('/')
@@ -107,7 +114,8 @@ class ArchiveWriter:
 
 
 class Reader(BytesIO):
-    """A stream that has a head and then pieces of a file, for tarfile to read."""
+    """A stream for tarfile to read: first `head`, then the bytes of a file in each of `runs`, from
+    its first offset to before its second one."""
 
     def __init__(self, data: Data, runs: List[Tuple[int, int]], head: bytes = b'') -> None:
         super().__init__(head)
@@ -115,7 +123,8 @@ class Reader(BytesIO):
         self.runs = list(runs)
 
     def read(self, size: Optional[int] = -1, /) -> bytes:
-        """The next so many bytes; fewer only at the end."""
+        """The next `size` bytes; fewer only at the end. Without a size, or with a negative one,
+        only what is left of the head: tarfile always gives a size."""
         found = super().read(size)
         while self.runs and len(found) < (size or 0):
             begin, end = self.runs.pop(0)
@@ -127,10 +136,11 @@ class Reader(BytesIO):
 
 
 def paths_in_order(tree: Dict[str, Item]) -> List[str]:
-    """The paths of a tree in the order of archives: name by name, each after its directory."""
+    """The paths of a tree in the order of archives: they are compared name by name, so that each
+    comes after its directory."""
     return sorted(tree, key=lambda path: path.split('/'))
 
 
 def shown_name(path: str, item: Item) -> str:
-    """A path as an archive has it: a directory's ends with a slash."""
+    """A path as `N.missing` has it: without its first slash, and with a slash after a directory."""
     return path[1:] + ('/' if item.data is None else '')

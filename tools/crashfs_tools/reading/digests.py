@@ -1,4 +1,5 @@
-"""Digests of files after sets of changes: equal just if the bytes are, also of different files."""
+"""Digests of files after sets of changes: equal exactly if the bytes are, also of different
+files."""
 
 from __future__ import annotations
 
@@ -18,10 +19,11 @@ ZEROS = b''
 
 
 class Digests:
-    """The digest of a file is that of its length and of its blocks that aren't zero. A block
-    depends on its own changes and the size alone, so that many states share it. changes has the set
-    of each file's changes, by its number; data_of makes the rights and bytes of a file after some
-    of them."""
+    """A file's digest is made of its length and of the digests of its blocks that aren't zero. That
+    of a block depends only on the block's writes and on the size, so that many states share it.
+    `changes` has the set of each changed file's changes, by the file's number. `data_of` returns
+    the rights and bytes of a file after some of these: it is called for files that may shrink, and
+    for those without changes."""
 
     def __init__(
         self,
@@ -47,7 +49,8 @@ class Digests:
         self.made_blocks = lru_cache(64)(self.make_made_blocks)
 
     def digest(self, number: int, places: int) -> Tuple[Rights, bytes]:
-        """The rights and the digest of a file, by its number, after some of its changes."""
+        """The rights and the digest of a file, given by its number, after the changes of the set
+        `places`, all of this file."""
         if number not in self.blocks:
             rights, data = self.data_of(number, places)
             found = {block: digest_of(whole) for block, whole in data.blocks.items()}
@@ -70,12 +73,13 @@ class Digests:
         return rights, whole_digest(size, digests)
 
     def made(self, number: int) -> Data:
-        """The bytes with which a file is made, by its number."""
+        """The bytes with which a file, given by its number, is made: none if an operation makes it,
+        unless it is a symbolic link."""
         return self.reading.made_data.get(number, Data(self.reading.block_size))
 
     def last_writes(self, places: int) -> int:
-        """Of a set of writes of one block those whose bytes can be seen: the last one alone if it
-        is of the whole block, else all."""
+        """Of a set of writes to one block those whose bytes may show: only the last one if it
+        writes the whole block, else all."""
         last = places.bit_length() - 1
         operation = self.reading.operations[last] if places else None
         if isinstance(operation, WriteBlock) and len(operation.data) == self.reading.block_size:
@@ -83,11 +87,13 @@ class Digests:
         return places
 
     def make_made_blocks(self, number: int) -> Blocks:
-        """The digests of the blocks with which a file is made, by their numbers."""
+        """The digests of the blocks with which a file, given by its number, is made; by the blocks'
+        numbers."""
         return {block: digest_of(whole) for block, whole in self.made(number).blocks.items()}
 
     def make_block(self, number: int, block: int, places: int, shown: int) -> bytes:
-        """The digest of the first bytes of a block after some of its changes."""
+        """The digest of the first `shown` bytes of a file's block after the writes of the set
+        `places`, all to this block."""
         data = self.made(number).blocks.get(block, b'')
         for place in places_of(places):
             operation = self.reading.operations[place]
@@ -96,7 +102,7 @@ class Digests:
         return digest_of(data[:shown].rstrip(b'\0'))
 
     def make_rights_and_size(self, number: int, places: int) -> Tuple[Rights, int]:
-        """The rights and the size of a file after some of its changes."""
+        """The rights and the size of a file, given by its number, after some of its changes."""
         rights, size = self.reading.made_rights[number], self.made(number).length
         for place in places_of(places):
             operation = self.reading.operations[place]
@@ -107,7 +113,8 @@ class Digests:
         return rights, size
 
     def shrinks(self, number: int, places: int) -> bool:
-        """Whether a file is ever made shorter by its changes."""
+        """Whether one of `places`, all changes of a file that is given by its number, makes the
+        file shorter. If not, no subset of them does."""
         size = self.made(number).length
         for place in places_of(places):
             operation = self.reading.operations[place]
@@ -118,7 +125,8 @@ class Digests:
         return False
 
     def blocks_of(self, places: int) -> Dict[int, int]:
-        """The writes of a set of one file's changes, by the block that they write to."""
+        """Those of a set of one file's changes that are writes: for each block, by its number, the
+        set of the writes to it."""
         blocks: Dict[int, int] = {}
         for place in places_of(places & self.writes):
             operation = self.reading.operations[place]
@@ -128,12 +136,14 @@ class Digests:
 
 
 def digest_of(block: bytes) -> bytes:
-    """The digest of a block, which comes without the zeros at its end; ZEROS of one of zeros."""
+    """The digest of a block, which comes without the zeros at its end. ZEROS if nothing is left of
+    it."""
     return hashlib.sha256(block).digest() if block else ZEROS
 
 
 def whole_digest(length: int, blocks: Blocks) -> bytes:
-    """The digest of a length and of the blocks that aren't zero."""
+    """The digest of a file, from its length and the digests of its blocks; those that are ZEROS
+    don't count."""
     digest = hashlib.sha256(length.to_bytes(8, 'little'))
     for block in sorted(blocks):
         if blocks[block]:

@@ -17,8 +17,9 @@ MOST_MEMBERS = 2**64 - 1
 
 
 def every_set(order: Order) -> Iterator[int]:
-    """All allowed sets, ascending: the one without a place comes before the one with it, for the
-    first place in which two sets differ."""
+    """All sets that an order allows, as a stream. At the first place in which two sets differ, the
+    set without this place comes first. There may be far too many: the caller stops when it has
+    enough."""
     waiting = [(0, order.full)]
     while waiting:
         places, future = waiting.pop()
@@ -32,8 +33,8 @@ def every_set(order: Order) -> Iterator[int]:
 
 
 def futures(order: Order) -> List[Dict[int, int]]:
-    """For each k the futures of the allowed sets of places below k, each with how many sets have
-    it; ReadingFault if there are too many for one k."""
+    """For each k, from 0 to the number of places, the futures of the allowed sets of places below
+    k, each with how many sets have it. ReadingFault if one k has more than MOST_FUTURES."""
     levels = [{order.full: 1}]
     for place in range(order.count):
         lowest = 1 << place
@@ -48,21 +49,24 @@ def futures(order: Order) -> List[Dict[int, int]]:
 
 
 def next_futures(order: Order, future: int, lowest: int) -> List[int]:
-    """The futures that follow one at a place, given as a set of one: without the place for good,
-    and with it. If the future doesn't have the place, it is its own successor."""
+    """The futures that follow a future when a place, given by `lowest` as a set of one, is decided:
+    first that of the sets without it, then that of the sets with it. If the future lacks the place,
+    only the future itself."""
     if not future & lowest:
         return [future]
     return [order.later_without(future, lowest), future & ~order.unit(lowest)]
 
 
 def count_sets(order: Order) -> int:
-    """How many allowed sets there are; ReadingFault if they are too many to count."""
+    """How many sets an order allows, exactly, even if there are more than 2^64. ReadingFault if one
+    k has more than MOST_FUTURES futures."""
     return sum(futures(order)[-1].values())
 
 
 def drawn_sets(order: Order, wanted: int, seed: int) -> Iterator[int]:
-    """So many allowed sets, drawn one after the other, each with the same chance for every set, and
-    the same ones for each seed; ReadingFault if they are too many to count."""
+    """Draws `wanted` allowed sets, each time with the same chance for every set, so one may come
+    twice. The same seed gives the same sets. ReadingFault, only when the first set is taken, if
+    there are more than MOST_MEMBERS sets, or more than MOST_FUTURES futures of one k."""
     extensions = count_extensions(order)
     total = extensions[0][order.full]
     if total > MOST_MEMBERS:
@@ -74,7 +78,7 @@ def drawn_sets(order: Order, wanted: int, seed: int) -> Iterator[int]:
 
 def count_extensions(order: Order) -> List[Dict[int, int]]:
     """For each k and each future there, how many allowed sets extend a set of places below k that
-    has this future. ReadingFault if the futures are too many."""
+    has this future. ReadingFault if one k has more than MOST_FUTURES."""
     levels = futures(order)
     found: List[Dict[int, int]] = [{0: 1}]
     for place in range(order.count - 1, -1, -1):
@@ -90,8 +94,9 @@ def count_extensions(order: Order) -> List[Dict[int, int]]:
 
 
 def set_at(order: Order, extensions: List[Dict[int, int]], number: int) -> int:
-    """The allowed set that has so many before it in the order of every_set; extensions are those of
-    count_extensions."""
+    """The allowed set that has `number` sets before it in the order of every_set(). The number must
+    be less than that of all allowed sets; `extensions` are those of count_extensions() for the same
+    order."""
     places, future = 0, order.full
     for place in range(order.count):
         lowest = 1 << place

@@ -6,8 +6,9 @@ from typing import Optional
 
 
 class ReadingFault(Exception):
-    """What the second reading refuses. The text is the program's for the same fault; of a trace's
-    line `line` is its number, and `why` says more."""
+    """What the second reading refuses. Its text is what the program prints for the same fault.
+    `line` is the number of the trace's line, or None if no line of a trace is at fault; `why`
+    explains the fault of a line, and is else empty."""
 
     def __init__(self, text: str, line: Optional[int] = None, why: str = '') -> None:
         super().__init__(text)
@@ -16,7 +17,8 @@ class ReadingFault(Exception):
 
 
 class LineFault(Exception):
-    """A fault of one line of a trace: its kind, and why."""
+    """A fault of one line of a trace: its kind in the program's words, such as `BadName`, and an
+    explanation."""
 
     def __init__(self, kind: str, why: str) -> None:
         super().__init__(kind)
@@ -24,7 +26,7 @@ class LineFault(Exception):
         self.why = why
 
     def at(self, line: int) -> ReadingFault:
-        """This fault as that of the line with a number, as the program prints it."""
+        """This fault as that of the line with this number, in the text that the program prints."""
         return ReadingFault(f'trace line {line}: {self.kind}', line, self.why)
 
 

@@ -16,7 +16,8 @@ LARGEST = 2**64 - 1
 
 def read_object(line: str) -> Dict[str, Any]:
     """The keys and values of a line; of two equal keys the last one counts. LineFault for what the
-    program doesn't read: no JSON, no object, values nested too deep, half of a surrogate pair."""
+    program doesn't read: no JSON, no object, a number that overflows, values nested deeper than
+    DEPTH levels, half of a surrogate pair."""
     try:
         value = json.loads(
             line, parse_int=number, parse_float=finite, parse_constant=refuse_constant
@@ -25,7 +26,7 @@ def read_object(line: str) -> Dict[str, Any]:
         raise syntax(f'no JSON: {error}') from error
     if not isinstance(value, dict):
         raise syntax('no JSON object')
-    if line.count('[') + line.count('{') > DEPTH and depth(value) > DEPTH:
+    if line.count('[') + line.count('{') > DEPTH and is_deeper(value, DEPTH):
         raise syntax(f'values nested deeper than {DEPTH} levels')
     if '\\u' in line:
         refuse_surrogates(value)
@@ -33,8 +34,9 @@ def read_object(line: str) -> Dict[str, Any]:
 
 
 def number(text: str) -> float:
-    """The number that digits mean. One with a sign, or with more digits than any number of a trace,
-    is a float, which no key accepts; ValueError if that is infinite."""
+    """The number that the digits of an integer mean. With a minus sign, or with more digits than
+    any number of a trace has, it is a float, which no key accepts; ValueError if that is
+    infinite."""
     return int(text) if text[0] != '-' and len(text) <= DIGITS else finite(text)
 
 
@@ -52,16 +54,24 @@ def refuse_constant(text: str) -> None:
     raise ValueError(f'{text} is no number')
 
 
-def depth(value: Any) -> int:
-    """How many levels of objects and arrays a value has; 0 for a value that is neither."""
-    if not isinstance(value, (dict, list)):
-        return 0
-    below = value.values() if isinstance(value, dict) else value
-    return 1 + max(map(depth, below), default=0)
+def is_deeper(value: Any, levels: int) -> bool:
+    """Whether a value has more than so many levels of objects and arrays: it has none if it is
+    neither, and an empty one has 1."""
+    of_level = [value]
+    for _ in range(levels):
+        of_level = [inner for outer in of_level for inner in inner_values(outer)]
+    return any(isinstance(one, (dict, list)) for one in of_level)
+
+
+def inner_values(value: Any) -> List[Any]:
+    """The values of an object or an array; none if a value is neither."""
+    if isinstance(value, dict):
+        return list(value.values())
+    return value if isinstance(value, list) else []
 
 
 def refuse_surrogates(value: Any) -> None:
-    """LineFault for a value that has a text with half of a surrogate pair."""
+    """LineFault for a value that has a text, or a key, with half of a surrogate pair."""
     try:
         json.dumps(value, ensure_ascii=False).encode('utf-8')
     except UnicodeEncodeError as error:
@@ -69,12 +79,14 @@ def refuse_surrogates(value: Any) -> None:
 
 
 def is_number(value: Any) -> bool:
-    """Whether a value is a number that a trace may have."""
+    """Whether a value is a number that a trace may have: an int from 0 to LARGEST. A boolean is
+    none."""
     return type(value) is int and 0 <= value <= LARGEST
 
 
 def read_array(line: bytes) -> List[Any]:
-    """The values of a line that is an array; LineFault if it isn't one."""
+    """The values of a line that is a JSON array; LineFault if it isn't one, or not UTF-8. What the
+    values are isn't checked."""
     try:
         value = json.loads(
             line.decode('utf-8'),

@@ -1,4 +1,4 @@
-"""The lines of a trace: what each says by itself, or its first fault."""
+"""The lines of a trace: what each contains by itself, or its first fault."""
 
 from __future__ import annotations
 
@@ -54,8 +54,9 @@ Fields = Dict[str, Any]
 
 @dataclass
 class Line:
-    """A line that is well formed, by its number: the key that says what it is (`trace`, `start` or
-    `op`), its word, which is empty for the header, and its keys with their values."""
+    """A line that is well formed: its number in the trace, the key that says what it is (`trace`,
+    `start` or `op`), its word, which is the value of that key but empty for the header, and all
+    keys with their values."""
 
     number: int
     key: str
@@ -63,7 +64,8 @@ class Line:
     fields: Fields
 
     def paths(self) -> Iterator[str]:
-        """The paths that the line has."""
+        """The paths that the line has, in the order of PATHS; none for a header, a sync or a
+        say."""
         return (self.fields[key] for key in PATHS if key in self.fields)
 
     @property
@@ -73,19 +75,21 @@ class Line:
 
     @property
     def data(self) -> bytes:
-        """The bytes of a file or a write that has no parts."""
+        """The bytes of a start file or a write. KeyError for a file in parts."""
         return bytes_of(self.fields)
 
     @property
     def parts(self) -> List[Tuple[int, bytes]]:
-        """The parts of a start file: the offset of each, and its bytes."""
+        """The parts of a start file, each after its offset. One that isn't written in parts has
+        one, with all its bytes, which may be none."""
         if 'parts' not in self.fields:
             return [(0, self.data)]
         return [(part['at'], bytes_of(part)) for part in self.fields['parts']]
 
     @property
     def length(self) -> int:
-        """The length of a start file, with its zeros."""
+        """The length of a start file: that of its bytes, or, if it is written in parts, the one
+        that it gives."""
         return int(self.fields['length']) if 'parts' in self.fields else len(self.data)
 
 
@@ -97,15 +101,17 @@ def bytes_of(fields: Fields) -> bytes:
 
 
 class LineJudge:
-    """Reads line after line, the header first. version is that of the header, 0 before it."""
+    """Checks the lines of a trace one after the other, the header first, each by itself: whether it
+    fits the tree isn't seen here. `version` is the header's, 0 before it."""
 
     def __init__(self) -> None:
         self.version = 0
         self.has_operation = False
 
     def read(self, number: int, text: str) -> Line:
-        """The line of a number, from its text; LineFault for the first fault that the line has by
-        itself. It must be given all lines, in their order."""
+        """The line with this number, from its text. LineFault for the first fault that it has by
+        itself. It must be given all lines that aren't empty, in their order, and none after a
+        fault."""
         fields = read_object(text)
         keys = [key for key in ('trace', 'start', 'op') if key in fields]
         if len(keys) != 1:
@@ -121,8 +127,8 @@ class LineJudge:
         return line
 
     def check_header(self, line: Line) -> None:
-        """Sets the version to that of a header. LineFault for an unknown version, or other keys or
-        values than those of its version."""
+        """Sets the version to that of a header. LineFault if the version is unknown, or if a key, a
+        value or the profile isn't one of that version."""
         version = line.fields['trace']
         if not is_number(version) or version not in HEADERS:
             raise syntax(f'version {version} is not known (1, 2, 3, 4)')
@@ -133,8 +139,9 @@ class LineJudge:
             raise syntax(f'profile "{profile}" is not known in version {version}')
 
     def check_word(self, line: Line) -> None:
-        """Sets the word of a line. LineFault for a word that the version lacks, for a start line
-        after an operation, and as check_keys raises it."""
+        """Sets the word of a start line or an operation. LineFault if it is no text, if the version
+        has no such line (UnknownOp), if it is a start line after an operation, or if check_keys()
+        raises it."""
         if line.key == 'start' and self.has_operation:
             raise syntax('a start line after an operation')
         self.has_operation = line.key == 'op'
@@ -148,8 +155,9 @@ class LineJudge:
         self.check_keys(line, keys)
 
     def check_keys(self, line: Line, keys: Tuple[str, ...]) -> None:
-        """LineFault for a line that lacks one of some keys, has another one, or a value that its
-        key may not have."""
+        """LineFault if a line lacks one of `keys`, has another key, or has a value that its key may
+        not have. Since version 3 a line may have a `note` too, and may have its bytes as
+        other_bytes() allows."""
         wanted, found = {line.key, *keys}, set(line.fields)
         if self.version >= 3:
             wanted |= found & {'note'}
@@ -167,15 +175,17 @@ class LineJudge:
             check_target(line.fields['target'])
 
     def other_bytes(self, line: Line) -> Set[str]:
-        """The keys by which a line has its bytes if it hasn't `bytes`: `text`, or the length and
-        the parts of a file. `bytes` if it has none of them, so that it is reported as missing."""
+        """The keys by which a line that lacks `bytes` gives its bytes: `text`, or in a start file
+        `length` and `parts`. If its version or its keys allow neither, `bytes`, which is then
+        reported as missing."""
         if self.version >= 4 and line.key == 'start' and 'parts' in line.fields:
             return {'length', 'parts'}
         return {'text' if self.version >= 3 and 'text' in line.fields else 'bytes'}
 
 
 def check_value(key: str, value: Any) -> None:
-    """LineFault for a value that isn't of its key's kind."""
+    """LineFault for a value that isn't of its key's kind. A key that isn't named here may have any
+    text."""
     if key in ('offset', 'length', 'block', 'at'):
         if not is_number(value) or key == 'block' and value not in BLOCK_SIZES:
             raise syntax(f'{key} {value} is no number that it may have')
@@ -195,8 +205,9 @@ def check_value(key: str, value: Any) -> None:
 
 
 def check_parts(line: Line) -> None:
-    """LineFault for parts that aren't the bytes of a file: they ascend, are apart and not empty,
-    and end at the file's end at the latest."""
+    """LineFault unless the parts of a start file are in ascending order, don't overlap, aren't
+    empty, and end at its length at the latest. Each has `at`, one of `bytes` and `text`, and
+    nothing else."""
     for part in line.fields['parts']:
         if set(part) not in ({'at', 'bytes'}, {'at', 'text'}):
             raise syntax('a part has at, and bytes or text, and nothing else')
@@ -214,13 +225,15 @@ def check_parts(line: Line) -> None:
 
 
 def check_target(target: str) -> None:
-    """LineFault for a symbolic link's target that is empty, too long, or has a NUL."""
+    """LineFault for a symbolic link's target that is empty, longer than TARGET_BYTES, or has a
+    NUL."""
     if not 1 <= len(target.encode('utf-8')) <= TARGET_BYTES or '\0' in target:
         raise syntax(f'a target is 1 to {TARGET_BYTES} bytes without NUL')
 
 
 def check_names(line: Line) -> None:
-    """LineFault for a path, an owner or a group that no file can have."""
+    """LineFault (BadName) for a path, an owner or a group that no file can have. The path `/` is
+    accepted only of an fsync, a chmod and a chown."""
     for path in line.paths():
         if path == '/' and line.word in TAKE_ROOT:
             continue
@@ -233,7 +246,8 @@ def check_names(line: Line) -> None:
 
 
 def is_name(name: str) -> bool:
-    """Whether a text is a name of an entry."""
+    """Whether a text, which has no slash, may be one name of a path: 1 to NAME_BYTES bytes without
+    NUL, but not `.` or `..`."""
     return (
         1 <= len(name.encode('utf-8')) <= NAME_BYTES
         and '\0' not in name

@@ -13,8 +13,9 @@ from .states import Digest
 
 
 def listing(plan: StateList, lines: bool = False, same: bool = False) -> Iterator[str]:
-    """The lines that `list` prints of a plan: with `lines` as --lines has them, with `same` as
-    --same."""
+    """The lines that `list` prints of a plan: one for each micro-operation, then one for each
+    state. With `lines` they have what --lines adds. With `same` each state has the number of the
+    first state that has an equal tree, which may be its own."""
     for place, operation in enumerate(plan.reading.operations):
         yield f'op {place} {operation.text}{origin_text(operation) if lines else ""}\n'
     first: Dict[Digest, int] = {}
@@ -26,14 +27,16 @@ def listing(plan: StateList, lines: bool = False, same: bool = False) -> Iterato
 
 
 def origin_text(operation: Micro) -> str:
-    """What --lines adds: the number of the trace's line that a micro-operation comes from, and the
-    path of a file that it changes."""
+    """What --lines adds to the line of a micro-operation: the number of the trace's line that it
+    comes from, and the path of a file that it changes. Other micro-operations have no path here."""
     path = '' if operation.file is None else operation.path
     return f' line {operation.line} {path}'.rstrip()
 
 
 def json_listing(plan: StateList) -> Iterator[str]:
-    """The lines that `list --json` prints of a plan."""
+    """The lines that `list --json` prints of a plan: one for each micro-operation, then one for
+    each state. What a micro-operation needs includes itself. Only in version 4 a state has the
+    profiles that allow it."""
     for place, operation in enumerate(plan.reading.operations):
         needs = list(places_of(plan.order.needs[place] | 1 << place))
         yield as_line(
@@ -60,7 +63,8 @@ def json_listing(plan: StateList) -> Iterator[str]:
 
 
 def state_fields(text: str) -> Dict[str, Any]:
-    """The fields of JSON that say which set a state is, from its text in a StateList."""
+    """The fields of JSON that say which set a state is, from its text in a StateList: `prefix END`,
+    `hole MISSING END`, or `pick PLACES`, which is `pick -` for the empty set."""
     kind, *numbers = text.split(' ')
     if kind == 'pick':
         places = [] if numbers == ['-'] else list(map(int, numbers[0].split(',')))

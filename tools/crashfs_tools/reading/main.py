@@ -35,7 +35,9 @@ HELP = (
 
 
 def main(words: List[str]) -> int:
-    """Runs a command, such as `list`, and returns its exit status, which is the program's."""
+    """Runs a command, such as `list`, and returns its exit status, which is the program's: 1 if the
+    input has a fault, or if the reader of standard output is gone; 2 for wrong options. Other
+    errors of standard output are raised."""
     try:
         options = read_options(words)
         print_output(words[0], options)
@@ -56,8 +58,9 @@ def main(words: List[str]) -> int:
 
 
 def read_options(words: List[str]) -> Options:
-    """The options of a command, each with its value, or True if it takes none; Usage for one that
-    it lacks."""
+    """The options of a command, each with its value, or True if it takes none. A value that is
+    missing is an empty text. Usage for an unknown command or option, if --trace is missing, or for
+    options of `picks` that don't go together. With --help nothing more is checked."""
     if not words or words[0] not in FLAGS:
         raise Usage(f"unrecognized subcommand '{words[0] if words else ''}'")
     options: Options = {}
@@ -79,8 +82,9 @@ def read_options(words: List[str]) -> Options:
 
 
 def print_output(command: str, options: Options) -> None:
-    """Prints what a command asks for. ReadingFault if its input has a fault, Usage if its options
-    don't go together."""
+    """Prints what a command asks for. ReadingFault if an input file has a fault, if its states or
+    sets are too many, or if there is no such state. Usage if --state or --states of `tar` is no
+    number or list."""
     if '--help' in options:
         print(HELP)
         return
@@ -109,7 +113,8 @@ def file_bytes(path: str) -> bytes:
 
 
 def write_archive(plan: StateList, options: Options) -> None:
-    """Writes the archive that the options of `tar` ask for."""
+    """Writes the archive that the options of `tar` ask for to standard output. If they name no
+    state of the plan, it is refused, as by numbers_of_states(), before anything is written."""
     # `list` begins faster without tarfile.
     from .archive import ArchiveWriter
 
@@ -124,8 +129,9 @@ def write_archive(plan: StateList, options: Options) -> None:
 
 
 def numbers_of_states(plan: StateList, options: Options) -> List[int]:
-    """The numbers of the states that the options of `tar` name, in their order. ReadingFault if a
-    state isn't there, Usage if the text is no list of numbers."""
+    """The numbers of the states that --state or --states names, in this order; one may come twice.
+    ReadingFault if the plan has no such state, Usage if the text is no list of numbers, also if
+    neither option is given."""
     if '--state' in options:
         shown = str(options['--state'])
         if not is_number(shown):
@@ -140,7 +146,8 @@ def numbers_of_states(plan: StateList, options: Options) -> List[int]:
 
 
 def ranges_of(shown: str) -> List[range]:
-    """The ranges of a list of numbers and ranges, in its order; Usage if it isn't one."""
+    """The ranges of a list of numbers and ranges, such as `0,4-7`, in its order; a number is a
+    range of one. Usage if the text is no such list, or if a range ends before it begins."""
     ranges: List[range] = []
     for piece in shown.split(','):
         first, dash, last = piece.partition('-')

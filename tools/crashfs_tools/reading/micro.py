@@ -11,10 +11,11 @@ Rights = Tuple[str, str, str]
 
 
 class Micro:
-    """A micro-operation. paths: those of its line. entries: those that it touches. handled: the
-    files, symbolic links and directories that it makes, links, moves, removes or replaces. file:
-    the number of the file whose size, bytes or rights it changes, with a path of it. directory: the
-    number of the directory whose rights it changes. line: the number of its line."""
+    """A micro-operation. paths: those that `list` prints of it. entries: those that it touches.
+    handled: the files, symbolic links and directories that it makes, links, moves, removes or
+    replaces. file: the number of the file whose size, bytes or rights it changes, with a path that
+    the file had then. directory: the number of the directory whose rights it changes. line: the
+    number of its line in the trace, 0 until Reading.read_line() sets it."""
 
     paths: Tuple[str, ...] = ()
     entries: Tuple[Entry, ...] = ()
@@ -36,18 +37,18 @@ class Micro:
         raise NotImplementedError
 
     def fields(self) -> Dict[str, Any]:
-        """What JSON has of it, but for its kind, its line and its needs."""
+        """Its fields in `list --json`, except its kind, its line and its needs."""
         raise NotImplementedError
 
     def path_of_file(self) -> Dict[str, Any]:
-        """The fields of JSON that a micro-operation on a file has: a path of it, if it has one, and
-        its number."""
+        """The fields of a micro-operation on a file in `list --json`: a path of the file, None if
+        it has none, and its number."""
         return {'path': self.path or None, 'file': self.file}
 
 
 class CreateEntry(Micro):
-    """A file, a symbolic link or a directory is made at an entry. target: that of a symbolic
-    link."""
+    """A file, a symbolic link or a directory (`node`) is made at an entry, with these rights.
+    target: that of a symbolic link, else empty."""
 
     def __init__(
         self, path: str, entry: Entry, node: Inode, rights: Rights, target: str = ''
@@ -64,6 +65,7 @@ class CreateEntry(Micro):
         return f'create_dir_entry {self.paths[0]} {self.node.kind}'
 
     def fields(self) -> Dict[str, Any]:
+        """See Micro.fields. A directory has no `file`, and only a symbolic link has `target`."""
         fields: Dict[str, Any] = {'path': self.paths[0], 'node': self.node.kind}
         if self.node.kind != DIRECTORY:
             fields['file'] = self.node.number
@@ -71,8 +73,8 @@ class CreateEntry(Micro):
 
 
 class DeleteEntry(Micro):
-    """An entry of a directory is removed; node is what it named. half is 2 if it is the second half
-    of a rename."""
+    """An entry of a directory is removed; node is what it held. half is 2 if this is the second
+    half of a rename, else 0."""
 
     def __init__(self, path: str, entry: Entry, node: Inode, half: int = 0) -> None:
         self.paths, self.entries, self.handled = (path,), (entry,), (node,)
@@ -90,8 +92,8 @@ class DeleteEntry(Micro):
 
 
 class MoveEntry(Micro):
-    """What is at the first entry is moved to the second one. replaced: what was there. In JSON only
-    version 4 has what is moved."""
+    """What is at the first of two entries (`node`) is moved to the second one. replaced: what was
+    there, or None. shows_node: whether JSON has the kind of what is moved, as in version 4."""
 
     def __init__(
         self,
@@ -119,8 +121,8 @@ class MoveEntry(Micro):
 
 
 class LinkEntry(Micro):
-    """A file gets one more entry. half is 1 if it is the first half of a rename, which alone may
-    replace something."""
+    """A file or symbolic link gets one more entry. half is 1 if this is the first half of a rename,
+    else 0. Only a first half may replace something: `replaced` is that, or None."""
 
     def __init__(
         self,
@@ -159,8 +161,8 @@ class ChangeSize(Micro):
 
 
 class WriteBlock(Micro):
-    """Bytes are written into a block of a file, at an offset in it. begin is their offset in the
-    file."""
+    """Bytes are written into a block of a file, at an offset in it; size is that of a block. begin
+    is their offset in the file."""
 
     def __init__(self, file: int, block: int, size: int, at: int, data: bytes) -> None:
         self.file = file
@@ -178,7 +180,8 @@ class WriteBlock(Micro):
 
 
 class SetRights(Micro):
-    """A file, or a directory by its number and path, gets owner and mode."""
+    """A file, given by its number, gets an owner, a group and a mode; or, if `file` is None, a
+    directory, given by its number and path."""
 
     def __init__(
         self, rights: Rights, file: Optional[int], directory: Optional[int] = None, path: str = ''
@@ -190,11 +193,13 @@ class SetRights(Micro):
 
     @property
     def text(self) -> str:
+        """See Micro.text. A directory is printed by its path, a file by its number."""
         owner, group, mode = self.rights
         target = f'dir {self.path}' if self.file is None else f'file {self.file}'
         return f'set_attr {target} {mode} {owner} {group}'
 
     def fields(self) -> Dict[str, Any]:
+        """See Micro.fields. A directory has a path, a file also its number."""
         place = self.path_of_file() if self.directory is None else {'path': self.path}
         owner, group, mode = self.rights
         return {**place, 'mode': mode, 'owner': owner, 'group': group}

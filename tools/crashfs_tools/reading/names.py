@@ -16,8 +16,8 @@ ROOT = 0
 
 
 class Inode(NamedTuple):
-    """A directory, or a file or symbolic link, by its number: directories and files are counted
-    apart."""
+    """A directory, or a file or symbolic link, by its kind and number. Files and symbolic links are
+    counted together, directories apart."""
 
     kind: str
     number: int
@@ -28,18 +28,19 @@ Entry = Tuple[int, str]
 
 
 def parent(path: str) -> str:
-    """The path of the directory that has a path's last name; that of the root is the root."""
+    """The path of the directory that has a path's last name; the root's is the root itself."""
     return path.rpartition('/')[0] or '/'
 
 
 class Names:
-    """The tree after the lines read so far: what each directory holds, and where each directory
-    and file is. In versions 1 to 3 a directory's number is that of its path: one that is made
-    again has the old number.
+    """The tree after the lines read so far: what each directory holds, and where each directory and
+    file is. In versions 1 to 3 a directory's number is that of its path: one that is made again has
+    the old number.
 
     children has what each directory holds, by its number; entries the entries of each file or
     symbolic link, by its number, the oldest first; directories the entry of each directory, also of
-    one that is gone. children and these two always agree."""
+    one that is gone. Methods that change the tree don't check a line: refuse_unfit() comes first.
+    """
 
     def __init__(self, version: int = 1) -> None:
         self.version = version
@@ -56,8 +57,8 @@ class Names:
     # Where things are
 
     def inode_at(self, path: str) -> Optional[Inode]:
-        """What is at a path; None if nothing is. Nothing is looked up through a file or a symbolic
-        link."""
+        """What is at a path; None if nothing is. A file or a symbolic link has nothing below it:
+        links aren't followed."""
         found: Optional[Inode] = Inode(DIRECTORY, ROOT)
         for name in path.split('/')[1:] if path != '/' else []:
             if found is None or found.kind != DIRECTORY:
@@ -66,31 +67,34 @@ class Names:
         return found
 
     def entry(self, path: str) -> Entry:
-        """The entry of a path, whose parent directory must be there."""
+        """The entry of a path, at which something may be or not. AssertionError if its parent
+        directory isn't there."""
         above = self.inode_at(parent(path))
         assert above is not None and above.kind == DIRECTORY
         return above.number, path.rpartition('/')[2]
 
     def file_number(self, path: str) -> int:
-        """The number of the file or symbolic link at a path, which must be there."""
+        """The number of the file or symbolic link at a path. AssertionError if none is there."""
         node = self.inode_at(path)
         assert node is not None and node.kind != DIRECTORY
         return node.number
 
     def path_of(self, entry: Entry) -> str:
-        """The path that an entry has in the tree as it is now."""
+        """The path that an entry has in the tree as it is now; its directory must be there."""
         directory, name = entry
         above = '' if directory == ROOT else self.path_of(self.directories[directory])
         return f'{above}/{name}'
 
     def path_of_file(self, number: int) -> str:
-        """The oldest path of a file, by its number; it must have one."""
+        """The oldest of the paths of a file or symbolic link, given by its number. IndexError if it
+        has none any more."""
         return self.path_of(self.entries[number][0])
 
     # What lines do
 
     def add_file(self, path: str, size: int, kind: str = FILE) -> Inode:
-        """Makes a file or a symbolic link at a free path, with the next number."""
+        """Makes a file of a size, or a symbolic link, at a free path, and returns it. It has the
+        next number."""
         self.sizes.append(size)
         self.entries.append([])
         node = Inode(kind, len(self.sizes) - 1)
@@ -98,8 +102,8 @@ class Names:
         return node
 
     def add_directory(self, path: str) -> Inode:
-        """Makes a directory at a free path. Up to version 3 one that is made again has its number
-        again."""
+        """Makes an empty directory at a free path, and returns it. It has the next number; but up
+        to version 3 one that is made again at an entry has its old number."""
         entry = self.entry(path)
         number = len(self.directories) + 1
         if self.version < 4:
@@ -111,7 +115,8 @@ class Names:
         return node
 
     def add_path(self, path: str, node: Inode) -> None:
-        """Gives a file or directory a free path, which counts as a record."""
+        """Gives a file or directory a free path. This counts as a record, also after the path is
+        gone."""
         self.records += 1
         entry = self.entry(path)
         self.children[entry[0]][entry[1]] = node
@@ -119,7 +124,8 @@ class Names:
             self.entries[node.number].append(entry)
 
     def remove(self, path: str) -> Inode:
-        """Removes the entry of a path where something is, and returns what it named."""
+        """Removes the entry of a path, at which something must be, and returns what it held. A
+        directory must be empty."""
         entry = self.entry(path)
         node = self.children[entry[0]].pop(entry[1])
         if node.kind != DIRECTORY:
@@ -127,8 +133,9 @@ class Names:
         return node
 
     def move(self, old: str, new: str) -> None:
-        """Moves what is at a path to another one; what is there is replaced. Among the paths of a
-        file the new one has the old one's place."""
+        """Moves what is at a path to another one, which isn't one of the same file; what is there
+        is replaced. In the order of a file's paths by age, the new path has the place of the old
+        one. In version 4 a move into another directory counts as a record."""
         source, target = self.entry(old), self.entry(new)
         if self.inode_at(new) is not None:
             self.remove(new)
@@ -149,8 +156,8 @@ class Names:
     # What a line needs
 
     def refuse_unfit(self, line: Line) -> None:
-        """LineFault if a line doesn't fit the tree: a path is missing, taken or of another kind, or
-        a limit is passed."""
+        """LineFault with the first fault of a line in the tree as it is: a path is missing, taken
+        or of another kind, or a limit is passed. It changes nothing. A header always fits."""
         if line.key == 'trace':
             return
         if line.word in ('creat', 'mkdir', 'dir', 'file', 'symlink'):
@@ -173,20 +180,22 @@ class Names:
         self.refuse_too_large(line)
 
     def need(self, path: str) -> Inode:
-        """What is at a path; LineFault if nothing is."""
+        """What is at a path; LineFault (Missing) if nothing is."""
         node = self.inode_at(path)
         if node is None:
             raise LineFault('Missing', f'{path} is not there')
         return node
 
     def need_kind(self, path: str, kinds: Tuple[str, ...]) -> None:
-        """LineFault unless something of one of these kinds is at a path."""
+        """LineFault unless something of one of these kinds is at a path: Missing, or NotFile for
+        another kind."""
         node = self.need(path)
         if node.kind not in kinds:
             raise LineFault('NotFile', f'{path} is {WORDS[node.kind]}')
 
     def need_parent(self, path: str) -> None:
-        """LineFault unless a path's directory is there."""
+        """LineFault unless a path's parent directory is there: NoParent if nothing is, NotDir for a
+        file or symbolic link."""
         above = self.inode_at(parent(path))
         if above is None:
             raise LineFault('NoParent', f'{parent(path)} is not there')
@@ -194,13 +203,16 @@ class Names:
             raise LineFault('NotDir', f'{parent(path)} is {WORDS[above.kind]}')
 
     def need_free(self, path: str) -> None:
-        """LineFault unless something can be made at a path."""
+        """LineFault unless something can be made at a path: as need_parent(), or Exists if
+        something is there."""
         self.need_parent(path)
         if self.inode_at(path) is not None:
             raise LineFault('Exists', f'{path} is there already')
 
     def refuse_rename(self, old: str, new: str) -> None:
-        """LineFault with the first fault of a rename of `old` to `new`, if it has one."""
+        """LineFault with the first fault of a rename of `old` to `new`, if it has one. One onto
+        itself, or onto a path of the same file, has none. Up to version 3 no directory can be
+        renamed."""
         node = self.need(old)
         if node.kind == DIRECTORY and self.version < 4:
             raise LineFault('NotFile', f'{old} is a directory')
@@ -216,7 +228,7 @@ class Names:
             raise LineFault('NotFile', f'{new} is a directory')
 
     def refuse_rmdir(self, path: str) -> None:
-        """LineFault unless an empty directory is at a path."""
+        """LineFault unless an empty directory is at a path: Missing, NotDir, or NotEmpty."""
         node = self.need(path)
         if node.kind != DIRECTORY:
             raise LineFault('NotDir', f'{path} is {WORDS[node.kind]}')
@@ -224,7 +236,9 @@ class Names:
             raise LineFault('NotEmpty', f'{path} has entries')
 
     def refuse_too_large(self, line: Line) -> None:
-        """LineFault if a path, the records or a file would be larger than a limit."""
+        """LineFault (TooLarge) if a path of a line has too many names or a say too many bytes, or
+        if the line would make too many records or a file that is too large. All else of the line
+        must fit."""
         if any(path.count('/') > PATH_NAMES for path in line.paths()):
             raise LineFault('TooLarge', f'a path of more than {PATH_NAMES} names')
         if self.records >= RECORDS and (line.word in MAKES_RECORD or self.moves_elsewhere(line)):
@@ -236,8 +250,8 @@ class Names:
             raise LineFault('TooLarge', f'a file of more than {most} bytes')
 
     def moves_elsewhere(self, line: Line) -> bool:
-        """Whether a line is a rename, of version 4, into another directory that does something: it
-        counts as a record."""
+        """Whether a line is a rename of version 4 into another directory, which counts as a record.
+        One between two paths of one file does nothing, and doesn't count."""
         if self.version < 4 or line.word != 'rename':
             return False
         old, new = line.fields['from'], line.fields['to']
@@ -245,7 +259,8 @@ class Names:
 
 
 def end_of(line: Line) -> int:
-    """The offset at which a line's bytes end; 0 if it writes none."""
+    """The offset at which the bytes of a write, a truncate or a start file end. 0 for other lines,
+    and for a write of no bytes, whatever its offset."""
     if line.word == 'truncate':
         return int(line.fields['length'])
     if line.word == 'file':

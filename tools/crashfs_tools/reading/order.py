@@ -28,9 +28,9 @@ IN_ORDER = ('ordered', 'journal')
 
 
 def marks_of_same_thing(operation: Micro) -> Iterator[Mark]:
-    """The marks of what a micro-operation changes and no two change out of order: a block, a size,
-    a file's rights (P1, P7), an entry, and a directory that is made or removed or gets rights
-    (P2)."""
+    """The marks of the things that a micro-operation changes, if all changes of such a thing stay
+    in order: a block, a size (P1), a file's rights (P7), an entry, and a directory that is made or
+    removed or gets rights (P2). An acknowledged line has none."""
     if isinstance(operation, WriteBlock):
         yield 'block', operation.file, operation.block
     elif isinstance(operation, ChangeSize):
@@ -49,7 +49,7 @@ def marks_of_same_thing(operation: Micro) -> Iterator[Mark]:
 
 
 def marks_left(operation: Micro) -> Iterator[Mark]:
-    """The marks by which a micro-operation is found when a later one asks."""
+    """The marks that a micro-operation leaves: a later one that asks for one of them needs it."""
     yield from marks_of_same_thing(operation)
     if isinstance(operation, Acknowledgement):
         yield ('say',)
@@ -64,7 +64,8 @@ def marks_left(operation: Micro) -> Iterator[Mark]:
 
 
 def marks_asked(operation: Micro, reading: Reading, profile: str) -> Iterator[Mark]:
-    """The marks that a micro-operation asks for: it needs all earlier ones that have left one."""
+    """The marks that a micro-operation asks for under a profile: it needs all earlier ones that
+    left one of them. P3, P5, P11 and P13 aren't among them."""
     yield from marks_of_same_thing(operation)
     if operation.removed_directory is not None:
         yield 'entry in', operation.removed_directory  # P4
@@ -79,10 +80,14 @@ def marks_asked(operation: Micro, reading: Reading, profile: str) -> Iterator[Ma
 
 
 class Order:
-    """Sets of places are numbers whose bits are the places. needs: for each micro-operation all
-    that it needs, by any chain. synced: for each number of micro-operations what sync points before
-    the next one cover, and logged: what they wrote to a log. units: the places that an allowed set
-    has together or not at all, by the first of them, where they are more than one."""
+    """Which sets of places a profile allows; if none is given, the trace's own. Sets are numbers,
+    as in place_sets. needs: for each place the set of those that its micro-operation needs, by any
+    chain. needed_by: the inverse. synced and logged: for each place, and for the end, the set that
+    sync points before it cover, and the set that they wrote to a log.
+
+    units: by their first places, sets of several places that an allowed set has as a whole or not
+    at all. Only also_under() makes them.
+    """
 
     def __init__(self, reading: Reading, profile: Optional[str] = None) -> None:
         self.count = len(reading.operations)
@@ -94,8 +99,8 @@ class Order:
         self.units: Dict[int, int] = {}
 
     def all_needs(self, reading: Reading) -> List[int]:
-        """What each micro-operation needs, by all rules and by any chain, as sets of places; itself
-        isn't among them."""
+        """For each place the set of those that its micro-operation needs, by all rules and by any
+        chain; itself isn't among them."""
         needs: List[int] = []
         left: Dict[Mark, int] = {}
         directories: Dict[int, int] = {}
@@ -122,25 +127,27 @@ class Order:
         return (1 << self.count) - 1
 
     def pending(self, count: int) -> int:
-        """Which of the first so many micro-operations no sync before the next one has made durable,
-        as a set; what a durable one needs is durable too."""
+        """Which of the first `count` micro-operations no sync point before the next one has made
+        durable, as a set. What a durable one needs is durable too."""
         durable = self.synced[count] | self.logged[count]
         for place in places_of(durable):
             durable |= self.needs[place]
         return (1 << count) - 1 & ~durable
 
     def later_without(self, future: int, lowest: int) -> int:
-        """The future in which the lowest place of a future, as a set of one, is left out for good,
-        and so all that need it."""
+        """What remains of a future if its lowest place, given by `lowest` as a set of one, is left
+        out for good, and with it all that need it."""
         return future & ~lowest & ~self.needed_by[lowest.bit_length() - 1]
 
     def unit(self, lowest: int) -> int:
-        """The set that is added with the lowest place of a future, given as a set of one."""
+        """The set of the places that an allowed set gets together with the lowest place of its
+        future, given by `lowest` as a set of one: the unit of this place, or only the place."""
         return self.units.get(lowest.bit_length() - 1, lowest)
 
     def needed_in_both(self, other: Order) -> Order:
-        """The order that allows a set if this one and another do, of the same micro-operations.
-        What one of them has made durable is durable."""
+        """The order that allows a set exactly if this one and another do. Both must be of the same
+        micro-operations. What one of them has made durable is durable, and the profile is that of
+        this one."""
         both = copy(self)
         both.needs, both.units = [], {**self.units, **other.units}
         both.synced = list(map(or_, self.synced, other.synced))
@@ -156,7 +163,8 @@ class Order:
 
     def also_under(self, reading: Reading, profile: str) -> Order:
         """The order that allows a set if this one does, and a file system of a profile may leave
-        it: only with `blocks` a rename may be half done. The reading is that of this order."""
+        it; it has that profile. Except with `blocks`, a rename in two halves is one unit. `reading`
+        must be that of this order."""
         other = Order(reading, profile)
         if profile != 'blocks':
             other.units = {place: 0b11 << place for place in half_places(reading.operations)}
@@ -165,8 +173,9 @@ class Order:
         return both
 
     def acknowledged_first(self, reading: Reading) -> Order:
-        """The order that allows a set if this one does, and the set has, for each member, all
-        acknowledged lines before it."""
+        """The order that allows a set if this one does, and if the set has, for each member, all
+        acknowledged lines before it. From version 3 on it is the same order. `reading` must be that
+        of this order."""
         first = copy(self)
         says, first.needs = 0, []
         for place, operation in enumerate(reading.operations):
@@ -175,12 +184,11 @@ class Order:
         return self.needed_in_both(first)
 
     def is_allowed(self, places: int) -> bool:
-        """Whether a crash may leave the micro-operations of a set and no others."""
+        """Whether a set has all that its members need. Units aren't looked at."""
         return not any(self.needed_by[place] & places for place in places_of(lacking_of(places)))
 
     def without(self, places: int, lost: int) -> int:
-        """The set that stays of a set if the members of another are lost, and with them all that
-        need one of these."""
+        """A set without the members of `lost`, and without all that need one of these."""
         gone = lost
         for place in places_of(lost):
             gone |= self.needed_by[place]
@@ -188,7 +196,7 @@ class Order:
 
 
 def inverse(needs: List[int]) -> List[int]:
-    """For each place the set of those that need it, from the set that each needs."""
+    """For each place the set of those that need it, from the sets that each one needs."""
     found = [0] * len(needs)
     for place, mask in enumerate(needs):
         for needed in places_of(mask):
@@ -209,8 +217,9 @@ def synced_sets(operations: List[Micro], syncs: List[SyncPoint]) -> List[int]:
 
 
 def logged_sets(reading: Reading, profile: str) -> List[int]:
-    """For each place, and for the end, the set that the log has which sync points before it wrote:
-    with the profile `journal` all changes of entries before them, with others nothing."""
+    """For each place, and for the end, the set of what sync points before it wrote to the log. With
+    the profile `journal` a fresh sync point writes all changes of entries before it; with other
+    profiles there is no log, and all sets are empty."""
     entries, logged, begin = 0, [0] * (len(reading.operations) + 1), 0
     if profile != 'journal':
         return logged
@@ -226,19 +235,19 @@ def logged_sets(reading: Reading, profile: str) -> List[int]:
 
 
 def half_places(operations: List[Micro]) -> List[int]:
-    """The places of the first halves of renames; the second one follows each."""
+    """The places of the first halves of renames. The second half is always at the next place."""
     return [place for place, operation in enumerate(operations) if operation.half == 1]
 
 
 def profile_names(reading: Reading) -> List[str]:
-    """The names of the profiles that a trace of this version has, from the one that allows the most
-    on."""
+    """The names of the profiles that a trace of this version may have, from the one that allows the
+    most to the one that allows the least."""
     return [name for name in PROFILES if PROFILES_SINCE.get(name, 1) <= reading.version]
 
 
 def order_in(reading: Reading, profile: str) -> Order:
-    """The order that allows a set if that of the trace does, and a file system of the profile may
-    have it; ReadingFault if traces of this version haven't the profile."""
+    """The order that allows a set if the trace's own order does, and a file system of the profile
+    may leave it. ReadingFault if traces of this version can't have the profile."""
     if profile not in profile_names(reading):
         raise ReadingFault('no such profile')
     order = Order(reading)
@@ -246,21 +255,24 @@ def order_in(reading: Reading, profile: str) -> Order:
 
 
 def orders_in(reading: Reading) -> Dict[str, Order]:
-    """The order of order_in for each profile of the trace, by its name."""
+    """The order of order_in() for each profile of profile_names(), by its name, in this order."""
     return {profile: order_in(reading, profile) for profile in profile_names(reading)}
 
 
 class Profiles:
-    """Under which profiles sets of one trace are allowed. The micro-operations are those of the
-    trace's own profile."""
+    """Under which profiles a set of a trace is allowed, each by its own rules: unlike order_in(),
+    those of the trace's own profile aren't added. The micro-operations are those of the trace's own
+    profile, which divides renames in halves or doesn't."""
 
     def __init__(self, reading: Reading) -> None:
-        self.orders: Dict[str, Order] = {it: Order(reading, it) for it in profile_names(reading)}
+        self.orders: Dict[str, Order] = {
+            name: Order(reading, name) for name in profile_names(reading)
+        }
         self.halves = half_places(reading.operations)
 
     def names(self, places: int) -> List[str]:
-        """The names of the profiles by whose rules a set is allowed. Only `blocks` has a rename
-        that is half done."""
+        """The names of the profiles whose rules allow a set, in the order of profile_names(); empty
+        if none does. Only `blocks` allows a rename that is half done."""
         is_whole = all(places >> place & 0b11 != 0b01 for place in self.halves)
         return [
             name

@@ -23,12 +23,13 @@ Options = Dict[str, Union[str, bool]]
 
 
 class Usage(Exception):
-    """A command line that is refused."""
+    """A command line that is refused, as a line that says why."""
 
 
 def refuse_options(options: Options) -> None:
-    """Usage for options that don't go together, or a value that is out of range."""
-    families = [it for it in ('--every', '--sample') if it in options]
+    """Usage unless exactly one of --every, --sample and the families (--lost and --files) is asked
+    for, the options go together, and their values are in range."""
+    families = [option for option in ('--every', '--sample') if option in options]
     families += ['--lost'] if {'--lost', '--files'} & options.keys() else []
     if len(families) != 1:
         raise Usage('one of --every, --sample, --lost and --files is needed')
@@ -47,8 +48,8 @@ def refuse_options(options: Options) -> None:
 
 
 def number_of_option(options: Options, option: str, default: int = MOST) -> int:
-    """The number that an option has, or a default if it isn't given; Usage if it is no number, or
-    out of range."""
+    """The number that an option has, or `default` if it isn't given. Usage if it is no number, or
+    not in the option's range, LEAST to LARGEST."""
     if option not in options:
         return default
     text = str(options[option])
@@ -58,13 +59,15 @@ def number_of_option(options: Options, option: str, default: int = MOST) -> int:
 
 
 def is_number(text: str) -> bool:
-    """Whether a text is a number that eight bytes hold."""
+    """Whether a text is a number that eight bytes hold: digits only, at most 20, also with zeros in
+    front."""
     return text.isascii() and text.isdecimal() and len(text) <= 20 and int(text) < 2**64
 
 
 def printed_lines(reading: Reading, options: Options) -> Iterator[str]:
-    """The lines that `picks` prints of a trace. ReadingFault, before the first line, if it is
-    refused."""
+    """The lines that `picks` prints of a trace, for options that refuse_options() has accepted.
+    ReadingFault, before the first line, if there are too many sets, or traces of this version can't
+    have the profile."""
     if '--count' in options:
         yield f'{shown_count(count_sets(Order(reading)))}\n'
         return
@@ -73,15 +76,16 @@ def printed_lines(reading: Reading, options: Options) -> Iterator[str]:
 
 
 def shown_count(count: int) -> str:
-    """A number as `picks --count` prints it: one that eight bytes don't hold is only `more
-    than`."""
+    """A number as `picks --count` prints it: above the largest number of eight bytes it is `more
+    than` and that number."""
     largest = 2**64 - 1
     return str(count) if count <= largest else f'more than {largest}'
 
 
 def sets_of(reading: Reading, options: Options) -> Iterator[List[int]]:
-    """The places of each set that the options ask for, in the order in which they are printed;
-    ReadingFault if they are refused."""
+    """The places of each set that the options ask for, in the order in which they are printed; a
+    set of both families comes twice. ReadingFault as every_members() and drawn_sets() raise it: the
+    latter only when the first set is taken."""
     if '--every' in options:
         return every_members(reading, options)
     if '--sample' in options:
@@ -92,11 +96,13 @@ def sets_of(reading: Reading, options: Options) -> Iterator[List[int]]:
     families = [lost_sets(plan)] if '--lost' in options else []
     families += [file_sets(plan)] if '--files' in options else []
     # A set of both families is printed twice.
-    return (it for family in families for it in different_places(family))
+    return (places for family in families for places in different_places(family))
 
 
 def every_members(reading: Reading, options: Options) -> Iterator[List[int]]:
-    """The places of each set of --every; ReadingFault if there are more than --most."""
+    """The places of each set of --every. All are found before the first one is returned:
+    ReadingFault if there are more than --most, or if traces of this version can't have the
+    profile."""
     profile = options.get('--profile')
     order = Order(reading) if profile is None else order_in(reading, str(profile))
     is_different = '--different' in options

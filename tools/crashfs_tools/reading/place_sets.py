@@ -7,7 +7,7 @@ from typing import Iterable, Iterator
 
 
 def set_of(places: Iterable[int]) -> int:
-    """The set that has these places; one may come twice."""
+    """The set that has these places, of which one may come twice; 0 if there are none."""
     found = 0
     for place in places:
         found |= 1 << place
@@ -23,5 +23,5 @@ def places_of(members: int) -> Iterator[int]:
 
 
 def lacking_of(members: int) -> int:
-    """The set of the places that a set lacks below its last one."""
+    """The set of the places below its last one that a set lacks."""
     return (1 << members.bit_length()) - 1 & ~members

@@ -1,4 +1,4 @@
-"""The plan: which sets are tried, and the families of further sets."""
+"""The plan: the sets that are tried, and the families of further sets."""
 
 from __future__ import annotations
 
@@ -17,7 +17,8 @@ LARGEST_PLACE = 2**32 - 1
 
 
 class StateList:
-    """The states of a plan, by their numbers: what `list` prints of each, and its set."""
+    """The states of a plan, by their numbers: of each the text that `list` prints of it, and its
+    set. It has none at first. order and trees are those of the trace, by its own profile."""
 
     def __init__(self, reading: Reading) -> None:
         self.reading = reading
@@ -26,14 +27,15 @@ class StateList:
         self.states: List[Tuple[str, int]] = []
 
     def add(self, text: str, places: int) -> None:
-        """Adds a state by its text and its set; ReadingFault if the plan is full."""
+        """Adds a state by its text and its set, even if the plan has this set already. ReadingFault
+        if the plan is full; then it stays as it was."""
         if len(self.states) >= STATES:
             raise ReadingFault('plan too large')
         self.states.append((text, places))
 
     def add_holes(self) -> None:
-        """Adds each prefix without one micro-operation and what needs it, unless its last one is
-        lost with it; ReadingFault if the plan is full."""
+        """Adds each prefix without one micro-operation and all that need it, unless the prefix's
+        last one is lost with it. ReadingFault if the plan is full: those before it stay added."""
         for end in range(self.order.count + 1):
             for lost in range(end - 1):
                 kept = self.order.without((1 << end) - 1, 1 << lost)
@@ -41,8 +43,8 @@ class StateList:
                     self.add(f'hole {lost} {end}', kept)
 
     def refuse_bad_pick(self, number: int, pick: Sequence[int]) -> None:
-        """ReadingFault, with the pick's number, for places that don't ascend, or that no crash
-        leaves."""
+        """ReadingFault, with the pick's number, unless its places are in ascending order, are all
+        places of the trace, and are a set that a crash may leave."""
         ascending = all(one < other for one, other in zip(pick, pick[1:]))
         if not (
             ascending
@@ -55,8 +57,9 @@ class StateList:
 def plan_of(
     reading: Reading, holes: bool = False, picks: Sequence[Sequence[int]] = ()
 ) -> StateList:
-    """The prefixes, the holes if they are asked for, and the picks, numbered in this order.
-    ReadingFault if they are too many, or a pick is no allowed set."""
+    """A plan of the prefixes, the holes if they are asked for, and the picks, in this order; a set
+    may come several times. ReadingFault if there are too many, or if a pick isn't in ascending
+    order or no allowed set."""
     plan = StateList(reading)
     for count in range(plan.order.count + 1):
         plan.add(f'prefix {count}', (1 << count) - 1)
@@ -71,8 +74,9 @@ def plan_of(
 
 
 def add_families(plan: StateList, has_lost: bool, has_files: bool) -> None:
-    """Adds to a plan the sets of the families that are asked for and that it lacks, each once;
-    ReadingFault if the plan is full."""
+    """Adds to a plan the sets of the families that are asked for, in the order of --lost, --files,
+    each once and only if the plan lacks it. ReadingFault if the plan is full: those before it stay
+    added."""
     families = [lost_sets(plan)] if has_lost else []
     families += [file_sets(plan)] if has_files else []
     known = {places for _, places in plan.states}
@@ -84,7 +88,9 @@ def add_families(plan: StateList, has_lost: bool, has_files: bool) -> None:
 
 
 def read_picks(data: bytes) -> List[List[int]]:
-    """The places of each set of a picks file; ReadingFault for a line that isn't one."""
+    """The places of each set of a picks file; empty lines are skipped, but counted. ReadingFault
+    for a line that is no array of numbers up to LARGEST_PLACE. Whether the sets are allowed isn't
+    checked here."""
     picks = []
     for number, line in enumerate(data.split(b'\n'), 1):
         if not line:
@@ -100,13 +106,14 @@ def read_picks(data: bytes) -> List[List[int]]:
 
 
 def lost_sets(plan: StateList) -> Iterator[int]:
-    """The family --lost: for each micro-operation the least set that has it."""
+    """The family --lost: for each micro-operation the smallest allowed set that has it, in the
+    order of the trace."""
     return (plan.order.needs[place] | 1 << place for place in range(plan.order.count))
 
 
 def file_sets(plan: StateList) -> Iterator[int]:
-    """The family --files: each prefix without those changes of one file that no sync covers. A set
-    may come several times."""
+    """The family --files: each prefix without those changes of one file that no sync before its
+    last micro-operation covers, and without all that need them. A set may come several times."""
     order, trees = plan.order, plan.trees
     for count in range(1, order.count + 1):
         # A sync after the prefix's last micro-operation hasn't ended yet.
@@ -118,7 +125,7 @@ def file_sets(plan: StateList) -> Iterator[int]:
 
 
 def different_places(sets: Iterator[int]) -> Iterator[List[int]]:
-    """The places of each set; a set that comes again is left out."""
+    """The places of each set, as a stream; a set that came before is left out."""
     seen = set()
     for places in sets:
         if places not in seen:

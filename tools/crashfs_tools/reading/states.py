@@ -16,7 +16,7 @@ from .trace import Reading
 
 class Item(NamedTuple):
     """What is at a path: its kind (`dir`, `file` or `symlink`), its rights and its bytes. Those of
-    a symbolic link are its target; a directory has none."""
+    a symbolic link are its target; a directory has None."""
 
     kind: str
     rights: Rights
@@ -24,7 +24,7 @@ class Item(NamedTuple):
 
     @property
     def content(self) -> Optional[bytes]:
-        """All its bytes; None for a directory."""
+        """All its bytes, with those of large holes; None for a directory."""
         return None if self.data is None else self.data.whole()
 
 
@@ -36,10 +36,11 @@ Inodes = Tuple[Dict[str, Inode], Dict[int, Rights]]
 
 
 class States:
-    """Makes the trees of allowed sets. What a file holds depends on its own changes alone, and the
-    names on changes of entries alone, so that many states share them. change_places has the set of
-    each file's changes, by its number; entry_places, directory_moves and says are the sets of
-    changes of entries, of moves of directories, and of acknowledged lines."""
+    """Makes the trees of allowed sets; other sets may raise KeyError. What a file holds depends
+    only on its own changes, and the names only on changes of entries and directories, so that many
+    states share them. change_places has the set of each changed file's changes, by its number;
+    entry_places, directory_moves and says are the sets of changes of entries or directories, of
+    moves of directories, and of acknowledged lines."""
 
     def __init__(self, reading: Reading) -> None:
         self.reading = reading
@@ -66,7 +67,8 @@ class States:
         return bin(places & self.says).count('1')
 
     def tree(self, places: int) -> Dict[str, Item]:
-        """The tree of an allowed set: what is at each path, the root among them."""
+        """The tree of an allowed set: what is at each path, the root among them, in the order of
+        the paths. Trees share the bytes of files, which must not be changed."""
         nodes, rights = self._nodes(places & self.entry_places)
         return {
             path: (
@@ -78,7 +80,8 @@ class States:
         }
 
     def digest(self, places: int) -> Digest:
-        """The tree of an allowed set in a form that is equal for sets that leave equal trees."""
+        """The tree of an allowed set, in a form that is equal for sets that leave equal trees, and
+        for no others. The acknowledged lines aren't in it: see count_says()."""
         nodes, rights = self._nodes(places & self.entry_places)
         return tuple(
             (
@@ -90,18 +93,19 @@ class States:
         )
 
     def file(self, number: int, places: int) -> Tuple[Rights, Data]:
-        """The rights and bytes of a file, by its number, in an allowed set."""
+        """The rights and bytes of a file, given by its number, in an allowed set. The bytes are
+        shared, and must not be changed."""
         return self._file(number, places & self.change_places.get(number, 0))
 
     def file_digest(self, number: int, places: int) -> Tuple[Rights, bytes]:
-        """The rights of a file, by its number, and a digest of its bytes in an allowed set: equal
-        for the sets in which these are equal."""
+        """The rights of a file, given by its number, and a digest of its bytes in an allowed set:
+        equal exactly for equal bytes, also of different files."""
         return self._digests(number, places & self.change_places.get(number, 0))
 
     def make_nodes(self, places: int) -> Inodes:
-        """What is at each path after the changes of entries in a set, and the rights of
-        directories. Without a move of a directory each directory is at its home, so that only paths
-        of changed entries are looked at."""
+        """What is at each path after the changes of entries and directories in `places`, in the
+        order of the paths, and the rights of all directories. Unless a directory is moved, each is
+        at its home, and only the paths of changed entries are computed."""
         operations = [self.reading.operations[place] for place in places_of(places)]
         if places & self.directory_moves:
             table = EntryTable(self.reading)
@@ -126,12 +130,12 @@ class States:
         return dict(sorted(nodes.items())), rights
 
     def home(self, entry: Tuple[int, str]) -> str:
-        """The path of an entry while no directory is moved."""
+        """The path that an entry has while no directory above it is moved."""
         return f'{self.reading.homes[entry[0]]}/{entry[1]}'
 
     def make_file(self, number: int, places: int) -> Tuple[Rights, Data]:
-        """The rights and bytes of a file, by its number, after some of its changes; without hidden
-        bytes."""
+        """The rights and bytes of a file, given by its number, after the changes in `places`, all
+        of this file; without hidden bytes."""
         rights = self.reading.made_rights[number]
         data = self.reading.made_data.get(number, Data(self.reading.block_size)).copy()
         operations: List[Micro] = [self.reading.operations[place] for place in places_of(places)]
@@ -143,8 +147,9 @@ class States:
 
 
 def change_data(data: Data, operation: Micro) -> None:
-    """Changes a file's bytes as a micro-operation of it does. Bytes past the size are hidden until
-    a size covers them; a size that shrinks drops them."""
+    """Changes a file's bytes as a micro-operation of the file does. Bytes that it writes past the
+    size are hidden until a size covers them; a smaller size drops them. A change of rights does
+    nothing."""
     if isinstance(operation, ChangeSize):
         data.resize(operation.length)
     elif isinstance(operation, WriteBlock):

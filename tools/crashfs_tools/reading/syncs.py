@@ -10,19 +10,21 @@ from .names import DIRECTORY, Inode
 
 
 class SyncPoint:
-    """A sync of everything, after so many micro-operations: before the one at that place. A sync of
-    one file or directory has its number."""
+    """A sync of everything, after the first `at` micro-operations. Sync points of one file or
+    directory inherit from it, and have its number."""
 
     def __init__(self, at: int, number: int = -1) -> None:
         self.at = at
         self.number = number
 
     def covers(self, operation: Micro) -> bool:
-        """Whether it makes a micro-operation durable that comes before it."""
+        """Whether it makes a micro-operation durable. This must be one before it: its place isn't
+        compared."""
         return True
 
     def is_fresh(self, since: List[Micro]) -> bool:
-        """Whether it writes the log, by the micro-operations since the sync point before it."""
+        """Whether it writes the log of the file system, if that has one. `since` are the
+        micro-operations between the sync point before it, of whatever file, and this one."""
         return True
 
 
@@ -30,12 +32,13 @@ class FileSync(SyncPoint):
     """An fsync of a file, by its number."""
 
     def covers(self, operation: Micro) -> bool:
-        """Whether a micro-operation that comes before it changes the file's size, bytes or
-        rights."""
+        """See SyncPoint.covers: true for a change of the file's size, bytes or rights, false for
+        one of its names."""
         return operation.file == self.number
 
     def is_fresh(self, since: List[Micro]) -> bool:
-        """Whether the file or a name of it was changed since, so that the sync writes the log."""
+        """See SyncPoint.is_fresh: whether one of `since` changed, made, linked, moved, removed or
+        replaced the file."""
         return any(
             one.file == self.number or any(is_file(node, self.number) for node in one.handled)
             for one in since
@@ -43,15 +46,16 @@ class FileSync(SyncPoint):
 
 
 class DataSync(FileSync):
-    """An fdatasync: of a file's sizes and blocks. Only a new size, or a new file, makes it write
-    the log."""
+    """An fdatasync of a file, by its number: of its sizes and blocks, but not of its rights. Only a
+    new size, or a new file, makes it write the log."""
 
     def covers(self, operation: Micro) -> bool:
-        """Whether a micro-operation that comes before it changes the file's size or bytes."""
+        """See SyncPoint.covers: true for a change of the file's size or bytes."""
         return super().covers(operation) and not isinstance(operation, SetRights)
 
     def is_fresh(self, since: List[Micro]) -> bool:
-        """Whether the file was made, or got a new size, since."""
+        """See SyncPoint.is_fresh: whether one of `since` made the file, or gave it a new size.
+        Writes and names don't count."""
         return any(
             isinstance(one, ChangeSize)
             and one.file == self.number
@@ -62,8 +66,9 @@ class DataSync(FileSync):
 
 
 class RangeSync(DataSync):
-    """A sync of a part of a file: of the file's sizes, and of writes all of whose bytes lie in the
-    part."""
+    """A sync of a part of a file, by the file's number, an offset and a length: of the file's
+    sizes, and of writes all of whose bytes are in the part. A part of length 0 covers sizes
+    only."""
 
     def __init__(self, at: int, number: int, offset: int, length: int) -> None:
         super().__init__(at, number)
@@ -71,8 +76,8 @@ class RangeSync(DataSync):
         self.end = offset + length
 
     def covers(self, operation: Micro) -> bool:
-        """Whether a micro-operation that comes before it changes the file's size, or writes bytes
-        that are all in the part."""
+        """See SyncPoint.covers: true for a change of the file's size, and for a write whose bytes
+        are all in the part."""
         if not super().covers(operation):
             return False
         if isinstance(operation, WriteBlock):
@@ -82,21 +87,23 @@ class RangeSync(DataSync):
 
 
 class DirectorySync(SyncPoint):
-    """An fsync of a directory, by its number: of its entries, and of its rights."""
+    """An fsync of a directory, by its number: of its rights, and of all that touches an entry in
+    it. A move between two directories is covered by an fsync of either one."""
 
     def covers(self, operation: Micro) -> bool:
-        """Whether a micro-operation changes the directory or an entry of it."""
+        """See SyncPoint.covers: true for a change of the directory's rights or of an entry in it,
+        false for one of its own name."""
         return operation.directory == self.number or any(
             directory == self.number for directory, _ in operation.entries
         )
 
     def is_fresh(self, since: List[Micro]) -> bool:
-        """Whether the directory, or an entry of it, was changed since, or the directory was made or
-        moved."""
+        """See SyncPoint.is_fresh: whether one of `since` changed the directory or an entry in it,
+        or made, moved, removed or replaced the directory."""
         own = Inode(DIRECTORY, self.number)
         return any(self.covers(one) or own in one.handled for one in since)
 
 
 def is_file(node: Inode, file: int) -> bool:
-    """Whether an inode is the file or symbolic link of a number."""
+    """Whether an inode is the file or symbolic link with this number."""
     return node.kind != DIRECTORY and node.number == file

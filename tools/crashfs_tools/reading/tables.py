@@ -10,8 +10,8 @@ from .trace import Reading
 
 
 class EntryTable:
-    """What a state has of names: what each entry holds, and the rights of each directory by its
-    number. At first those of the start tree."""
+    """What a state has of names: what each entry holds, and the rights of each directory, by its
+    number. At first those of the start tree, of which it has copies."""
 
     def __init__(self, reading: Reading) -> None:
         self.entries: Dict[Entry, Inode] = dict(reading.start)
@@ -19,18 +19,21 @@ class EntryTable:
 
     def apply(self, operation: Micro) -> None:
         """Changes entries and rights as a micro-operation does; one that changes a file does
-        nothing here. KeyError if what it needs wasn't applied."""
+        nothing here. KeyError if an entry that it removes or moves isn't there: what it needs must
+        be applied before it."""
         change_entries(self.entries, operation)
         change_rights(self.rights, operation)
 
     def paths(self) -> Iterator[Tuple[str, Inode]]:
-        """The paths, each with what is there: the root first, a directory before what is in it."""
+        """The paths, each with what is there: the root first, and each directory before what is in
+        it. Entries that no path leads to are left out."""
         return reachable_paths(self.entries.items())
 
 
 def change_entries(entries: Dict[Entry, Inode], operation: Micro) -> None:
-    """Changes a map of entries as a micro-operation does; KeyError if what it needs wasn't
-    applied."""
+    """Changes a map of entries as a micro-operation does; one that touches no entry does nothing.
+    An entry that it makes replaces what is there. KeyError if an entry that it removes or moves
+    isn't in the map."""
     if isinstance(operation, (CreateEntry, LinkEntry)):
         entries[operation.entries[0]] = operation.node
     elif isinstance(operation, DeleteEntry):
@@ -40,8 +43,9 @@ def change_entries(entries: Dict[Entry, Inode], operation: Micro) -> None:
 
 
 def change_rights(rights: Dict[int, Rights], operation: Micro) -> None:
-    """Changes the rights of directories, by their numbers, as a micro-operation does; one that sets
-    no directory's rights does nothing."""
+    """Changes the rights of directories, by their numbers, as a micro-operation does that makes a
+    directory or sets its rights; another one does nothing. A removed directory keeps its rights
+    here."""
     if isinstance(operation, CreateEntry) and operation.made_directory is not None:
         rights[operation.made_directory] = operation.rights
     elif isinstance(operation, SetRights) and operation.directory is not None:
@@ -49,8 +53,9 @@ def change_rights(rights: Dict[int, Rights], operation: Micro) -> None:
 
 
 def reachable_paths(entries: Iterable[Tuple[Entry, Inode]]) -> Iterator[Tuple[str, Inode]]:
-    """The paths that lead from the root to what entries hold, with what is there: the root first, a
-    directory before what is in it. Entries of directories that no path leads to are left out."""
+    """The paths that lead from the root to what entries hold, each with what is there: the root
+    first, and each directory before what is in it. Entries of directories that no path leads to are
+    left out."""
     children: Dict[int, List[Tuple[str, Inode]]] = {}
     for (directory, name), node in entries:
         children.setdefault(directory, []).append((name, node))

@@ -29,9 +29,9 @@ LINK_MODE = '777'
 
 
 class Reading:
-    """A trace, made line by line: read_line() takes the header first. names is the tree after the
-    lines read so far. Files and symbolic links are known by their numbers, and directories by
-    theirs."""
+    """A trace, read line by line: read_line() takes the header first. names is the tree after the
+    lines read so far; start and start_rights are of the start tree. Files and symbolic links are
+    known by their numbers, directories by theirs."""
 
     def __init__(self) -> None:
         self.version = 1
@@ -40,8 +40,8 @@ class Reading:
         self.start: Dict[Entry, Inode] = {}
         # The path of each directory if no directory is moved; the root's is empty.
         self.homes: Dict[int, str] = {ROOT: ''}
-        # The rights and bytes with which each file is made; the rights of the start's directories;
-        # and the rights that each file and directory has now.
+        # The rights and bytes with which each file is made, without bytes if an operation makes it;
+        # the rights of the start's directories; and the rights that each of both has now.
         self.made_rights: Dict[int, Rights] = {}
         self.made_data: Dict[int, Data] = {}
         self.start_rights: Dict[int, Rights] = {}
@@ -51,8 +51,9 @@ class Reading:
         self.names = Names()
 
     def read_line(self, line: Line) -> None:
-        """Adds what a line does. LineFault if it doesn't fit the lines before it: then nothing was
-        added."""
+        """Adds what a line does. LineFault if it doesn't fit the lines before it; then nothing was
+        added. The line must be well formed, and the number of micro-operations isn't limited
+        here."""
         self.names.refuse_unfit(line)
         if line.key == 'trace':
             self.begin(line)
@@ -64,7 +65,7 @@ class Reading:
             operation.line = line.number
 
     def begin(self, line: Line) -> None:
-        """Begins the tree, in the header's version and profile."""
+        """Begins the tree: an empty root, in the header's version and profile."""
         self.version = line.fields['trace']
         self.names = Names(self.version)
         self.profile = line.fields.get('profile', self.profile)
@@ -72,8 +73,8 @@ class Reading:
         self.start_rights[ROOT] = self.rights[Inode(DIRECTORY, ROOT)] = line.rights
 
     def add_change(self, operation: Micro) -> None:
-        """Adds a change of a file. The oldest of the file's paths is written into it: the file must
-        have one."""
+        """Adds a change of a file, with the oldest of the file's paths. IndexError if the file has
+        no path any more."""
         assert operation.file is not None
         operation.path = self.names.path_of_file(operation.file)
         self.operations.append(operation)
@@ -81,13 +82,14 @@ class Reading:
     # What is made
 
     def make_file(self, line: Line, length: int) -> Inode:
-        """Makes the file of a line, with its length; returns it."""
+        """Makes the file of a line, with this length, and returns it. Its bytes aren't set here."""
         node = self.names.add_file(line.fields['path'], length)
         self.made_rights[node.number] = self.rights[node] = line.rights
         return node
 
     def make_link(self, line: Line) -> Inode:
-        """Makes the symbolic link of a line, whose bytes are its target's; returns it."""
+        """Makes the symbolic link of a line, whose bytes are its target and whose mode is
+        LINK_MODE, and returns it."""
         target = line.fields['target'].encode('utf-8')
         node = self.names.add_file(line.fields['path'], len(target), SYMLINK)
         rights = line.fields['owner'], line.fields['group'], LINK_MODE
@@ -96,7 +98,7 @@ class Reading:
         return node
 
     def make_directory(self, line: Line) -> Inode:
-        """Makes the directory of a line; returns it."""
+        """Makes the directory of a line, with its home, and returns it."""
         path = line.fields['path']
         above, name = self.names.entry(path)
         node = self.names.add_directory(path)
@@ -107,11 +109,13 @@ class Reading:
     # The start tree: each of these adds what a `start` line of its kind has.
 
     def start_dir(self, line: Line) -> None:
+        """Adds a directory, with its rights."""
         node = self.make_directory(line)
         self.start[self.names.entry(line.fields['path'])] = node
         self.start_rights[node.number] = line.rights
 
     def start_file(self, line: Line) -> None:
+        """Adds a file, with its rights and bytes."""
         node = self.make_file(line, line.length)
         self.start[self.names.entry(line.fields['path'])] = node
         self.made_data[node.number] = Data.of(self.block_size, line.length, line.parts)
@@ -120,6 +124,7 @@ class Reading:
         self.start[self.names.entry(line.fields['path'])] = self.make_link(line)
 
     def start_link(self, line: Line) -> None:
+        """Adds one more entry of a file, which must be there."""
         node = self.names.need(line.fields['from'])
         self.names.add_path(line.fields['path'], node)
         self.start[self.names.entry(line.fields['path'])] = node
@@ -136,13 +141,15 @@ class Reading:
         self.add_creation(line, self.make_link(line))
 
     def add_creation(self, line: Line, node: Inode) -> None:
-        """Adds the micro-operation that makes what a line makes: `node`, which make_file(),
-        make_link() or make_directory() has made of this line."""
+        """Adds the micro-operation by which a line makes `node`, which make_file(), make_link() or
+        make_directory() returned for this line."""
         path, target = line.fields['path'], line.fields.get('target', '')
         entry = self.names.entry(path)
         self.operations.append(CreateEntry(path, entry, node, self.rights[node], target))
 
     def op_unlink(self, line: Line) -> None:
+        """Adds the removal of an entry: of a file, a symbolic link or, for an rmdir, an empty
+        directory."""
         path = line.fields['path']
         entry = self.names.entry(path)
         self.operations.append(DeleteEntry(path, entry, self.names.remove(path)))
@@ -150,9 +157,9 @@ class Reading:
     op_rmdir = op_unlink
 
     def op_rename(self, line: Line) -> None:
-        """Adds a rename. Onto itself, or onto a path of the same file, it does nothing, as
-        rename(2) has it. With the profile `blocks` of version 4 a file goes into another directory
-        in two halves."""
+        """Adds a rename. One onto itself, or onto a path of the same file, does nothing, as
+        rename(2) has it. In version 4 with the profile `blocks`, a file or symbolic link goes into
+        another directory in two halves."""
         old, new = line.fields['from'], line.fields['to']
         node, replaced = self.names.need(old), self.names.inode_at(new)
         if node == replaced:
@@ -168,6 +175,8 @@ class Reading:
             self.operations.append(DeleteEntry(old, entries[0], node, 2))
 
     def op_link(self, line: Line) -> None:
+        """Adds one more entry of a file, with the micro-operation that a rename has as its first
+        half."""
         node = self.names.need(line.fields['from'])
         self.names.add_path(line.fields['to'], node)
         entry = self.names.entry(line.fields['to'])
@@ -176,8 +185,9 @@ class Reading:
     # Operations on what files and directories are
 
     def op_write(self, line: Line) -> None:
-        """Adds a write: a new size if the file grows, and its blocks. In version 4 a file that ends
-        inside a page grows to the end of this page first."""
+        """Adds a write: a new size if it ends past the file's end, then its blocks. In version 4,
+        if the file ends inside a page and the write past that page, the page's end is a size before
+        the new one. A write of no bytes does nothing."""
         number, at, data = (
             self.names.file_number(line.fields['path']),
             line.fields['offset'],
@@ -191,15 +201,16 @@ class Reading:
         self.write_blocks(number, at, data)
 
     def write_blocks(self, number: int, at: int, data: bytes) -> None:
-        """Adds a micro-operation for each block that bytes at an offset are in; none without
-        bytes."""
+        """Adds a micro-operation for each block that has some of these bytes at an offset; none if
+        there are no bytes. The size stays."""
         size = self.block_size
         for block, begin, piece in split(at, data, size):
             self.add_change(WriteBlock(number, block, size, begin, piece))
 
     def op_truncate(self, line: Line) -> None:
-        """Adds a truncate: a new size. In version 4 the rest of the page in which a file is cut
-        becomes zeros first."""
+        """Adds a truncate: a new size, unless the file has it. In version 4 a shorter file gets
+        zeros first, from its new end to the end of that page, or to its old end if that comes
+        first."""
         number, length = self.names.file_number(line.fields['path']), line.fields['length']
         size = self.names.sizes[number]
         if size == length:
@@ -210,21 +221,24 @@ class Reading:
         self.change_size(number, length)
 
     def change_size(self, number: int, length: int) -> None:
-        """Gives a file a size, and adds the micro-operation that does."""
+        """Sets the size of a file, given by its number, and adds the micro-operation that does
+        so."""
         self.names.set_size(number, length)
         self.add_change(ChangeSize(number, length))
 
     def op_chmod(self, line: Line) -> None:
+        """Adds a change of the mode; owner and group stay."""
         owner, group, _ = self.rights[self.names.need(line.fields['path'])]
         self.set_rights(line, (owner, group, line.fields['mode']))
 
     def op_chown(self, line: Line) -> None:
+        """Adds a change of owner and group; the mode stays."""
         mode = self.rights[self.names.need(line.fields['path'])][2]
         self.set_rights(line, (line.fields['owner'], line.fields['group'], mode))
 
     def set_rights(self, line: Line, rights: Rights) -> None:
         """Adds the micro-operation that sets owner, group and mode of a line's path, unless they
-        are so already."""
+        are so already. Of a directory it has the line's path, of a file the oldest."""
         node = self.names.need(line.fields['path'])
         if self.rights[node] == rights:
             return
@@ -241,6 +255,7 @@ class Reading:
     # Sync points: each of these adds that of an `op` line of its kind.
 
     def op_fsync(self, line: Line) -> None:
+        """Adds the sync point of a file or of a directory."""
         node = self.names.need(line.fields['path'])
         made = DirectorySync if node.kind == DIRECTORY else FileSync
         self.syncs.append(made(len(self.operations), node.number))
@@ -250,6 +265,7 @@ class Reading:
         self.syncs.append(DataSync(len(self.operations), number))
 
     def op_fsync_range(self, line: Line) -> None:
+        """Adds the sync point of a range of a file, which may end above 2^64 - 1."""
         number = self.names.file_number(line.fields['path'])
         offset, length = line.fields['offset'], line.fields['length']
         self.syncs.append(RangeSync(len(self.operations), number, offset, length))
@@ -259,13 +275,14 @@ class Reading:
 
 
 def page_end(length: int) -> int:
-    """The end of the page in which a length is; the length itself at a page's end."""
+    """The end of the page in which a length ends: the length itself if it is whole pages, as 0
+    is."""
     return -(-length // PAGE_BYTES) * PAGE_BYTES
 
 
 def read(data: bytes) -> Reading:
-    """Reads the bytes of a trace; ReadingFault with its first fault, or for too many
-    micro-operations."""
+    """Reads the bytes of a trace. ReadingFault with its first fault: no UTF-8, a line's fault, no
+    header, or, after all lines are read, more than MICRO_OPERATIONS micro-operations."""
     try:
         text = data.decode('utf-8')
     except UnicodeDecodeError as error:

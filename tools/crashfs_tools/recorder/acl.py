@@ -12,8 +12,8 @@ OWNER, GROUP, MASK, OTHERS = 0x01, 0x04, 0x10, 0x20
 
 
 def rights_by_tag(value: bytes) -> Optional[Dict[int, int]]:
-    """The rights of a list by the tags of its entries; None if the value is no list. Of several
-    users or groups one is kept: that there is one is enough for `is_only_mode`."""
+    """The rights of an access control list by the tags of its entries; None if the value is no such
+    list. Of several users or groups one is kept: that there is one is enough for `is_only_mode`."""
     if len(value) % 8 != 4 or struct.unpack('<I', value[:4])[0] != VERSION:
         return None
     found = struct.iter_unpack('<HHI', value[4:])
@@ -21,7 +21,8 @@ def rights_by_tag(value: bytes) -> Optional[Dict[int, int]]:
 
 
 def mode_of_rights(entries: Dict[int, int]) -> int:
-    """The mode that a list gives a file: its mask takes the place of the group's rights."""
+    """The mode that a list gives a file: its mask, if it has one, takes the place of the group's
+    rights. An entry that is missing gives no rights."""
     group = entries.get(MASK, entries.get(GROUP, 0))
     return entries.get(OWNER, 0) << 6 | group << 3 | entries.get(OTHERS, 0)
 

@@ -38,8 +38,8 @@ class Descriptor:
 
 
 def split_arguments(text: str) -> List[str]:
-    """The arguments of a call, from their text: it is split at the commas that are in no brackets
-    and no text."""
+    """The arguments of a call, from the text between its brackets: it is split at the commas
+    outside of inner brackets and texts. An empty text is one empty argument."""
     words, depth, last = [], 0, 0
     match = SIGN.search(text)
     while match:
@@ -59,8 +59,8 @@ def split_arguments(text: str) -> List[str]:
 
 
 def end_of_text(text: str, place: int) -> int:
-    """The place after the text that begins before `place`: its bytes are numbers, so no quotation
-    mark is inside it."""
+    """The place after the quotation mark that ends a text, whose first byte is at `place`; the end
+    of all arguments if there is none. Its bytes are numbers, so no such mark is inside it."""
     end = text.find('"', place)
     return len(text) if end < 0 else end + 1
 
@@ -79,8 +79,8 @@ def from_numbers(text: str) -> bytes:
 
 
 def packed_word(word: str) -> str:
-    """A text, or a vector of texts, in a quarter of its size: each byte is one letter. Any other
-    argument is returned unchanged."""
+    """A text, or a vector of texts, in a quarter of its size: after PACKED each byte is one letter.
+    Any other argument is returned unchanged, also one that strace cut."""
     try:
         found = (
             bytes_of_text(word)
@@ -100,8 +100,8 @@ def unpacked_bytes(word: str) -> Optional[bytes]:
 
 
 def bytes_of_text(word: str) -> Optional[bytes]:
-    """The bytes of an argument that is a text, also a packed one; None for one that strace cut or
-    printed as an address."""
+    """The bytes of an argument that is a text, also a packed one. None for one that strace cut or
+    printed as an address; LogError for a text whose bytes aren't numbers."""
     if word.startswith(PACKED):
         return unpacked_bytes(word)
     if not word.startswith('"') or word.endswith('...'):
@@ -111,14 +111,15 @@ def bytes_of_text(word: str) -> Optional[bytes]:
 
 def path_of_text(word: str) -> Optional[str]:
     """The path in an argument; bytes that are not UTF-8 become surrogates, as in os.fsdecode. None
-    if strace cut it or printed an address."""
+    if strace cut it or printed an address; LogError as in bytes_of_text()."""
     raw = bytes_of_text(word)
     return None if raw is None else raw.decode('utf-8', 'surrogateescape')
 
 
 def shown_text(text: Optional[str]) -> Optional[str]:
-    """What strace shows between `<` and `>` after a descriptor, a path in numbers, as text; None
-    and a text without numbers, as `pipe:[7]`, stay."""
+    """What strace shows between `<` and `>` after a descriptor, as text: a path, which it prints in
+    numbers, or such as `pipe:[7]`, which stays. None stays None; LogError for numbers that are
+    cut."""
     if not text or not text.startswith('\\x'):
         return text
     return from_numbers(text).decode('utf-8', 'surrogateescape')
@@ -130,7 +131,7 @@ def shown_path(text: Optional[str]) -> Optional[str]:
 
 
 def integer(word: str) -> int:
-    """The number in an argument, decimal or `0x..`; LogError for another argument."""
+    """The number in an argument, decimal or `0x..`; LogError for an argument that is none."""
     try:
         return int(word, 16) if word.startswith('0x') else int(word)
     except ValueError:
@@ -138,7 +139,8 @@ def integer(word: str) -> int:
 
 
 def octal(word: str) -> int:
-    """The mode in an argument, which has octal digits; LogError for another argument."""
+    """The number in an argument of octal digits, as a mode; LogError for an argument that is
+    none."""
     try:
         return int(word, 8)
     except ValueError:
@@ -146,8 +148,8 @@ def octal(word: str) -> int:
 
 
 def descriptor(word: str) -> Descriptor:
-    """The descriptor in an argument. Its number is -1 if strace couldn't read it, and
-    CURRENT_DIRECTORY for AT_FDCWD."""
+    """The descriptor in an argument, with what strace shows for it. Its number is CURRENT_DIRECTORY
+    for AT_FDCWD, and -1 for an argument that is no descriptor, also for an empty one."""
     match = DESCRIPTOR.match(word)
     if not match:
         return Descriptor(-1, None, False)
@@ -156,7 +158,8 @@ def descriptor(word: str) -> Descriptor:
 
 
 def bytes_of_vector(word: str) -> Optional[bytes]:
-    """The bytes of all pieces in an argument of writev, in one; None if strace cut a piece."""
+    """The bytes of all pieces in an argument of writev, in one; also of a packed one. None if
+    strace cut a piece; empty if it shows none."""
     if word.startswith(PACKED):
         return unpacked_bytes(word)
     pieces = [b'' if text == 'NULL' else bytes_of_text(text) for text in PIECE.findall(word)]
@@ -165,8 +168,8 @@ def bytes_of_vector(word: str) -> Optional[bytes]:
 
 
 def bytes_of_messages(word: str) -> Optional[bytes]:
-    """The bytes of the messages in an argument of sendmmsg, each as far as it was sent; None if one
-    is cut."""
+    """The bytes of the messages in an argument of sendmmsg, each as far as it was sent, in one.
+    None if strace cut one, or doesn't show how much of it was sent."""
     found = b''
     for one in word.split('msg_hdr=')[1:]:
         whole, sent = bytes_of_vector(one), re.search(r'msg_len=(\d+)', one)
@@ -177,7 +180,7 @@ def bytes_of_messages(word: str) -> Optional[bytes]:
 
 
 def offset_in_cell(word: str) -> Optional[int]:
-    """The offset before the call, in an argument that is the address of one, as `[42]` or `[42] =>
-    [45]`; None if it isn't shown so, as for NULL."""
+    """The number in an argument that is the address of one, as `[42]`; of `[42] => [45]` the first,
+    which was there before the call. None if it isn't shown so, as for NULL."""
     match = re.match(r'\[(\d+)', word)
     return int(match[1]) if match else None

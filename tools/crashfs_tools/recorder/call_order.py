@@ -72,8 +72,8 @@ Moment = Tuple[int, int]
 
 
 def calls_in_order(calls: List[Call]) -> List[Tuple[int, Call]]:
-    """The calls in the order of their operations in the trace, each with the log's line that it
-    counts from."""
+    """The calls in the order of their operations in the trace, each after the log's line at which
+    it counts: that of its beginning or of its end. The calls are given in the log's order."""
     moments: Dict[int, Moment] = {id(call): moment_of(call) for call in calls}
     changes = ChangeIndex([call for call in calls if is_change(call)])
     for sync in calls:
@@ -84,7 +84,8 @@ def calls_in_order(calls: List[Call]) -> List[Tuple[int, Call]]:
 
 
 def is_change(call: Call) -> bool:
-    """Whether a call changes bytes, names or rights."""
+    """Whether a call changes bytes, names or rights, or sends bytes. An open that makes or cuts a
+    file isn't one here."""
     return call.name in DESCRIPTOR_CHANGES | NAME_CHANGES | RIGHT_CHANGES
 
 
@@ -96,23 +97,27 @@ def moment_of(call: Call) -> Moment:
 
 
 class ChangeIndex:
-    """The changes of a log. Most are one line, and are found by a binary search."""
+    """The changes of a log. Most are one line, and are found by a binary search; those that take
+    longer are all looked at."""
 
     def __init__(self, changes: List[Call]) -> None:
+        """The changes are given in the order of the log's lines, which the search needs."""
         self.long = [call for call in changes if call.begin != call.end]
         self.short = [call for call in changes if call.begin == call.end]
         self.lines = [call.begin for call in self.short]
 
     def changes_during(self, sync: Call) -> List[Call]:
-        """The changes of other threads that ran while a sync did, and that it may cover."""
+        """The changes of other threads that ran while a sync did, at least in part, and that it may
+        cover."""
         first = bisect.bisect_left(self.lines, sync.begin)
         last = bisect.bisect_right(self.lines, sync.end)
         return [call for call in self.short[first:last] + self.long if ran_during(sync, call)]
 
 
 def ran_during(sync: Call, change: Call) -> bool:
-    """Whether a change of another thread ran while a sync did, and the sync may cover it: paths
-    that aren't known may be the same."""
+    """Whether a change of another thread ran while a sync did, and the sync may cover it. A sync of
+    everything, or of an unknown path, may cover each change but one that is on no file; a change of
+    an unknown path may be covered by each sync."""
     if sync.process == change.process or sync.end < change.begin or change.end < sync.begin:
         return False
     synced, changed = synced_path(sync), changed_paths(change)
@@ -122,22 +127,23 @@ def ran_during(sync: Call, change: Call) -> bool:
 
 
 def order_apart(sync: Call, changes: List[Call], moments: Dict[int, Moment]) -> None:
-    """Sets the moments, by the calls' ids, of a sync and of the changes that overlap it: each
-    change is placed where it ends, and the sync right before the first of them."""
+    """Sets, by the ids of the calls, the moments of a sync and of the changes that overlap it: each
+    change is placed where it ends, and the sync right before the first of them. Without changes the
+    sync's moment stays."""
     for change in changes:
         moments[id(change)] = (change.end, 1)
         moments[id(sync)] = min(moments[id(sync)], (change.end, 0))
 
 
 def synced_path(sync: Call) -> Optional[str]:
-    """The path that an fsync or fdatasync covers; None if strace doesn't show it, and for other
-    syncs, which cover more."""
+    """The path that an fsync or fdatasync covers. None if strace doesn't show it, and for other
+    syncs, which cover more or are of a mapping."""
     return sync.descriptor().path if sync.name in ('fsync', 'fdatasync') else None
 
 
 def changed_paths(change: Call) -> Optional[Set[str]]:
-    """The paths whose syncs cover a change: of a file, or of a name and its directory. None if that
-    isn't known; none if the change is on no file."""
+    """The paths whose syncs cover a change: that of its file, or those of a name and its directory.
+    None if they aren't known; an empty set if the change is on no file, as a write to a pipe."""
     if change.name in DESCRIPTOR_CHANGES:
         path = change.descriptor(TARGET_PLACES.get(change.name, 0)).path
         return set() if path is None else {path}

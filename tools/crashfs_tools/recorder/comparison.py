@@ -27,7 +27,8 @@ class LastState(ABC):
 
 
 class Replayed(LastState):
-    """By the recorder's own replay, from these lines if the trace is not in a file."""
+    """By the recorder's own replay: of these lines if they are given, as for a trace that is in no
+    file."""
 
     name = "the recorder's replay"
 
@@ -35,8 +36,8 @@ class Replayed(LastState):
         self.lines = lines
 
     def entries(self, trace: str) -> Entries:
-        """The entries at the end of a replay, without the root. ValueError for a trace that
-        `crashfs` would refuse."""
+        """The entries at the end of a replay, without the root. ValueError or TraceError for a
+        trace that `crashfs` would refuse; OSError if its file can't be read."""
         if self.lines is not None:
             tree = replay(self.lines)
         else:
@@ -61,8 +62,9 @@ class ByProgram(LastState):
 
 
 def lines_on_differences(directory: Scan, last: Entries, reported: Iterable[str]) -> List[str]:
-    """A line for each difference between a directory and the trace's last state, except at and
-    below the paths of which something is reported already."""
+    """A line for each difference between a scanned directory and the trace's last state, in the
+    order of their paths, except at and below the paths of which something is reported already. The
+    directory itself and hard links aren't compared."""
     known = set(reported)
     there = {entry.path: entry for entry in directory.entries}
     lines = []
@@ -80,27 +82,30 @@ def lines_on_differences(directory: Scan, last: Entries, reported: Iterable[str]
 
 
 def as_entry(one: ScannedEntry) -> Entry:
-    """What a scan has of a path, as an entry."""
+    """A scanned entry in the form that entries of a tree have, to be compared with one."""
     if isinstance(one, StartSymlink):
         return symlink_entry(one)
     return Entry(one.owner, one.group, one.mode, one.data)
 
 
 def kind_text(entry: Entry) -> str:
-    """What an entry is, as `a file`."""
+    """What an entry is, in words: `a file`, `a directory` or `a symbolic link`."""
     if entry.link is not None:
         return 'a symbolic link'
     return 'a directory' if entry.is_directory else 'a file'
 
 
 def is_below(path: str, known: Set[str]) -> bool:
-    """Whether a path is one of the known ones, or below one; the root counts for itself only."""
+    """Whether a path is one of the known ones, or below one. A known root counts for no other
+    path."""
     parts = path.split('/')
     return any('/'.join(parts[:count]) in known for count in range(2, len(parts) + 1))
 
 
 def entry_differences(real: Entry, traced: Entry) -> List[str]:
-    """How an entry at the end differs from that of the trace, in words; empty if it doesn't."""
+    """How an entry at the end differs from that of the trace, a sentence for each difference; empty
+    if it doesn't. Of different kinds, and of links to different targets, nothing else is
+    compared."""
     if kind_text(real) != kind_text(traced):
         return [f'it is {kind_text(real)} at the end, and {kind_text(traced)} in the trace']
     if real.link != traced.link:
@@ -120,46 +125,51 @@ def entry_differences(real: Entry, traced: Entry) -> List[str]:
 
 
 def lines_on_links(directory: Scan, last: Tree, reported: Iterable[str]) -> List[str]:
-    """A line for each path that is a link to another path in the directory, and not so in the
-    trace's last tree, or the other way."""
+    """A line for each path that both a scanned directory and the trace's last tree have, but as
+    links to different paths, or as a link in only one of them. None at and below the paths of which
+    something is reported already."""
     known = set(reported)
     groups: Dict[int, List[str]] = {}
     for path, number in last.files.items():
         groups.setdefault(number, []).append(path)
-    traced = {path: min(group) for group in groups.values() for path in group}
+    traced = {path: min(group, key=scan_order) for group in groups.values() for path in group}
     lines = []
     for path in sorted(traced.keys() & {entry.path for entry in directory.entries}):
         real = directory.links.get(path, path)
         if real != traced[path] and not is_below(path, known):
-            what = 'a link to' if real != path else 'no link to'
-            lines.append(
-                f'{path}: it is {what} {min(real, traced[path])} at the end, and not so in '
-                'the trace'
-            )
+            what = f'a link to {real}' if real != path else f'no link to {traced[path]}'
+            lines.append(f'{path}: it is {what} at the end, and not so in the trace')
     return lines
 
 
+def scan_order(path: str) -> List[str]:
+    """What orders paths as a scan finds them: each directory by the names in it, and what is below
+    a name right after it."""
+    return path.split('/')
+
+
 def lines_on_attributes(before: Scan, now: Scan, troubles: List[Trouble]) -> List[str]:
-    """A line for each path whose extended attributes, or what else a scan only notes, changed
-    during the session, unless it was reported."""
+    """A line for each path whose extended attributes changed during the session, and for what a
+    scan notes at the end and didn't before, but for mode bits. None of a path of which something
+    was reported or noted."""
     reported = {trouble.where for trouble in troubles}
     changed = [
         path
         for path in sorted(before.attributes.keys() | now.attributes.keys())
         if before.attributes.get(path) != now.attributes.get(path)
     ]
-    lines = [f'{path}: its extended attributes differ, which no trace has' for path in changed]
-    lines += [
-        f'{path}: it has {why} at the end'
+    found = [(path, 'its extended attributes differ, which no trace has') for path in changed]
+    found += [
+        (path, f'it has {why} at the end')
         for path, why in now.noted
         if (path, why) not in before.noted and 'mode bits' not in why
     ]
-    return [f'not in the trace: {line}' for line in lines if line.partition(':')[0] not in reported]
+    return [f'not in the trace: {path}: {what}' for path, what in found if path not in reported]
 
 
 def lines_on_new_left_out(before: Scan, now: Scan, reported: Iterable[str]) -> List[str]:
-    """A line for each device, or what else no trace has, that is new at the end, unless something
-    was reported of its path."""
+    """A line for each device, or what else no trace has, that is there at the end and wasn't
+    before. Nothing at and below the paths of which something is reported."""
     known = set(reported)
     return [
         f'{path}: at the end it is {why}, which no trace has'

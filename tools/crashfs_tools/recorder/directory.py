@@ -22,9 +22,9 @@ NEWEST = 4
 
 @dataclass
 class Scan:
-    """The entries of a directory, each after its own directory. links gives the first path of a
-    file that has several; left_out and noted have (path, why), and noted changes no verdict;
-    attributes has the extended ones of each path that has some."""
+    """The entries of a directory, each after its own directory. links gives, for each further path
+    of a file, its first one; left_out and noted have (path, why), and what is noted changes no
+    verdict; attributes has the extended ones of each path that has some."""
 
     header: Header
     entries: List[ScannedEntry] = field(default_factory=list)
@@ -56,8 +56,8 @@ def permission_bits(status: os.stat_result) -> int:
 
 
 def scan_directory(top: str, ignored: Ignored, version: int = NEWEST) -> Scan:
-    """What traces of a version can have of a directory, and what they can't. OSError if something
-    can't be read."""
+    """What traces of a version can have of a directory, and what they can't; ignored paths are left
+    out. OSError if something can't be read."""
     return Scanner(top, ignored, version).scan_all()
 
 
@@ -66,6 +66,8 @@ class Scanner:
     names, and unseen how many of its names were not found yet."""
 
     def __init__(self, top: str, ignored: Ignored, version: int) -> None:
+        """Reads the owner, group and mode of the directory itself; its entries are read by
+        scan_all(). OSError if it isn't there."""
         self.top, self.ignored, self.version = top, ignored, version
         status = os.stat(top)
         self.found = Scan(
@@ -75,7 +77,8 @@ class Scanner:
         self.unseen: Dict[Tuple[int, int], int] = {}
 
     def scan_all(self) -> Scan:
-        """Scans the whole directory; of files that also have a name outside it, that is noted."""
+        """Scans the whole directory; to be called once. A file that has a further name, outside the
+        directory or at a path that is left out, is noted."""
         self.scan_below('')
         for inode, path in self.firsts.items():
             if self.unseen[inode] > 0:
@@ -93,7 +96,8 @@ class Scanner:
                 self.add_entry(path, os.lstat(self.top + path))
 
     def add_entry(self, path: str, status: os.stat_result) -> None:
-        """Adds what a trace can have of a path, and notes what it can't."""
+        """Adds the entry at a path, and what is below it. If a trace can't have it, it is left out,
+        with all below it, and the reason is kept. Mode bits beyond 777 are only noted."""
         fault = path_fault(path) or self.kind_fault(path, status)
         if fault:
             self.found.left_out.append((path, fault))
@@ -111,7 +115,8 @@ class Scanner:
             self.scan_below(path)
 
     def kind_fault(self, path: str, status: os.stat_result) -> str:
-        """Why a trace can't have a file of this kind or size; an empty text if it can."""
+        """Why a trace of the version can't have a file of this kind or size; an empty text if it
+        can."""
         if stat.S_ISDIR(status.st_mode):
             return ''
         if stat.S_ISLNK(status.st_mode) and self.version >= NEWEST:
@@ -122,7 +127,8 @@ class Scanner:
         return f'a file of more than {most} bytes' if status.st_size > most else ''
 
     def note_link(self, path: str, status: os.stat_result) -> None:
-        """Notes a path of a file that has several: as its first path, or as a link to that."""
+        """Counts a path of a file that has several. The first one found is the file's own; each
+        later one is noted as a link to that."""
         inode = status.st_dev, status.st_ino
         first = self.firsts.setdefault(inode, path)
         self.unseen[inode] = self.unseen.get(inode, status.st_nlink) - 1
@@ -131,7 +137,8 @@ class Scanner:
 
 
 def attributes_of(path: str) -> Dict[str, bytes]:
-    """The extended attributes of a file; none if they can't be read."""
+    """The extended attributes of a file, or of a symbolic link itself, by their names; empty if
+    they can't be read."""
     try:
         names = os.listxattr(path, follow_symlinks=False)
         return {name: os.getxattr(path, name, follow_symlinks=False) for name in names}
@@ -140,7 +147,8 @@ def attributes_of(path: str) -> Dict[str, bytes]:
 
 
 def kind_left_out(mode: int) -> str:
-    """What a file is that a trace leaves out for its kind, as `a socket`."""
+    """What a file is, by its mode, that a trace leaves out for its kind: `a socket` and such, `a
+    device` for all others."""
     kinds = {
         stat.S_IFLNK: 'a symbolic link',
         stat.S_IFSOCK: 'a socket',
@@ -150,7 +158,8 @@ def kind_left_out(mode: int) -> str:
 
 
 def target_fault(target: str) -> str:
-    """Why a trace can't have a symbolic link with this target; an empty text if it can."""
+    """Why a trace can't have a symbolic link with this target, whatever its version; an empty text
+    if it can."""
     try:
         target.encode()
     except UnicodeEncodeError:
@@ -159,8 +168,8 @@ def target_fault(target: str) -> str:
 
 
 def scanned_entry(top: str, path: str, status: os.stat_result) -> ScannedEntry:
-    """A file, directory or symbolic link as a start line of a trace, with all its bytes. OSError if
-    it can't be read."""
+    """A file, directory or symbolic link as a start line of a trace, with all its bytes; status is
+    its own. OSError if it can't be read."""
     owner, group = user_name(status.st_uid), group_name(status.st_gid)
     if stat.S_ISLNK(status.st_mode):
         return StartSymlink(path, owner, group, os.readlink(top + path))

@@ -20,8 +20,8 @@ class Rule:
 
     @staticmethod
     def of_glob(glob: str) -> Rule:
-        """The rule of a pattern; ValueError if it has no meaning. One that has a slash only at its
-        end, or none, matches at any depth."""
+        """The rule of a pattern; ValueError for one that never matches in git, such as `[a`. A
+        pattern without a slash, or with one only at its end, matches at any depth."""
         negates = glob.startswith('!')
         body = glob[1:] if negates else glob
         directories = body.endswith('/')
@@ -54,8 +54,8 @@ CLASSES = {
 
 
 def regex_of(glob: str) -> str:
-    """A pattern as a regular expression; ValueError for one that never matches in git, such as
-    `[a`."""
+    """A pattern, without `!` and without a slash at its ends, as a regular expression. It raises
+    what read_piece() does."""
     found, place = '', 0
     while place < len(glob):
         regex, place = read_piece(glob, place)
@@ -66,7 +66,7 @@ def regex_of(glob: str) -> str:
 def read_piece(glob: str, place: int) -> Tuple[str, int]:
     """What begins at a place of a pattern, as a regular expression, and the place after it. `?` and
     sets match no slash; a backslash makes the next letter an ordinary one. ValueError for a
-    backslash at the end, and as read_set raises it."""
+    backslash at the end; it also raises what read_set() does."""
     if glob[place] == '*':
         return read_stars(glob, place)
     if glob[place] == '[':
@@ -119,15 +119,19 @@ def regex_of_item(glob: str, item: re.Match[str]) -> str:
 
 class Ignore:
     """All patterns. The last that matches a path decides, and what is below an ignored directory is
-    ignored, too. top is the directory on the disk, to see which paths are files."""
+    ignored, too."""
 
     def __init__(self, globs: List[str], top: Optional[str] = None) -> None:
+        """Reads the patterns; ValueError for one that never matches in git. top is the directory on
+        the disk, to see which paths are files; without it, patterns of directories match all
+        paths."""
         self.rules = [Rule.of_glob(glob) for glob in globs]
         self.top = top
         self.known: dict[str, bool] = {}
 
     def __call__(self, path: str) -> bool:
-        """Whether a path, or a directory above it, is left out."""
+        """Whether a path, or a directory above it, is left out. The first answer for a path is
+        kept, also if the file becomes a directory later."""
         if not self.rules:
             return False
         if path not in self.known:
@@ -136,8 +140,8 @@ class Ignore:
         return self.known[path]
 
     def leaves_out(self, path: str) -> bool:
-        """Whether the last pattern that matches a path leaves it out, whatever holds above it. No
-        pattern matches the root, whose syncs count."""
+        """Whether the last pattern that matches a path leaves it out; directories above it aren't
+        looked at. No pattern matches the root, whose syncs count."""
         name, ignored = path.strip('/'), False
         for rule in self.rules if name else []:
             may_match = not rule.directories or not self.is_file(path)
@@ -146,5 +150,6 @@ class Ignore:
         return ignored
 
     def is_file(self, path: str) -> bool:
-        """Whether a path is known to be a file, which no pattern of directories matches."""
+        """Whether a path is a plain file on the disk now, which no pattern of directories
+        matches."""
         return self.top is not None and os.path.isfile(self.top + path)

@@ -7,6 +7,7 @@ import os.path
 import re
 from dataclasses import dataclass
 from typing import Dict, List, Optional, Tuple
+from weakref import WeakSet
 
 from crashfs_tools.common import limits
 from crashfs_tools.common.entry import parent_of
@@ -47,8 +48,8 @@ def no_target(_: str) -> None:
 @dataclass(frozen=True)
 class StartConditions:
     """What COMMAND started with: the directory's path as the calls name it, the umask, and the
-    owner and group of new files. target_outside gives the target of a symbolic link that
-    is not in the directory."""
+    owner and group of new files. target_outside gives the target of a symbolic link outside the
+    directory, or of an ignored one; None if none is there or known."""
 
     top: str
     umask: int
@@ -58,12 +59,14 @@ class StartConditions:
 
 
 class LiveFiles:
-    """The files, processes and streams that the calls change, with the recording. Handlers of
-    calls are in the modules of `calls`."""
+    """The files, processes and streams that the calls change, with the recording. has_copies says
+    that copies show what is stored through mappings (--mapped). Handlers of calls are in the
+    modules of `calls`."""
 
     def __init__(
         self, recording: Recording, conditions: StartConditions, scan: Scan, ignored: Ignored
     ) -> None:
+        """Adds the scan to the recording as its start tree, and reports what that leaves out."""
         self.recording = recording
         self.conditions = conditions
         self.ignored = ignored
@@ -72,14 +75,17 @@ class LiveFiles:
         self.tree = LiveTree(root)
         self.resolver = Resolver(conditions.top, self.target_at, conditions.target_outside)
         self.processes: Dict[int, Process] = {}
-        # Syncs of writes that had not ended where the writes are, with their calls.
+        # The files of O_TMPFILE, as long as something has them.
+        self.temporary: WeakSet[Node] = WeakSet()
+        # The syncs of writes (O_SYNC) whose calls have not ended yet: call, file, offset, length.
         self.late_syncs: List[Tuple[Call, Node, int, int]] = []
         self.has_copies = False
         self.add_scan(scan)
 
     def add_scan(self, scan: Scan) -> None:
-        """Makes what the directory has at the start the trace's start tree, and reports what a
-        trace can't have."""
+        """Adds what the directory has at the start to the live tree and to the trace's start tree.
+        What a trace can't have is reported; a second path of a file is a file of its own there, if
+        the trace's version has no links."""
         for entry in scan.entries[: limits.RECORDS - 1]:
             source = scan.links.get(entry.path)
             if source is None:
@@ -94,7 +100,8 @@ class LiveFiles:
         self.add_left_out(scan)
 
     def add_scanned(self, entry: ScannedEntry, node: Node, line: StartLine) -> None:
-        """Adds a file, directory or symbolic link of the start, with its line in the trace."""
+        """Adds an entry of the start to the live tree, and its line to the trace. A symbolic link
+        that the trace's version can't have is reported, and only in the live tree."""
         self.tree.add_name(entry.path, node)
         if self.recording.add_start(line):
             node.traced_paths.add(entry.path)
@@ -102,7 +109,9 @@ class LiveFiles:
             self.recording.report('the start tree leaves out a symbolic link', entry.path)
 
     def add_left_out(self, scan: Scan) -> None:
-        """Reports what the start tree doesn't have. Entries come after their directories."""
+        """Reports what the start tree doesn't have: entries beyond the number that a trace may
+        have, and what the scan left out or only noted. In the live tree they are files whose bytes
+        aren't known; what the scan noted is there already."""
         too_many = scan.entries[limits.RECORDS - 1 :]
         if too_many:
             self.recording.report(
@@ -121,7 +130,8 @@ class LiveFiles:
             self.recording.report_note(f'the start tree leaves out {why}', path)
 
     def first_process(self) -> Process:
-        """The process that strace starts, with the streams that it inherits."""
+        """COMMAND's first process, in the directory, with the umask of the start and the output
+        streams that it inherits. Other descriptors that are open at its start aren't known."""
         inherited = self.recording.streams.inherited_streams()
         files = {number: OpenFile(None, stream=stream) for number, stream in inherited.items()}
         return Process(Descriptors(files), PathContext(self.conditions.top, self.conditions.umask))
@@ -129,8 +139,8 @@ class LiveFiles:
     # Paths
 
     def target_at(self, path: str) -> Optional[str]:
-        """The target of a symbolic link at a path of the directory; None if there is none. What is
-        ignored isn't in the tree: there the disk is asked as it is now."""
+        """The target of a symbolic link at a path of the directory; None if no link is known there.
+        What is ignored isn't in the tree: of that the disk is asked as it is now."""
         node = self.tree.node_at(path)
         if node is not None:
             return node.link
@@ -141,36 +151,41 @@ class LiveFiles:
         )
 
     def relative_path(self, path: str, follows: bool = False) -> Optional[str]:
-        """A path as the trace has it; None for one outside the directory, or ignored. follows says
-        that a symbolic link at its end means what it refers to."""
+        """The path below the directory, as the trace has it, that a whole path leads to. None if
+        that is outside the directory or ignored, or if the path goes through too many symbolic
+        links. A link at its end is followed only if `follows`."""
         below = self.resolver.path_below(self.resolver.resolve(path, follows))
         return None if below is None or self.ignored(below) else below
 
     def path_argument(
         self, process: Process, call: Call, place: int, follows: bool = False
     ) -> Optional[str]:
-        """The path of the argument at a place, which has no descriptor before it; None as from
-        relative_path."""
+        """The path in the argument at a place, as relative_path() returns it; a relative one begins
+        at the working directory. None also if strace cut it."""
         return self.join_path(process.paths.directory, call.argument(place), follows)
 
     def path_argument_at(
         self, process: Process, call: Call, place: int, follows: bool = False
     ) -> Optional[str]:
-        """The path of the argument that follows a directory's descriptor, which is at `place`; None
-        as from relative_path."""
+        """As path_argument(), for the argument after a directory's descriptor, which is at `place`.
+        A relative path begins at that directory, or at the working directory if strace shows no
+        path of it."""
         base = call.descriptor(place).path or process.paths.directory
         return self.join_path(base, call.argument(place + 1), follows)
 
     def join_path(self, base: str, word: str, follows: bool = False) -> Optional[str]:
-        """The path in an argument, which may be relative to the directory `base`; None if the
-        log hasn't all of it, or as from relative_path."""
+        """The path in an argument, as relative_path() returns it; a relative one begins at the
+        directory `base`. None also if strace cut it."""
         path = arguments.path_of_text(word)
         return None if path is None else self.relative_path(os.path.join(base, path), follows)
 
     def node_argument(
         self, process: Process, call: Call, place: int, follows: bool = True
     ) -> Optional[Node]:
-        """The file of the path at a place, also by /proc/self/fd; None if it isn't followed."""
+        """The file, directory or symbolic link of the path in the argument at a place; a link at
+        its end is followed unless `follows` is False. A path such as /proc/self/fd/3 means that
+        descriptor's file. None if nothing is known there, or the path is outside the directory or
+        ignored."""
         file = self.open_file_of_path(process, call.argument(place))
         if file is not None:
             return file.node
@@ -179,8 +194,8 @@ class LiveFiles:
     def node_argument_at(
         self, process: Process, call: Call, place: int, follows: bool = True
     ) -> Optional[Node]:
-        """The file of a path that follows a directory's descriptor, which is at `place`. An empty
-        path is the descriptor's own file. None if it isn't followed."""
+        """As node_argument(), for the argument after a directory's descriptor, which is at `place`.
+        An empty path means that descriptor's own file."""
         file = self.open_file_of_path(process, call.argument(place + 1))
         if call.argument(place + 1) == '""':
             file = process.descriptors.files.get(call.descriptor(place).number)
@@ -189,28 +204,31 @@ class LiveFiles:
         return self.tree.node_at(self.path_argument_at(process, call, place, follows))
 
     def move_working_directories(self, source: str, target: str) -> None:
-        """Moves the working directories that are in a directory which was renamed. Processes that
-        share one change it once."""
+        """Gives each process that is in the renamed directory `source`, or below it, the new path
+        of its working directory. Threads that share one change it once."""
         top = self.conditions.top
         for paths in {id(one.paths): one.paths for one in self.processes.values()}.values():
             if (paths.directory + '/').startswith(f'{top}{source}/'):
                 paths.directory = top + target + paths.directory[len(top + source) :]
 
     def open_file_of_path(self, process: Process, word: str) -> Optional[OpenFile]:
-        """The open file that a path such as /proc/self/fd/3 or /dev/stdout means; None for any
-        other path."""
+        """The open file that a path such as /proc/self/fd/3 or /dev/stdout means. None for any
+        other path, if the descriptor isn't followed, and in /proc/PID/fd of a process that isn't
+        known."""
         path = arguments.path_of_text(word) or ''
         if path in STANDARD_NAMES:
             return process.descriptors.files.get(STANDARD_NAMES[path])
         match = BY_DESCRIPTOR.match(path)
         if not match:
             return None
-        of = self.processes.get(int(match[1]), process) if (match[1] or '').isdigit() else process
-        return of.descriptors.files.get(int(match[2]))
+        is_of_number = (match[1] or '').isdigit()
+        owner = self.processes.get(int(match[1])) if is_of_number else process
+        return owner.descriptors.files.get(int(match[2])) if owner else None
 
     def open_file(self, process: Process, call: Call, place: int = 0) -> Optional[OpenFile]:
-        """The open file of the descriptor at a place; None if it isn't followed. One of a file of
-        the directory that should be, and isn't known, is reported."""
+        """The open file of the descriptor at a place; None if it isn't followed. If strace shows a
+        path of the directory for one that isn't followed, its open isn't in the log: that is
+        reported."""
         shown = call.descriptor(place)
         file = process.descriptors.files.get(shown.number)
         if file is None and shown.path is not None and not shown.deleted:
@@ -222,8 +240,9 @@ class LiveFiles:
         return file
 
     def stream_of(self, process: Process, call: Call, place: int = 0) -> Optional[OutputStream]:
-        """The output stream that the bytes of the descriptor at a place go to; None if it is of a
-        file. What strace shows for standard output is noted."""
+        """The output stream of the descriptor at a place, by what strace shows for it; one that
+        --say-fd names is made. None if it is of a file or of another stream. What strace shows for
+        the standard output becomes a name of that stream."""
         shown = call.descriptor(place)
         streams = self.recording.streams
         file = process.descriptors.files.get(shown.number)
@@ -236,8 +255,9 @@ class LiveFiles:
     # Changes
 
     def add_new(self, path: str, node: Node) -> None:
-        """Adds a new file, directory or symbolic link at a free path; to the trace too, if that has
-        its parent and may have the operation."""
+        """Adds a new file, directory or symbolic link at a free path, and its operation to the
+        trace if that has the parent. What the trace can't have is reported, and only in the live
+        tree."""
         self.tree.add_name(path, node)
         parent = self.tree.node_at(parent_of(path))
         if parent is None or parent.traced_path is None:
@@ -255,8 +275,9 @@ class LiveFiles:
             node.traced_paths.add(path)
 
     def write_by_call(self, node: Node, offset: int, data: bytes, floats: object = None) -> None:
-        """Writes the bytes of the current call; floats is what gave them their place. Reports
-        changes that two calls made at once, if their order matters."""
+        """Writes the current call's bytes; without bytes it does nothing. floats is what gave them
+        their place, as in Change. Reports that two calls changed the file at once, if their order
+        decides its bytes."""
         if not data:
             return
         call, end = self.recording.call, offset + len(data)
@@ -277,7 +298,8 @@ class LiveFiles:
         self.write_bytes(node, offset, data)
 
     def zero_by_call(self, node: Node, begin: int, end: int) -> None:
-        """Writes zeros; in a large file only where it has data, and what gives it its length."""
+        """Writes zeros to a range, as the current call does. If the range ends past FILE_BYTES,
+        only pages that have data are written, and a new length is set separately."""
         if node.data is None or end <= limits.FILE_BYTES:
             self.write_by_call(node, begin, bytes(max(0, end - begin)))
             return
@@ -287,22 +309,24 @@ class LiveFiles:
             self.set_length(node, end)
 
     def write_bytes(self, node: Node, offset: int, data: bytes) -> None:
-        """Writes bytes to a file, and adds the write to the trace if that has the file."""
+        """Writes bytes to a file, and adds the write to the trace if that has the file's bytes. If
+        the trace can't have the write, which is reported, the bytes aren't followed any more."""
         path = node.path_of_traced_bytes
         node.write(offset, data)
         if path is not None and not self.recording.add_operation(Write(path, offset, bytes(data))):
             node.drop_bytes()
 
     def set_length(self, node: Node, length: int) -> None:
-        """Cuts a file or makes it longer, in the trace too if that has the file."""
+        """Cuts a file or makes it longer, in the trace too if that has its bytes. If the trace
+        can't have the length, which is reported, the bytes aren't followed any more."""
         path = node.path_of_traced_bytes
         node.resize(length)
         if path is not None and not self.recording.add_operation(Truncate(path, length)):
             node.drop_bytes()
 
     def drop_bytes(self, node: Node, what: str) -> None:
-        """Stops following a file's bytes after a change that no trace has, and reports it if the
-        file has a name."""
+        """Stops following a file's bytes after a change that no trace has: `what` says which. It is
+        reported if the file has a name."""
         if node.names:
             self.recording.report(f'{what}; its later bytes are not recorded', node.name)
         node.drop_bytes()
@@ -310,15 +334,16 @@ class LiveFiles:
     # Syncs
 
     def sync_file(self, node: Node) -> None:
-        """Adds to the trace a sync of a file or directory, with its mode and owner, if the trace
-        has it, and notes that it was synced."""
+        """Adds a sync of a file or directory, with its mode and owner, if the trace has it. Notes
+        that it was synced, since a file of O_TMPFILE may get its name later."""
         node.was_synced, node.has_new_rights = True, False
         if node.traced_path is not None:
             self.recording.add_operation(Fsync(node.traced_path))
 
     def sync_data(self, node: Node) -> None:
         """Syncs a file's size and all its bytes, but not its mode and owner. Of a directory no
-        trace has such a sync: it is written as one that has both."""
+        trace has such a sync: it is written as sync_file() does, and reported if its mode or owner
+        was changed since its last sync."""
         if not node.is_directory:
             node.was_synced = True
             if node.traced_path is not None:
@@ -331,15 +356,15 @@ class LiveFiles:
         self.sync_file(node)
 
     def sync_range(self, node: Node, offset: int, length: int) -> None:
-        """Adds to the trace a sync of a part of a file's bytes, if the trace has the file, and
-        notes that the file was synced."""
+        """Adds a sync of a part of a file's bytes, with its size, if the trace has the file. Notes
+        that it was synced, as sync_file() does."""
         node.was_synced = True
         if node.traced_path is not None:
             self.recording.add_operation(FsyncRange(node.traced_path, offset, length))
 
     def sync_when_ended(self, node: Node, offset: int, length: int) -> None:
-        """Adds the sync of a range that the current write makes by itself (O_SYNC): now, or when
-        its call has ended."""
+        """Adds the sync of a range that the current write makes by itself (O_SYNC): now if the
+        write is one line of the log, else by add_ended_syncs() after its call has ended."""
         call = self.recording.call
         if call is None or call.begin == call.end:
             self.sync_range(node, offset, length)
@@ -347,7 +372,8 @@ class LiveFiles:
             self.late_syncs.append((call, node, offset, length))
 
     def add_ended_syncs(self, line: Optional[int]) -> None:
-        """Adds the syncs of writes whose calls had ended before a line of the log; all for None."""
+        """Adds the syncs of writes whose calls had ended before a line of the log (None: of all),
+        in the order of their ends. The recording's current call is the last of these afterwards."""
         for late in sorted(self.late_syncs, key=lambda late: late[0].end):
             if line is None or late[0].end < line:
                 self.late_syncs.remove(late)
@@ -356,7 +382,7 @@ class LiveFiles:
 
 
 def start_node(entry: ScannedEntry) -> Node:
-    """The node of an entry that the directory has at the start."""
+    """A new node, without a name, for an entry that the directory has at the start."""
     if isinstance(entry, StartSymlink):
         return Node.symbolic_link(entry.link)
     if entry.data is None:

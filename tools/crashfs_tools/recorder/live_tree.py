@@ -27,7 +27,9 @@ class Change:
     grows: bool
 
     def is_unordered(self, other: Change) -> bool:
-        """Whether two changes ran at once, and their order decides the file's bytes."""
+        """Whether two changes of one file, by different threads, ran at once and their order
+        decides the file's bytes: their ranges overlap, one goes to the end that the other moves, or
+        both move one shared offset."""
         if self.process == other.process or self.begin > other.end or other.begin > self.end:
             return False
         meet = self.first < other.last and other.first < self.last
@@ -39,10 +41,11 @@ class Change:
 class Node:
     """A file, directory or symbolic link, which has its target as link.
 
-    traced_paths has the paths at which the trace has it. data is None for a directory, and for a
-    file whose bytes are not followed any more. size is kept. was_synced counts for a file that has
-    no name yet; has_new_rights, of a directory, means a mode or owner since its last fsync.
-    """
+    traced_paths has the paths at which the trace has it. data is None for a directory or link, and
+    for a file whose bytes are not followed any more; its size is still kept. is_temporary is a file
+    of O_TMPFILE, for which was_synced counts until it has a name. has_new_rights, of a directory,
+    means a mode or owner since its last fsync. recent has the changes that later ones may
+    overlap."""
 
     is_directory: bool
     mode: int
@@ -97,13 +100,15 @@ class Node:
         self.data = None
 
     def write(self, offset: int, data: bytes) -> None:
-        """Writes bytes at an offset, and makes the file longer if they end past its end."""
+        """Writes bytes at an offset, and makes the file longer if they end past its end. If its
+        bytes aren't followed, only its size changes."""
         self.resize(max(self.size, offset + len(data)))
         if self.data is not None:
             self.data.write(offset, data)
 
     def resize(self, length: int) -> None:
-        """Cuts the file, or adds zeros. Bytes of one that no trace may have are dropped."""
+        """Sets the length: cuts the bytes, or adds zeros. Above the most that any trace may have,
+        the bytes aren't followed any more."""
         self.size = length
         if length > limits.LARGE_FILE_BYTES:
             self.drop_bytes()
@@ -111,8 +116,9 @@ class Node:
             self.data.resize(length)
 
     def add_change(self, change: Change) -> bool:
-        """Adds a change, and returns whether another ran at the same time and the order of the two
-        decides the file's bytes."""
+        """Adds a change, and returns whether a change before it ran at the same time and the order
+        of the two decides the file's bytes. Changes that ended before this one began are
+        forgotten."""
         self.recent = [one for one in self.recent if one.end >= change.begin]
         unordered = any(change.is_unordered(one) for one in self.recent)
         self.recent.append(change)
@@ -120,40 +126,45 @@ class Node:
 
 
 class LiveTree:
-    """Nodes by path; the root's is `/`."""
+    """Nodes by path; the root's is `/`. A node's names are the paths at which it is."""
 
     def __init__(self, root: Node) -> None:
         self.nodes: Dict[str, Node] = {}
         self.add_name('/', root)
 
     def node_at(self, path: Optional[str]) -> Optional[Node]:
-        """The node at a path; None if nothing is there, and for no path."""
+        """The node at a path. None if nothing is there, and for None, which is a path outside or
+        ignored."""
         return None if path is None else self.nodes.get(path)
 
     def add_name(self, path: str, node: Node) -> None:
-        """Gives a node a name, which it may have in addition to others."""
+        """Gives a node a name, which must be free; it may have others."""
         self.nodes[path] = node
         node.names.add(path)
 
     def remove_name(self, path: str) -> Node:
-        """Removes a name, which must be there, and returns the node that had it."""
+        """Removes a name, which must be there, and returns the node that had it. What is below a
+        directory stays."""
         node = self.nodes.pop(path)
         node.names.discard(path)
         return node
 
     def paths_below(self, path: str) -> List[str]:
-        """All paths below a directory, at any depth."""
+        """All paths below a directory that isn't the root, at any depth."""
         return [other for other in self.nodes if other.startswith(path + '/')]
 
     def move_node(self, source: str, target: str) -> None:
-        """Moves the node at a path, and all that is below it, to a free path."""
+        """Moves the node at a path, and all that is below it, to a free path. Their traced paths
+        stay: move_traced() moves those."""
         below = self.paths_below(source)
         self.add_name(target, self.remove_name(source))
         for path in below:
             self.add_name(target + path[len(source) :], self.remove_name(path))
 
     def move_traced(self, source: str, target: str) -> None:
-        """Moves the traced paths of a directory that was moved, and of what is below it."""
+        """Moves the traced paths of a directory that move_node() has moved from source to target,
+        and of what is below it. Nodes that the trace doesn't have at the old path stay as they
+        are."""
         for path in [target] + self.paths_below(target):
             paths, old = self.nodes[path].traced_paths, source + path[len(target) :]
             if old in paths:

@@ -43,12 +43,16 @@ class LogFilter:
     are read. The same number counts for all processes."""
 
     def __init__(self, top: bytes, descriptors: Iterable[int] = ()) -> None:
+        """top is the directory's path as the calls have it. These descriptors, and the standard
+        ones, are needed from the beginning."""
         self.top = ''.join(f'\\x{byte:02x}' for byte in top.rstrip(b'/') or b'/')
         self.descriptors: Set[int] = {0, 1, 2, *descriptors}
         self.has_mapped = False
 
     def is_needless(self, line: str) -> bool:
-        """Whether a line of a call, or of a call's beginning, needs no reading."""
+        """Whether a line, of a whole call or of the beginning of one, needs no reading: the call is
+        on a descriptor that isn't needed, or on mappings while no file of the directory is mapped.
+        Any other line is read."""
         match = HEAD.match(line)
         if match is None:
             return False
@@ -65,8 +69,8 @@ class LogFilter:
         return False
 
     def note_result(self, name: str, line: str) -> None:
-        """Notes what a whole call made that was read: a needed descriptor by its number, or a
-        mapping."""
+        """Notes, from the line of a whole call that was read, what the call made: a descriptor that
+        is needed from now on, or a mapping of a file of the directory. name is the call's."""
         if name in MAPPERS:
             self.has_mapped |= self.top in line
         elif name in MAKERS:
@@ -77,13 +81,15 @@ class LogFilter:
                 self.descriptors.add(int(result[1]))
 
     def makes_needed_descriptor(self, line: str, shown: Optional[str]) -> bool:
-        """Whether a line makes a descriptor that may be of the directory or of a stream, by what
-        strace shows for it."""
+        """Whether the descriptor that a line's call made may be of the directory or of a stream. It
+        may if strace shows nothing for it, or a path of the directory, or if the line has a path
+        such as /dev/fd/3."""
         if shown is None or self.top in shown:
             return True
         return any(path in line for path in OF_DESCRIPTORS)
 
     def has_needed_descriptor(self, line: str) -> bool:
-        """Whether a line's first argument is the number of a needed descriptor."""
+        """Whether a line's first argument is the number of a needed descriptor, as of one that is
+        duplicated."""
         match = HEAD.match(line)
         return match is not None and match[2] is not None and int(match[2], 0) in self.descriptors

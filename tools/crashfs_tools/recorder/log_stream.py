@@ -26,15 +26,16 @@ STOPPED = re.compile(r'^(\d+) +--- stopped by SIGSTOP ---')
 
 
 def create_log(path: str) -> TextIO:
-    """Opens the file in which a log is kept. OSError if it can't be written, or if another user
-    has put a link or a pipe there."""
+    """Opens, for writing from its beginning, the file in which a log is kept. OSError if it can't
+    be written, or if another user has put a link or a pipe there."""
     refuse_planted(path)
     return open(path, 'w', encoding='ascii')
 
 
 class LogStream:
     """strace writes to `pipe`; the lines are kept in the file `keep`, too, if one is named.
-    keep_fault says why not all could be kept, log_error why the log is none."""
+    keep_fault says why not all lines could be kept, log_error why the log isn't strace's; each is
+    None if nothing is wrong."""
 
     def __init__(
         self,
@@ -43,6 +44,8 @@ class LogStream:
         mapped: Optional[MappedFiles],
         line_filter: Optional[LogFilter] = None,
     ) -> None:
+        """Makes the pipe in the folder, and the file that is kept: OSError if one of them can't be
+        made. Nothing is read before start()."""
         self.pipe = os.path.join(folder, 'log')
         os.mkfifo(self.pipe)
         self.kept = None if keep is None else create_log(keep)
@@ -61,8 +64,8 @@ class LogStream:
         self.thread.start()
 
     def finish(self) -> Log:
-        """Waits for the thread that reads the pipe, and returns the log. LogError if the log isn't
-        strace's."""
+        """Waits for the thread that reads the pipe, also if strace never opened it, and returns the
+        log. LogError if the log isn't strace's."""
         self.release_reader()
         self.thread.join()
         if self.log_error is not None:
@@ -70,7 +73,8 @@ class LogStream:
         return self.reader.log
 
     def release_reader(self) -> None:
-        """Ends the wait for a strace that has never opened the pipe."""
+        """Ends the thread's wait for a writer of the pipe, by opening and closing it: nothing if
+        strace has opened it. Returns when the thread has the pipe."""
         while not self.opened.is_set():
             try:
                 os.close(os.open(self.pipe, os.O_WRONLY | os.O_NONBLOCK))
@@ -79,7 +83,8 @@ class LogStream:
                 time.sleep(0.001)
 
     def read_pipe(self) -> None:
-        """Reads the pipe to its end; the thread does only this."""
+        """Reads the pipe until no process writes to it, and copies mapped files at each stop and at
+        the end. Closes the pipe and the kept file. The thread runs only this."""
         descriptor = os.open(self.pipe, os.O_RDONLY)
         self.opened.set()
         enlarge_pipe(descriptor)
@@ -99,8 +104,8 @@ class LogStream:
         self.close_kept()
 
     def add_line(self, line: str) -> Optional[int]:
-        """Adds a line to the log and to the kept file. Returns the thread that it reports as
-        stopped by a signal, or None."""
+        """Adds a line, with its end, to the log and to the kept file, and notes a mapping in it.
+        Returns the thread that it reports as stopped by a signal; None if it reports none."""
         self.line_number += 1
         self.keep_line(line)
         self.parse_line(line.rstrip('\n'))
@@ -111,7 +116,7 @@ class LogStream:
 
     def parse_line(self, line: str) -> None:
         """Adds what a line says to the log. After a line that isn't strace's, `log_error` is set,
-        and no further line is read: COMMAND runs on."""
+        and no further line is parsed: COMMAND runs on."""
         try:
             if self.log_error is None:
                 self.reader.read_line(self.line_number, line)
@@ -120,7 +125,9 @@ class LogStream:
 
     def copy_and_continue(self, mapped: MappedFiles, thread: int, lines: PipeLines) -> None:
         """Waits until all threads of a stopped thread's process are stopped, copies the mapped
-        files, and continues the process; then does the same for others that stopped meanwhile."""
+        files, and continues the process; then does the same for others that stopped meanwhile. If
+        some threads still run after the wait, this copy and the next one aren't sure. Nothing for a
+        process that has ended or runs again."""
         process = stopped_processes.process_of_thread(thread)
         if process is None:
             return
@@ -141,8 +148,9 @@ class LogStream:
             self.copy_and_continue(mapped, other, lines)
 
     def collect_stops(self, seen: Set[int], threads: Set[int], lines: PipeLines) -> List[int]:
-        """Reads the lines by which a process's other threads are stopped too, so that none is
-        taken for a later stop; returns the stopped threads of other processes."""
+        """Reads the lines by which a process's other threads are stopped too, so that none is taken
+        for a later stop; stops when no line comes for SAME_STOP seconds. Returns the stopped
+        threads of other processes. `seen` gets the threads that were found."""
         later = []
         while not threads <= seen:
             line = lines.next_line(SAME_STOP)
@@ -156,8 +164,8 @@ class LogStream:
         return later
 
     def keep_line(self, line: str) -> None:
-        """Writes a line into the kept file. After one that can't be written, `keep_fault` is set,
-        and no further one is tried: COMMAND runs on."""
+        """Writes a line into the kept file, if there is one. After one that can't be written,
+        `keep_fault` is set, and no further one is tried: COMMAND runs on."""
         try:
             if self.kept is not None and self.keep_fault is None:
                 self.kept.write(line)
@@ -165,7 +173,8 @@ class LogStream:
             self.keep_fault = error
 
     def close_kept(self) -> None:
-        """Closes the file in which the log is kept; what fails then is a fault of the log."""
+        """Closes the kept file, if there is one. If that fails, `keep_fault` is set, unless it was
+        before."""
         if self.kept is None:
             return
         try:

@@ -43,9 +43,11 @@ BEGINS = 'it begins after an acknowledged line: what was not yet synced then cou
 
 @dataclass
 class RecordedRun:
-    """The results of a run of COMMAND: strace's log, the copies of mapped files, its status, the
-    signals that were passed to it, the processes that could not be ended, and why the log was not
-    kept whole."""
+    """A run of COMMAND, or a log from elsewhere. copies are those of mapped files, None without
+    --mapped; status is COMMAND's, as Popen has it; stops are the signals that were passed to it;
+    output is what strace shows for its standard output, None of a log. left names the processes
+    that could not be ended, and log_fault says why the log was not kept whole: both are empty if
+    all is well."""
 
     log: Log
     copies: Optional[FileCopies] = None
@@ -57,8 +59,9 @@ class RecordedRun:
 
 
 def run_under_strace(options: RecordOptions, guard: Guard) -> RecordedRun:
-    """Runs COMMAND under strace, and ends all that it leaves. Refused if there is no strace, or no
-    log of a whole run; LogError if the log isn't strace's."""
+    """Runs COMMAND under strace, and ends all that it leaves, also after an error. Refused if there
+    is no strace, or no log of a whole run; LogError if the log isn't strace's; OSError if the file
+    of --keep-log can't be made."""
     strace = strace_run.find_strace()
     mapped = MappedFiles(options.directory, options.ignored) if options.mapped else None
     # Copies of mapped files are placed by all calls, also those on other files.
@@ -84,7 +87,8 @@ def run_under_strace(options: RecordOptions, guard: Guard) -> RecordedRun:
 
 
 def refuse_incomplete_log(log: Log, program: str) -> None:
-    """Refused if a log isn't of a whole run of a program."""
+    """Refused if a log has no calls, ends before the first process did, or shows no exec that
+    succeeded: `program` is what was to start."""
     if log.first is None:
         raise Refused('strace recorded nothing (it may not trace here: see its message)')
     if not log.is_whole:
@@ -95,14 +99,14 @@ def refuse_incomplete_log(log: Log, program: str) -> None:
 
 def filter_for(options: RecordOptions, top: str) -> LogFilter:
     """The filter that keeps the log's lines on a directory, named by the path that the calls have
-    for it, and on the descriptors of --say-fd."""
+    for it, and on the descriptors of --say-fd; lines on the standard streams are always kept."""
     numbers = [int(number) for number in options.acknowledged if number.isdecimal()]
     return LogFilter(os.fsencode(top), numbers)
 
 
 def load_log(path: str, line_filter: LogFilter) -> Log:
-    """Reads a log from a file. Refused if no process called anything, LogError if strace didn't
-    write it, OSError if it can't be read."""
+    """Reads a log from a file, also one that ends early. Refused if no process called anything,
+    LogError if strace didn't write it, OSError if it can't be read."""
     with open(path, encoding='ascii', errors='replace') as lines:
         log = read_log(lines, line_filter)
     if log.first is None:
@@ -111,8 +115,9 @@ def load_log(path: str, line_filter: LogFilter) -> Log:
 
 
 def start_conditions(options: RecordOptions) -> StartConditions:
-    """What COMMAND starts with: as it is here, or what is assumed of a log from elsewhere, as the
-    umask 022."""
+    """What COMMAND starts with. For a log from elsewhere the umask is taken to be 022 and the
+    directory's path that of --log-dir, if it is given; targets of symbolic links outside it aren't
+    known. The owner and group of new files are this process's in any case."""
     is_here = options.from_log is None
     umask = os.umask(0)
     os.umask(umask)
@@ -127,8 +132,8 @@ def start_conditions(options: RecordOptions) -> StartConditions:
 
 
 def target_on_disk(path: str) -> Optional[str]:
-    """The target of a symbolic link of this system; None if there is no link, or one that means
-    something else in each process."""
+    """The target of a symbolic link of this system, as it is now. None if there is no link, and for
+    a path below /proc, which means something else in each process."""
     if path.startswith('/proc/'):
         return None
     try:
@@ -139,8 +144,8 @@ def target_on_disk(path: str) -> Optional[str]:
 
 def record(options: RecordOptions) -> int:
     """Records a session, writes the trace, prints the summary, and returns the status. Refused,
-    LogError or an OSError come before the trace is written; of later errors a line is printed, and
-    the status is NOT_WHOLE."""
+    LogError, Stopped or an OSError come before the trace is written. If an error or a signal comes
+    later, a line is printed, and the status is NOT_WHOLE, or that of the signal."""
     prepare_options(options)
     Crashfs.find(options.crashfs)
     before = scan_directory(options.directory, options.ignored, options.version or NEWEST)
@@ -151,6 +156,9 @@ def record(options: RecordOptions) -> int:
     write_trace(options, recording)
     try:
         return report_recording(options, recording, before, run)
+    except Stopped as stopped:
+        print_text(f'stopped by {stopped}; {WRITTEN}')
+        return stopped.status
     except OSError as error:
         print_text(f'{error.filename or options.out}: {error.strerror}; {WRITTEN}')
     except Exception as error:
@@ -159,7 +167,7 @@ def record(options: RecordOptions) -> int:
 
 
 def trace_settings(options: RecordOptions) -> TraceSettings:
-    """How the trace is made, by the options."""
+    """The options on how the trace is made. each and version are None if no option names them."""
     return TraceSettings(
         acknowledged=options.acknowledged,
         each=SayEach(options.each) if options.each else None,
@@ -170,8 +178,9 @@ def trace_settings(options: RecordOptions) -> TraceSettings:
 
 
 def recorded_run(options: RecordOptions, files: LiveFiles) -> RecordedRun:
-    """Runs COMMAND and returns its run, or the run of the log that --from-log names. Refused and
-    LogError as of these."""
+    """Runs COMMAND under strace, and returns the run. With --from-log it runs nothing, and returns
+    the run of that log; one that ends early is reported. It raises what run_under_strace() and
+    load_log() do."""
     if options.from_log is None:
         with Guard(NAME) as guard:
             return run_under_strace(options, guard)
@@ -182,8 +191,8 @@ def recorded_run(options: RecordOptions, files: LiveFiles) -> RecordedRun:
 
 
 def write_trace(options: RecordOptions, recording: Recording) -> None:
-    """Writes the trace to OUT, as a whole. Only its owner may read it if some file of it isn't
-    readable by everybody."""
+    """Replaces OUT by the trace, as a whole. Only its owner may read it if some file of it isn't
+    readable by everybody. An OSError leaves what was there."""
     mode = 0o600 if is_private(recording.trace) else 0o666
     write_whole(options.out, (line + '\n' for line in recording.trace.lines()), mode)
 
@@ -191,8 +200,8 @@ def write_trace(options: RecordOptions, recording: Recording) -> None:
 def report_recording(
     options: RecordOptions, recording: Recording, before: Scan, run: RecordedRun
 ) -> int:
-    """Compares the directory with the written trace, prints what the trace doesn't have, and the
-    summary; returns the status."""
+    """Compares the directory with the written trace (not with --from-log), prints what the trace
+    doesn't have, and the summary. Returns the status."""
     found = summary.final_report(
         recording, options, summary.failure_of_command(run.status, run.stops)
     )
@@ -209,13 +218,15 @@ def report_recording(
 
 
 def print_text(text: str) -> None:
-    """Prints a line on standard error; names in it can't control the terminal."""
+    """Prints a line on standard error, after the command's name; what would control the terminal is
+    shown as an escape."""
     print_line(NAME, printable(text))
 
 
 def translate(options: RecordOptions, files: LiveFiles, run: RecordedRun) -> None:
-    """Translates the log into the recording's operations, and reports what it can't. Refused if a
-    log from elsewhere changes nothing, LogError for a line that isn't strace's."""
+    """Translates the log into the recording's operations, and reports what the trace can't have.
+    For --stacks it prints the programs of which no source line is known. Refused if a log from
+    elsewhere changes nothing, LogError for a line that isn't strace's."""
     recording = files.recording
     report_faults_of_log(options, recording, run)
     recording.streams.set_standard_output(run.output)
@@ -235,7 +246,8 @@ def translate(options: RecordOptions, files: LiveFiles, run: RecordedRun) -> Non
 
 
 def report_faults_of_log(options: RecordOptions, recording: Recording, run: RecordedRun) -> None:
-    """Reports what the log lacks, and what COMMAND left behind."""
+    """Reports a line of the log that is cut, why the log was not kept whole, and what COMMAND left
+    behind."""
     if run.log.cut is not None:
         recording.report(f'line {run.log.cut} of the log is not a whole call, and is left out', '/')
     if run.log_fault:
@@ -245,7 +257,8 @@ def report_faults_of_log(options: RecordOptions, recording: Recording, run: Reco
 
 
 def refuse_log_without_changes(options: RecordOptions, files: LiveFiles) -> None:
-    """Refuses a log that changes nothing in the directory: the path is most likely another."""
+    """Refused if the log of --from-log has no operation but acknowledgements in the directory: the
+    path that it had there is most likely another."""
     operations = files.recording.trace.operations
     if options.from_log is not None and all(isinstance(it, Say) for it in operations):
         raise Refused(
@@ -256,7 +269,8 @@ def refuse_log_without_changes(options: RecordOptions, files: LiveFiles) -> None
 
 def main(arguments: Optional[List[str]] = None) -> int:
     """Runs crashfs-record with these words, or those of its command line, and returns its status,
-    which --help explains."""
+    which --help explains. A wrong command line ends the program (SystemExit). Signals that stop a
+    command raise Stopped from then on in this process."""
     prepare_standard_streams()
     options = read_options(sys.argv[1:] if arguments is None else arguments)
     stop_by_exception()

@@ -53,9 +53,10 @@ MAPPED = re.compile(
 
 @dataclass
 class FileCopy:
-    """The bytes of files that changed since the copy before, by the file's number; taken when so
-    many lines of the log had been read. It is alone if the process has no other thread; shared
-    has the files that other processes have mapped too. process is 0 for the copy at the end."""
+    """The bytes of the files that changed since the copy before, by their numbers. line is how many
+    lines of the log had been read, and process the thread that was stopped; 0 for the copy at the
+    end. is_alone says that its process has no other thread; shared has the files that other
+    processes may have mapped too."""
 
     line: int
     process: int
@@ -70,8 +71,8 @@ class FileCopy:
 
 @dataclass
 class FileCopies:
-    """All copies of a run. numbers gives the files' by the log's lines of their mappings; missed
-    has the paths of mapped files that could not be opened."""
+    """All copies of a run, in their order. numbers gives the number of a file by the log's line of
+    each of its mappings; missed has the paths of mapped files that could not be opened."""
 
     taken: List[FileCopy] = field(default_factory=list)
     numbers: Dict[int, int] = field(default_factory=dict)
@@ -79,9 +80,11 @@ class FileCopies:
 
 
 class MappedFiles:
-    """The files below a directory that were mapped."""
+    """The files below a directory that were mapped, each with a number, from 0, and an open
+    descriptor. last has their bytes in the newest copy of each."""
 
     def __init__(self, top: str, ignored: Ignored) -> None:
+        """Opens nothing yet. top is the directory's path as the calls have it."""
         self.top, self.ignored = top, ignored
         self.copies = FileCopies()
         self.inodes: Dict[Tuple[int, int], int] = {}
@@ -89,8 +92,9 @@ class MappedFiles:
         self.last: Dict[int, Bytes] = {}
 
     def note_mapping(self, line: str, number: int) -> None:
-        """If a line of strace's shows a mapping of a followed file, holds the file open from then
-        on: it may be renamed or unlinked later. One that can't be opened is noted as missed."""
+        """If a line of the log shows a shared mapping of a file of the directory that isn't
+        ignored, holds the file open from then on: it may be renamed or unlinked later. One that
+        can't be opened, by its path or its descriptor, is noted as missed. number is the line's."""
         match = MAPPED.match(line)
         path = arguments.shown_path(match[3]) if match else None
         if match is None or path is None or not path.startswith(self.top.rstrip('/') + '/'):
@@ -106,7 +110,8 @@ class MappedFiles:
         self.copies.missed.append(path[len(self.top.rstrip('/')) :])
 
     def hold_open(self, descriptor: int, number: int) -> None:
-        """Keeps a mapped file open, once for all its mappings; number is the line of this one."""
+        """Keeps a mapped file open, once for all its mappings: of a file that is open already it
+        closes the new descriptor. number is the log's line of this mapping."""
         status = os.fstat(descriptor)
         inode = status.st_dev, status.st_ino
         if inode in self.inodes:
@@ -119,8 +124,9 @@ class MappedFiles:
     def copy_changed(
         self, line: int, process: int, is_alone: bool, others: Iterable[int] = ()
     ) -> None:
-        """Copies the files that changed since the last copy, when `line` lines of the log were
-        read; others are the processes that aren't stopped."""
+        """Adds a copy of the files that changed since the last one, also if none did. `line`,
+        `process` and is_alone are those of FileCopy; others are the processes that aren't stopped.
+        OSError if a file can't be read."""
         changed: Dict[int, Bytes] = {}
         for number, descriptor in enumerate(self.descriptors):
             data = file_bytes(descriptor)
@@ -130,9 +136,9 @@ class MappedFiles:
         self.copies.taken.append(FileCopy(line, process, is_alone, changed, shared))
 
     def mapped_by(self, processes: Iterable[int]) -> Set[int]:
-        """The numbers of the followed files that these processes may have mapped: rather too many.
-        A file counts by its inode, whatever its device; all count if a process doesn't show what it
-        has mapped."""
+        """The numbers of the files that these processes may have mapped. There may be too many: a
+        file counts by its inode, whatever its device, and all files do if a process doesn't show
+        what it has mapped."""
         mapped: Set[str] = set()
         for process in processes:
             inodes = stopped_processes.inodes_mapped(process)
@@ -142,7 +148,8 @@ class MappedFiles:
         return {number for (_, inode), number in self.inodes.items() if str(inode) in mapped}
 
     def make_last_copy(self, line: int) -> None:
-        """Makes the last copy, of what the program left, and closes the files."""
+        """Makes the last copy, of what the program left, and closes the files: to be called
+        once."""
         self.copy_changed(line, 0, True)
         for descriptor in self.descriptors:
             os.close(descriptor)

@@ -22,8 +22,11 @@ NOT_ALONE = (
 def copies_by_call(
     calls: List[Call], ordered: List[Call], copies: FileCopies
 ) -> Dict[int, List[FileCopy]]:
-    """For each call, by its id, the copies whose stores were made before it: the last call of the
-    stopped process; of several threads, the first of the trace that could have been."""
+    """The copies that come with each call, by its id: what they show was stored before that call.
+    The call is the last one of the stopped thread; if other threads ran, it is the first, in the
+    trace, of the calls since the copy before at which COMMAND is stopped. `calls` are in the log's
+    order, `ordered` in the trace's. Copies without files, and that at the end, come with no
+    call."""
     ends = [call.end for call in calls]
     places = {id(call): place for place, call in enumerate(ordered)}
     latest: Dict[int, Call] = {}
@@ -44,8 +47,10 @@ def copies_by_call(
 
 
 def add_stores(files: LiveFiles, node: Node, data: Bytes, is_sure: bool) -> None:
-    """Adds the stores that a copy of a mapped file shows, a write for each page that differs.
-    is_sure says that no other process or thread can have made them."""
+    """Adds the stores that a copy of a mapped file shows: a write, for each page that differs, of
+    what differs in it. is_sure says that no other process or thread can have made them; else that
+    is reported. A copy whose length isn't the file's is only reported. Nothing if the file's bytes
+    aren't followed."""
     if node.data is None:
         return
     if len(data) != node.size:
@@ -65,13 +70,13 @@ def add_stores(files: LiveFiles, node: Node, data: Bytes, is_sure: bool) -> None
 
 
 def offsets_of_pages(old: SparseBytes, new: SparseBytes) -> List[int]:
-    """The offsets of the pages that may differ: those that one of the two has."""
+    """The offsets, ascending, of the pages that may differ: those that one of the two has."""
     return [page * PAGE_BYTES for page in sorted(old.pages.keys() | new.pages.keys())]
 
 
 def changed_range(old: bytes, new: bytes) -> Tuple[int, int]:
-    """The smallest range, by its ends, that has all bytes in which two pages of one size differ;
-    an empty one if they are equal."""
+    """The smallest range, by its ends, that has all bytes in which two pages of one size differ; 0,
+    0 if they are equal."""
     if old == new:
         return 0, 0
     places = [place for place in range(len(new)) if old[place] != new[place]]

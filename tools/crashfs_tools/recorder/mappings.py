@@ -23,8 +23,8 @@ class Mapping:
         return self.address + self.length
 
     def part_between(self, first: int, last: int) -> Mapping:
-        """The part from one address up to, and without, another. Its length is 0 if the mapping
-        isn't there."""
+        """The part from one address up to, and without, another, with its offset in the file. Its
+        length is 0 if no address of the mapping is between them."""
         begin, end = max(first, self.address), min(last, self.end)
         offset = self.offset + begin - self.address
         return replace(self, address=begin, length=max(0, end - begin), offset=offset)
@@ -37,12 +37,13 @@ class Memory:
     mappings: List[Mapping] = field(default_factory=list)
 
     def map(self, mapping: Mapping) -> None:
-        """Adds a mapping, in the place of what is mapped at its addresses."""
+        """Adds a mapping; what was mapped at its addresses is unmapped."""
         self.unmap(mapping.address, mapping.length)
         self.mappings.append(mapping)
 
     def unmap(self, address: int, length: int) -> None:
-        """Unmaps whole pages from an address on; parts of mappings outside them stay."""
+        """Unmaps whole pages from an address on; parts of mappings outside them stay. Addresses at
+        which nothing is mapped are left out."""
         end = address + in_whole_pages(length)
         kept = []
         for mapping in self.mappings:
@@ -51,7 +52,9 @@ class Memory:
         self.mappings = [mapping for mapping in kept if mapping.length > 0]
 
     def move(self, old: int, old_length: int, new: int, new_length: int, *, keeps: bool) -> None:
-        """Moves a mapping, as mremap does; the old range stays mapped only if `keeps`."""
+        """Moves what is mapped at the old addresses, or gives it another length, as mremap does. It
+        stays mapped there too if `keeps`, and for the old length 0. Of several mappings there only
+        the first gets the new addresses."""
         moved = [part for part, _ in self.parts_in(old, old_length or 1)]
         if not keeps and old_length:
             self.unmap(old, old_length)
@@ -59,8 +62,8 @@ class Memory:
             self.map(replace(part, address=new, length=in_whole_pages(new_length)))
 
     def parts_in(self, address: int, length: int) -> Iterator[Tuple[Mapping, Tuple[int, int]]]:
-        """The parts of mappings that are in a range of addresses, each with its offset in its file
-        and its length there."""
+        """Yields the parts of mappings that are in a range of addresses, each with its offset in
+        its file and its length there; in the order in which they were mapped."""
         for mapping in self.mappings:
             part = mapping.part_between(address, address + length)
             if part.length > 0:

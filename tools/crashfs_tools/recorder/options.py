@@ -42,7 +42,8 @@ example: crashfs-record store.d store.trace -- sqlite3 test.db ".read session.sq
 
 @dataclass
 class RecordOptions:
-    """The values of a command line, by the names that the parser gives them, and COMMAND."""
+    """The values of a command line, by the names that the parser gives them, and COMMAND, which is
+    empty with --from-log. ignored says of a path whether --ignore leaves it out."""
 
     directory: str
     out: str
@@ -74,7 +75,7 @@ class RecordOptions:
 
 
 def make_parser() -> argparse.ArgumentParser:
-    """A parser of the command line up to COMMAND."""
+    """A new parser of the words before `--`, with all options."""
     parser = argparse.ArgumentParser(
         prog=NAME,
         description=DESCRIPTION,
@@ -92,7 +93,7 @@ def make_parser() -> argparse.ArgumentParser:
 
 
 def add_recording_options(parser: argparse.ArgumentParser) -> None:
-    """Adds the options that say what is recorded, to a parser."""
+    """Adds the options that say what is recorded and what is reported of it, to a parser."""
     parser.add_argument(
         '--mapped',
         action='store_true',
@@ -198,7 +199,7 @@ def add_log_options(parser: argparse.ArgumentParser) -> None:
 
 
 def checked_glob(text: str) -> str:
-    """A pattern of --ignore, unchanged; ArgumentTypeError if it has no meaning."""
+    """A pattern of --ignore, unchanged; ArgumentTypeError for one that never matches in git."""
     try:
         Rule.of_glob(text)
     except ValueError as error:
@@ -215,7 +216,8 @@ def descriptor_to_acknowledge(word: str) -> str:
 
 
 def read_options(arguments: List[str]) -> RecordOptions:
-    """The options of a command line; a wrong one ends the program (SystemExit) with its reason."""
+    """The options of a command line, without looking at any file. Words that are wrong or don't go
+    together, --help and --version end the program (SystemExit)."""
     parser = make_parser()
     values, command = parse_command_line(parser, arguments)
     if values.from_log is None and not command:
@@ -231,7 +233,8 @@ def read_options(arguments: List[str]) -> RecordOptions:
 
 def prepare_options(options: RecordOptions) -> None:
     """Replaces the directory in the options by its real path, and COMMAND's program by its whole
-    path. Refused, before anything runs, if something of them can't work."""
+    path. Refused, before anything runs, if there is no such directory or program, or if OUT or the
+    file of --keep-log can't be made or would be in the directory."""
     if not os.path.isdir(options.directory):
         raise Refused(f'{options.directory} is no directory')
     options.directory = os.path.realpath(options.directory)

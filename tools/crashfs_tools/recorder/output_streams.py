@@ -32,10 +32,10 @@ class OutputStream:
     """A stream that COMMAND writes to.
 
     pieces has the bytes of a line that has no end yet, and moment how many changes the recording
-    had at the newest of them. gaps is how often changes came between two pieces of the newest line,
-    and most_gaps the largest number of any line. is_held means that changes came between the last
-    line, which has no end, and the end. writes counts those that brought something whole.
-    """
+    had at the newest of them. lines counts the texts that were completed, and writes the writes
+    that completed some. gaps is how often changes came between two pieces of the newest line, and
+    most_gaps the largest number of any line. is_held means that changes came between the last line,
+    which has no end, and the end."""
 
     name: str
     is_acknowledged: bool
@@ -49,10 +49,13 @@ class OutputStream:
     is_held: bool = False
 
     def texts_of(self, data: bytes, moment: int) -> List[bytes]:
-        """The texts that a write of these bytes completes; moment is how many changes the
-        recording had before it."""
+        """The texts that a write of these bytes completes, which are counted: its lines, or itself
+        as one line. A write of no bytes changes nothing. moment is how many changes the recording
+        had before it."""
+        if not data:
+            return []
         if self.each is SayEach.WRITE:
-            texts = [written_as_line(data)] if data else []
+            texts = [written_as_line(data)]
         else:
             texts = self.complete_lines(data, moment)
         self.lines += len(texts)
@@ -60,7 +63,8 @@ class OutputStream:
         return texts
 
     def complete_lines(self, data: bytes, moment: int) -> List[bytes]:
-        """The lines that a write completes, without their ends; the rest waits in pieces."""
+        """The lines that a write completes, without line feeds and carriage returns at their ends;
+        the rest waits in pieces for the next write. Counts the gaps of a line in pieces."""
         if not self.pieces:
             self.gaps = 0
         elif moment != self.moment:
@@ -102,10 +106,12 @@ class OutputStreams:
     standard: Dict[int, OutputStream] = field(default_factory=dict)
 
     def __post_init__(self) -> None:
+        """Makes standard output and standard error, whether or not they acknowledge something."""
         self.standard = {1: self.new_stream(OUTPUT, 1), 2: self.new_stream(ERRORS, 2)}
 
     def new_stream(self, name: str, number: int) -> OutputStream:
-        """A new stream, which acknowledges something if --say-fd names its descriptor."""
+        """A new stream, which acknowledges something if --say-fd names its descriptor: by lines,
+        unless --say-each says otherwise."""
         return OutputStream(name, str(number) in self.acknowledged, self.each or SayEach.LINE)
 
     def is_asked_for(self, number: int) -> bool:
@@ -113,7 +119,8 @@ class OutputStreams:
         return number > 2 and str(number) in self.acknowledged
 
     def inherited_streams(self) -> Dict[int, OutputStream]:
-        """The streams that COMMAND may start with, by their descriptors."""
+        """The streams that COMMAND may start with, by their descriptors: the standard ones, and
+        those above 2 that --say-fd names."""
         asked = [int(number) for number in self.acknowledged if number.isdecimal()]
         named = {
             number: self.by_text.setdefault(
@@ -126,20 +133,21 @@ class OutputStreams:
 
     def set_standard_output(self, text: Optional[str]) -> None:
         """Makes what strace shows for a pipe a name of COMMAND's standard output. Anything else
-        than a pipe is left out: a file or a terminal may be of others, too."""
+        than a pipe, and None, is left out: a file or a terminal may be of others, too."""
         if text is not None and text.startswith('pipe:'):
             self.by_text.setdefault(text, self.standard[1])
 
     def add_connection(self, text: Optional[str]) -> None:
-        """Makes a connection that COMMAND accepted a stream, if --say-fd asks for connections."""
+        """Makes a connection that COMMAND accepted a stream, if --say-fd asks for connections.
+        `text` is what strace shows for it; if it shows nothing (None), it is left out."""
         if SOCKETS in self.acknowledged and text is not None:
             each = SayEach.LINE if text in self.with_lines else SayEach.WRITE
             self.by_text[text] = OutputStream('a socket', True, self.each or each)
 
     def find_stream(self, number: int, text: Optional[str]) -> Optional[OutputStream]:
         """The stream of a descriptor, by what strace shows for it. One that isn't known is made if
-        --say-fd names the descriptor; None for any other. Two descriptors of a device may be two
-        streams."""
+        --say-fd names the descriptor; None for any other, and if strace shows nothing. Two
+        descriptors of a device may be two streams."""
         if text is None:
             return None
         known = self.by_text.get(text)
@@ -149,12 +157,13 @@ class OutputStreams:
         return self.by_text.setdefault(key, self.new_stream(f'descriptor {number}', number))
 
     def all_streams(self) -> Iterator[OutputStream]:
-        """Each stream once, though it may have several names; the standard ones come first."""
+        """Yields each stream once, though it may have several names; the standard ones come
+        first."""
         yield from dict.fromkeys([*self.standard.values(), *self.by_text.values()])
 
 
 def connections_with_lines(calls: Iterable[Call]) -> FrozenSet[str]:
-    """The connections that were accepted and over which a line feed is sent, as strace shows
+    """The connections, as strace shows them, that were accepted before a line feed was sent over
     them."""
     accepted: Set[str] = set()
     found: Set[str] = set()
@@ -169,7 +178,7 @@ def connections_with_lines(calls: Iterable[Call]) -> FrozenSet[str]:
 
 
 def sent_bytes(call: Call) -> bytes:
-    """The bytes that a call writes or sends; none if the log lacks them."""
+    """The bytes that a call has written or sent; empty if the log lacks them, or if it failed."""
     if call.name == 'sendmmsg':
         return arguments.bytes_of_messages(call.argument(1)) or b''
     is_text = call.name in ('write', 'pwrite64', 'sendto')

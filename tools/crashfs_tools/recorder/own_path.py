@@ -17,7 +17,9 @@ NOTE = (
 
 
 def files_with_path(trace: Trace, top: str) -> List[str]:
-    """The paths of the files whose bytes have a directory's path, in the order of the trace."""
+    """The paths of the files and symbolic links in a trace whose bytes or target have a directory's
+    path, each once, in the order of the trace. A path that is split between two writes isn't found.
+    Empty for the root, which every path has."""
     if top == '/':
         return []
     # A longer name, as `/store2` for `/store`, is another path.
@@ -26,8 +28,8 @@ def files_with_path(trace: Trace, top: str) -> List[str]:
 
 
 def bytes_by_file(trace: Trace) -> Iterator[Tuple[str, bytes]]:
-    """Each piece of bytes that a trace has, after the path of its file there; of a symbolic link
-    its target."""
+    """Yields each piece of bytes that a trace has, after the path of its file at that line; of a
+    symbolic link its target."""
     for line in (*trace.start, *trace.operations):
         if isinstance(line, (StartSymlink, Symlink)):
             yield line.path, os.fsencode(line.link)

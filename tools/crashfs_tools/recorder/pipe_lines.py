@@ -22,6 +22,7 @@ class PipeLines:
     """Reads a pipe line by line. With `gathers` it sleeps after a read that found little."""
 
     def __init__(self, descriptor: int, gathers: bool = False) -> None:
+        """Reads nothing yet. The caller closes the descriptor."""
         self.descriptor = descriptor
         self.gathers = gathers
         self.ready: Deque[str] = deque()
@@ -30,7 +31,8 @@ class PipeLines:
         self.has_ended = False
 
     def next_line(self, seconds: Optional[float] = None) -> Optional[str]:
-        """The next line, with its end. None at the pipe's end, or if none comes in that time."""
+        """The next line, with its end; the last one may have none. None at the pipe's end, or if no
+        bytes come within so many seconds; if these are None, it waits without a limit."""
         while not self.ready and not self.has_ended:
             if seconds is not None:
                 if not select.select([self.descriptor], [], [], seconds)[0]:
@@ -39,15 +41,16 @@ class PipeLines:
         return self.ready.popleft() if self.ready else None
 
     def read_piece(self) -> None:
-        """Waits for bytes of the pipe, or its end, and adds them."""
+        """Waits for bytes of the pipe, or its end, and adds them. With `gathers` it sleeps if there
+        were few."""
         piece = os.read(self.descriptor, PIECE)
         if self.gathers and 0 < len(piece) < PIECE // 4:
             time.sleep(GATHER_SECONDS)
         self.add_bytes(piece)
 
     def add_bytes(self, piece: bytes) -> None:
-        """Splits bytes of the pipe into lines, with what was left of the last one; an empty piece
-        is the pipe's end."""
+        """Splits bytes of the pipe into lines, with what was left of the last one. An empty piece
+        is the pipe's end: then a line without an end is one too."""
         self.rest.append(piece)
         if b'\n' in piece:
             *lines, rest = b''.join(self.rest).split(b'\n')
@@ -60,7 +63,8 @@ class PipeLines:
 
 
 def enlarge_pipe(descriptor: int) -> None:
-    """Gives a pipe room for more than the usual 64 KiB, if the system grants it."""
+    """Gives a pipe room for more than the usual 64 KiB; if the system doesn't grant it, it stays as
+    it is."""
     try:
         fcntl.fcntl(descriptor, F_SETPIPE_SZ, PIPE_BYTES)
     except OSError:

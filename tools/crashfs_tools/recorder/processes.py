@@ -13,7 +13,8 @@ from .strace_log import Call
 
 @dataclass(eq=False)
 class OpenFile:
-    """An open file: shared by all descriptors that were duplicated or inherited from one."""
+    """An open file: shared by all descriptors that were duplicated or inherited from one. node is
+    None for an output stream. syncs means that each write is synced (O_SYNC, O_DSYNC)."""
 
     node: Optional[Node]
     position: int = 0
@@ -23,7 +24,7 @@ class OpenFile:
 
     @staticmethod
     def opened_with(node: Node, flags: str) -> OpenFile:
-        """A file that was opened with flags such as `O_WRONLY|O_APPEND`."""
+        """A new open file, at offset 0, for flags such as `O_WRONLY|O_APPEND`."""
         return OpenFile(
             node,
             appends='O_APPEND' in flags,
@@ -33,14 +34,15 @@ class OpenFile:
 
 @dataclass
 class Descriptors:
-    """A process's table of open files; threads share one."""
+    """A process's table of open files; threads share one. It has only descriptors that are
+    followed: of files in the directory, and of output streams."""
 
     files: Dict[int, OpenFile] = field(default_factory=dict)
     closed_by_exec: Set[int] = field(default_factory=set)
 
     def set_file(self, number: int, file: Optional[OpenFile], closed_by_exec: bool) -> None:
-        """Adds a descriptor that a call made, in the place of an older one. A file that is None is
-        outside the directory, and isn't followed."""
+        """Sets the file of a descriptor that a call made, in the place of an older one. A file that
+        is None is outside the directory: the descriptor isn't followed."""
         self.close(number)
         if file is not None:
             self.files[number] = file
@@ -48,12 +50,13 @@ class Descriptors:
             self.closed_by_exec.add(number)
 
     def close(self, number: int) -> None:
-        """Closes a descriptor, if it is open."""
+        """Closes a descriptor; nothing if it isn't followed."""
         self.files.pop(number, None)
         self.closed_by_exec.discard(number)
 
     def copy(self) -> Descriptors:
-        """The table of a forked process: its own, of the same open files."""
+        """The table of a forked process: a new one, of the same open files, whose offsets are
+        shared."""
         return Descriptors(dict(self.files), set(self.closed_by_exec))
 
     def after_exec(self) -> Descriptors:
@@ -71,7 +74,7 @@ class PathContext:
     umask: int
 
     def copy(self) -> PathContext:
-        """The same directory and umask, to be changed apart."""
+        """A copy of the directory and umask, which changes by itself."""
         return PathContext(self.directory, self.umask)
 
 
@@ -84,7 +87,8 @@ class Process:
     memory: Memory = field(default_factory=Memory)
 
     def forked_child(self, fork: Call) -> Process:
-        """The process or thread that a fork makes: its flags say what both share."""
+        """The process or thread that a fork makes. Its flags say what both share; the rest is
+        copied as it is now."""
         flags = ' '.join(fork.arguments)
         shares_memory = 'CLONE_VM' in flags or fork.name == 'vfork'
         return Process(

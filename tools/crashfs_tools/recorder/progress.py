@@ -14,6 +14,7 @@ class CallProgress:
     """Used by `with`: a thread prints how many calls there are so far, which count returns."""
 
     def __init__(self, program: str, count: Callable[[], int], seconds: float = SECONDS) -> None:
+        """Prints nothing yet. `seconds` is the time between two lines."""
         self.program, self.count, self.seconds = program, count, seconds
         self.ended = threading.Event()
         self.thread = threading.Thread(target=self.print_lines, daemon=True)
@@ -23,7 +24,7 @@ class CallProgress:
         return self
 
     def print_lines(self) -> None:
-        """Prints a line every few seconds, in the thread."""
+        """Prints a line every few seconds, in the thread, until the `with` ends."""
         while not self.ended.wait(self.seconds):
             print_line(
                 self.program,

@@ -28,7 +28,7 @@ class Segment(NamedTuple):
 
 
 def segments_of(path: str) -> List[Segment]:
-    """The loaded parts of a program's file; none if it is no ELF file, or can't be read."""
+    """The loaded parts of a program's file; empty if it is no ELF file, or can't be read."""
     try:
         with open(path, 'rb') as file:
             return read_segments(file)
@@ -37,8 +37,8 @@ def segments_of(path: str) -> List[Segment]:
 
 
 def read_segments(file: BinaryIO) -> List[Segment]:
-    """The loaded parts that the headers of an ELF file list; none of one with the most significant
-    byte first. struct.error if it is cut."""
+    """The loaded parts that the headers of an ELF file list; empty for another file, and for one
+    with the most significant byte first. struct.error if it is cut."""
     head = file.read(64)
     if head[:4] != b'\x7fELF' or head[5] != 1:
         return []
@@ -71,7 +71,7 @@ def address_of(offset: int, segments: Iterable[Segment]) -> int:
 
 def source_frames(addresses: Iterable[Address]) -> Dict[Address, List[Frame]]:
     """The functions at each address, the innermost first: more than one if some are inlined. An
-    address of a program without debugging information is left out; all are without addr2line."""
+    address without debugging information is left out; without addr2line all are."""
     tool = shutil.which('addr2line')
     by_file: Dict[str, List[int]] = {}
     for path, offset in dict.fromkeys(addresses) if tool else []:
@@ -85,8 +85,8 @@ def source_frames(addresses: Iterable[Address]) -> Dict[Address, List[Frame]]:
 
 
 def run_addr2line(tool: str, path: str, offsets: List[int]) -> List[List[Frame]]:
-    """The frames of each offset of a program's file, in their order. An offset is where a call
-    returns to, so addr2line is asked for the byte before it."""
+    """The frames of each offset of a program's file, in their order; fewer if addr2line fails. An
+    offset is where a call returns to, so addr2line is asked for the byte before it."""
     segments = segments_of(path)
     asked = ''.join(f'{address_of(offset, segments) - 1:#x}\n' for offset in offsets)
     ran = subprocess.run(

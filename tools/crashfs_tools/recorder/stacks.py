@@ -38,13 +38,14 @@ SHOWN = 3
 
 
 def environment_with_hook(before: Dict[str, str]) -> Dict[str, str]:
-    """An environment with the hook, which each Python program loads as it starts."""
+    """A copy of an environment in which each Python program loads the hook as it starts."""
     paths = [HOOK, *filter(None, [before.get('PYTHONPATH')])]
     return {**before, 'PYTHONPATH': os.pathsep.join(paths)}
 
 
 def is_python(path: str) -> bool:
-    """Whether a program is Python, by its name or its first line: it needs the hook only."""
+    """Whether a program is Python, by its name or its first line: then it needs the hook only.
+    False if it can't be read."""
     try:
         with open(path, 'rb') as file:
             first = file.readline(200)
@@ -55,8 +56,9 @@ def is_python(path: str) -> bool:
 
 
 def note_calls(calls: List[Call]) -> List[str]:
-    """Gives each call its note. A Python program's line goes before the interpreter's frames.
-    Returns the programs of which no source line is known."""
+    """Gives each call its note, empty if nothing is known: the Python line that its process passed
+    last, else the functions of its frames. Returns the programs, sorted, of which no source line is
+    known."""
     frames = {id(call): program_frames(call.frames) for call in calls}
     lines = source_frames(frame.address for own in frames.values() for frame in own)
     python: Dict[int, str] = {}
@@ -72,7 +74,8 @@ def note_calls(calls: List[Call]) -> List[str]:
 
 
 def marked_line(call: Call) -> Optional[str]:
-    """The source line that the hook passed by a call of `access`; None for any other call."""
+    """The source line that the hook passed by a call of `access` and such; None for any other
+    call."""
     if call.name not in MARKS:
         return None
     path = arguments.path_of_text(call.argument(0 if call.name == 'access' else 1))
@@ -88,8 +91,8 @@ class ShownFrame(NamedTuple):
 
 
 def program_frames(frames: List[str]) -> List[ShownFrame]:
-    """The frames of a call, as strace prints them, that are in no system library; the innermost
-    first."""
+    """The frames of a call, from the lines that strace prints, without those in system libraries;
+    the innermost first."""
     found = []
     for frame in frames:
         match = FRAME.match(frame)
@@ -101,7 +104,7 @@ def program_frames(frames: List[str]) -> List[ShownFrame]:
 
 def stack_text(frames: List[ShownFrame], lines: Dict[Address, List[Frame]]) -> str:
     """The note of a call: the innermost functions of the program's own, SHOWN at most, each with
-    its source line if that is known."""
+    its source line, or its file if no line is known. Empty if it has none."""
     texts: List[str] = []
     for frame in frames:
         if frame.address in lines:
@@ -118,10 +121,12 @@ def stack_text(frames: List[ShownFrame], lines: Dict[Address, List[Frame]]) -> s
 
 
 def is_program_function(function: str) -> bool:
-    """Whether a function is the program's own, and not of its language's library or runtime."""
+    """Whether a function is the program's own, and not of its language's library or runtime. One
+    without a name counts as the program's."""
     return function not in STARTS and not RUNTIME.match(function)
 
 
 def addr2line_hint() -> str:
-    """The likely reason why no source line is known: that there is no addr2line."""
+    """The likely reason, in brackets, why no source line is known: that there is no addr2line.
+    Empty if there is."""
     return ' (addr2line is not there)' if shutil.which('addr2line') is None else ''

@@ -32,8 +32,10 @@ SUPERSEDE = '+supersede'
 
 @dataclass
 class Call:
-    """A call that returned, or was cut by its thread's end (is_cut). It begins and ends at lines of
-    the log, from 1, which order all calls of all threads. made is its result as a descriptor."""
+    """A call that returned, or was cut by its thread's end (is_cut), or an event (EXIT, SUPERSEDE).
+    process is the number of the thread. It begins and ends at lines of the log, from 1, which order
+    all calls of all threads. result is negative if the call failed or was cut; made is the result
+    as a descriptor, with what strace shows for it."""
 
     process: int
     name: str
@@ -47,18 +49,18 @@ class Call:
     note: str = ''
 
     def argument(self, place: int, default: str = '') -> str:
-        """An argument by its place, or the default if the call has fewer."""
+        """An argument by its place, from 0, or the default if the call has fewer."""
         return self.arguments[place] if place < len(self.arguments) else default
 
     def descriptor(self, place: int = 0) -> Descriptor:
-        """The argument at a place as a descriptor, whose number is -1 if it can't be read."""
+        """The argument at a place as a descriptor, whose number is -1 if it is none."""
         return arguments.descriptor(self.argument(place))
 
 
 @dataclass
 class Log:
-    """A whole log. first is the process that strace started, and ended all that ended; cut is the
-    first line that begins a call and isn't whole."""
+    """A whole log. first is the thread that strace started, None if there is no call; ended has all
+    that ended; cut is the first line that begins a call and isn't whole, None if all are."""
 
     calls: List[Call] = field(default_factory=list)
     ended: List[int] = field(default_factory=list)
@@ -72,7 +74,7 @@ class Log:
 
     @property
     def has_begun(self) -> bool:
-        """Whether an exec succeeded: strace's first process became a program."""
+        """Whether an exec succeeded: strace's first process became COMMAND's program."""
         return any(call.name == 'execve' and call.result == 0 for call in self.calls)
 
 
@@ -90,6 +92,7 @@ class LogReader:
     Lines that a filter finds needless are left out."""
 
     def __init__(self, line_filter: Optional[LogFilter] = None) -> None:
+        """Begins an empty log. Without a filter all lines are read."""
         self.log = Log()
         self.filter = line_filter
         self.waiting: Dict[str, InterruptedCall] = {}
@@ -98,7 +101,8 @@ class LogReader:
         self.shown: Optional[Call] = None
 
     def read(self, lines: Iterable[str]) -> Log:
-        """Reads a whole log; LogError if a line isn't as strace writes it."""
+        """Reads these lines as a whole log, and returns it. LogError, with the line's number, if
+        one isn't as strace writes it."""
         for number, line in enumerate(lines, 1):
             try:
                 self.read_line(number, line.rstrip('\n'))
@@ -107,8 +111,9 @@ class LogReader:
         return self.log
 
     def read_line(self, number: int, line: str) -> None:
-        """Reads the line with this number: a call, a part of one, a frame, or an event. LogError if
-        it isn't as strace writes it."""
+        """Reads the line with this number: a call, a part of one, a frame, or an event. Needless
+        lines, and the end of a call whose beginning was needless, are left out. LogError if an
+        argument isn't as strace writes it."""
         if self.filter is not None and self.filter.is_needless(line):
             self.shown = None
             return
@@ -136,7 +141,8 @@ class LogReader:
             self.shown.frames.append(line[len(FRAME) :])
 
     def add_call(self, match: re.Match[str], begin: int, end: int) -> None:
-        """Adds a whole call, by the match of LINE, with the lines at which it began and ended."""
+        """Adds a whole call, by the match of LINE, with the lines at which it began and ended. The
+        frames of the next lines are its own."""
         process, name, text, result, tail = match.groups()
         self.processes.add(int(process))
         if self.log.first is None:
@@ -159,7 +165,7 @@ class LogReader:
         self.log.calls.append(self.shown)
 
     def add_event(self, number: int, line: str) -> None:
-        """Adds what a line that is no call says: that a process ended, or changed its number. Of
+        """Adds what a line that is no call says: that a thread ended, or got another number. Of
         other lines only the first that begins a call, and isn't whole, is noted."""
         self.shown = None
         ended, superseded = ENDED.match(line), SUPERSEDED.match(line)
@@ -172,14 +178,16 @@ class LogReader:
             self.log.cut = number
 
     def add_event_call(self, number: int, process: int, name: str, result: int) -> None:
-        """Adds an event as a call without arguments, EXIT or SUPERSEDE."""
+        """Adds an event as a call without arguments, on one line; result is 0 of an EXIT, and of a
+        SUPERSEDE the number that the thread had."""
         nothing = Descriptor(-1, None, False)
         event = Call(process, name, [], result, made=nothing, begin=number, end=number)
         self.log.calls.append(event)
 
 
 def arguments_of(name: str, text: str) -> List[str]:
-    """The arguments of a call, from the text between its brackets; what it writes is packed."""
+    """The arguments of a call, from the text between its brackets. The bytes that a call of WRITES
+    writes are packed: they are most of a log."""
     words = arguments.split_arguments(text)
     if name in WRITES and len(words) > 1:
         words[1] = arguments.packed_word(words[1])
@@ -187,6 +195,6 @@ def arguments_of(name: str, text: str) -> List[str]:
 
 
 def read_log(lines: Iterable[str], line_filter: Optional[LogFilter] = None) -> Log:
-    """Reads a whole log, without the lines that a filter finds needless; LogError if a line isn't
-    as strace writes it."""
+    """A new LogReader's log of these lines, without those that the filter finds needless. It raises
+    what read() does."""
     return LogReader(line_filter).read(lines)

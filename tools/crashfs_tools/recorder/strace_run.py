@@ -34,7 +34,7 @@ IDLE_SECONDS = 0.5
 
 
 def find_strace() -> str:
-    """strace's path; Refused if it isn't there, or too old to print AT_FDCWD's path. A version that
+    """strace's path. Refused if it isn't there, or too old to print AT_FDCWD's path. A version that
     can't be read is accepted: a log that isn't as it should be is refused later."""
     path = shutil.which('strace')
     if path is None:
@@ -50,7 +50,8 @@ def find_strace() -> str:
 
 
 def strace_command(strace: str, log: str, options: RecordOptions) -> List[str]:
-    """The words that start strace, which writes to the file `log`, and COMMAND under it."""
+    """The words that start strace, which writes to the file `log`, and COMMAND under it. Only the
+    calls that the options need are traced."""
     sockets = [] if set(options.acknowledged) <= {'1', '2'} else SOCKET_HANDLERS
     marks = stacks.MARKS if options.stacks else ()
     traced = dict.fromkeys([*FORKS, *HANDLERS, *sockets, *marks])
@@ -81,12 +82,15 @@ def strace_command(strace: str, log: str, options: RecordOptions) -> List[str]:
 
 
 class StraceRun:
-    """COMMAND while it runs under strace. SIGINT, SIGTERM and SIGHUP are passed on to it, and a
-    second one kills it: what it did up to there is recorded."""
+    """COMMAND while it runs under strace; to be used once. SIGINT, SIGTERM and SIGHUP are passed on
+    to it, and a second one kills it: what it did up to there is recorded. stops has the signals
+    that came, and output what strace shows for its standard output, None before it runs."""
 
     def __init__(
         self, line: List[str], options: RecordOptions, stream: LogStream, guard: Guard
     ) -> None:
+        """Starts nothing yet. `line` are the words that start strace, stream reads its log, and
+        guard has the environment that COMMAND and all its processes get."""
         self.line, self.options, self.stream, self.guard = line, options, stream, guard
         self.stops: List[int] = []
         self.first_stop = 0.0
@@ -96,10 +100,11 @@ class StraceRun:
 
     def run(self) -> int:
         """Runs COMMAND to its end, copies its standard output to that of the recorder, and returns
-        its status as Popen has it.
+        its status as Popen has it. The handlers of signals are the old ones afterwards. OSError if
+        standard output can't be written.
 
-        Its standard output is a pipe: a program that writes by stdio has to flush its lines.
-        """
+        COMMAND's standard output is a pipe: a program that writes by stdio has to flush its
+        lines."""
         before = {number: signal.signal(number, self.note_stop) for number in stops_heard()}
         try:
             environment = self.guard.environment
@@ -125,7 +130,8 @@ class StraceRun:
                 signal.signal(number, handler)
 
     def progress(self) -> ContextManager[object]:
-        """A context for the time while COMMAND runs: on a terminal, lines on its progress."""
+        """A context for the time while COMMAND runs: on a terminal it prints lines on the progress,
+        else nothing."""
         if not sys.stderr.isatty():
             return nullcontext()
         return CallProgress(NAME, lambda: len(self.stream.reader.log.calls))
@@ -133,8 +139,8 @@ class StraceRun:
     def pass_output(self, child: subprocess.Popen[bytes], source: int) -> None:
         """Copies a pipe to standard output until it ends, or until strace has: a process that
         strace doesn't follow may keep the pipe open. If nobody reads standard output any more, the
-        pipe is still read, so that COMMAND continues. A signal ends the wait, whichever thread
-        takes it."""
+        pipe is still read, so that COMMAND continues; any other fault of it is an OSError. A signal
+        ends the wait, whichever thread takes it, and is passed to COMMAND."""
         waiting, wake = os.pipe2(os.O_NONBLOCK | os.O_CLOEXEC)
         signal.set_wakeup_fd(wake, warn_on_full_buffer=False)
         while True:
@@ -153,7 +159,8 @@ class StraceRun:
         os.close(wake)
 
     def status_of(self, child: subprocess.Popen[bytes]) -> int:
-        """Waits for COMMAND's end, passes signals on until then, and returns its status."""
+        """Waits for strace's end, passes signals on until then, and returns its status, which is
+        COMMAND's."""
         while True:
             try:
                 return child.wait(0.2)
@@ -161,8 +168,9 @@ class StraceRun:
                 self.send_noted_signal()
 
     def note_stop(self, number: int, _: object) -> None:
-        """The handler of a signal: notes it. The first one is passed to COMMAND, unless the
-        terminal sent it there too."""
+        """The handler of a signal. The first one is noted to be passed to COMMAND, unless the
+        terminal sent it there too; a later one to kill it. One within SAME_STOP seconds after the
+        first is the same stop, and left out."""
         if self.stops and time.monotonic() < self.first_stop + SAME_STOP:
             return
         self.stops.append(number)
@@ -174,8 +182,9 @@ class StraceRun:
             self.signal_to_send = number
 
     def send_noted_signal(self) -> None:
-        """Sends COMMAND the signal that was noted, as soon as it has begun. A kill is repeated,
-        since a process may have just forked."""
+        """Sends COMMAND's processes the noted signal, if there is one and some have begun; else the
+        next call tries again. A kill is sent by each later call too, since a process may have just
+        forked."""
         if self.signal_to_send is not None and self.guard.send_signal(
             self.signal_to_send, spared=self.strace
         ):
@@ -185,8 +194,8 @@ class StraceRun:
 
 
 def inherited_descriptors(acknowledged: Sequence[str]) -> List[int]:
-    """The descriptors that acknowledge something and that COMMAND inherits. Those that the recorder
-    has opened itself aren't inherited."""
+    """The descriptors above 2 that acknowledge something and that COMMAND inherits. Those that the
+    recorder has opened itself aren't inherited."""
     numbers = [int(number) for number in acknowledged if number.isdecimal() and int(number) > 2]
     return [number for number in numbers if is_inherited(number)]
 
@@ -200,7 +209,8 @@ def is_inherited(number: int) -> bool:
 
 
 def is_on_terminal() -> bool:
-    """Whether Ctrl-C on the terminal reaches COMMAND by itself, since this group is in front."""
+    """Whether Ctrl-C on the terminal reaches COMMAND by itself: this process group is in front
+    there. False without a terminal."""
     try:
         return os.tcgetpgrp(0) == os.getpgrp()
     except OSError:

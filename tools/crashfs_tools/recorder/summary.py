@@ -50,7 +50,8 @@ class FinalReport:
 def final_report(
     recording: Recording, options: RecordOptions, ending: Optional[str]
 ) -> FinalReport:
-    """What the trace doesn't have, and how COMMAND failed: `ending`, or None. compare_directory()
+    """What the trace doesn't have; how COMMAND failed (`ending`, None if it didn't), with the
+    likely cause; and, unless --no-say is given, why a loss could stay hidden. compare_directory()
     adds differences later."""
     found = FinalReport()
     troubles = list(recording.troubles)
@@ -64,7 +65,8 @@ def final_report(
 
 
 def lines_on_missing_notes(trace: Trace) -> List[str]:
-    """A line on the operations for which --stacks found no function; none if there are no such."""
+    """A line that counts the operations for which --stacks found no function; empty if each has a
+    note."""
     missing = len(trace.operations) - len(trace.notes)
     if not missing:
         return []
@@ -76,8 +78,8 @@ def lines_on_missing_notes(trace: Trace) -> List[str]:
 
 
 def relative_path_hints(options: RecordOptions) -> List[str]:
-    """A line for each of COMMAND's arguments that names a file here by a relative path: the likely
-    cause of its failure, as COMMAND runs in the directory."""
+    """A line for each of COMMAND's arguments that names a file here by a relative path, and none in
+    the directory: the likely cause of its failure, as COMMAND runs there."""
     return [
         f'{word} is a relative path, but COMMAND runs in {options.directory}: use '
         f'{os.path.abspath(word)}'
@@ -87,7 +89,8 @@ def relative_path_hints(options: RecordOptions) -> List[str]:
 
 
 def lines_of_notes(troubles: List[Trouble]) -> List[str]:
-    """A line for each thing that is only noted, with its first path and how many more there are."""
+    """A line for each thing that is only noted, with its first path and how many more there are.
+    Troubles that aren't notes are left out."""
     by_what: Dict[str, List[Trouble]] = {}
     for trouble in troubles:
         if trouble.is_note:
@@ -100,8 +103,8 @@ def lines_of_notes(troubles: List[Trouble]) -> List[str]:
 
 
 def acknowledgement_faults(recording: Recording) -> List[str]:
-    """A line on why no loss can be seen: nothing was acknowledged, or all at once, or a line was
-    held; none if nothing is wrong."""
+    """Why a loss could stay hidden: no line was acknowledged, all were in one write, or lines were
+    held, for which there is one line for each stream. Empty if nothing is wrong."""
     streams = list(recording.streams.all_streams())
     counted_ones = [stream for stream in streams if stream.is_acknowledged and stream.lines]
     lines = sum(stream.lines for stream in counted_ones)
@@ -125,8 +128,8 @@ def acknowledgement_faults(recording: Recording) -> List[str]:
 
 
 def held_line_faults(stream: OutputStream) -> List[str]:
-    """A line if one of the stream's was begun long before it was complete, as it may have
-    acknowledged something meanwhile; else none. One change between two writes of a line is usual:
+    """A line if one of the stream's lines was begun long before it was complete, as it may have
+    acknowledged something meanwhile; else empty. One change between two writes of a line is usual:
     a program prints what it does, and then that it is done."""
     if stream.is_held:
         what = 'its last text has no line feed, so it counts from the end'
@@ -144,7 +147,9 @@ def compare_directory(
     options: RecordOptions, recording: Recording, before: Scan, found: FinalReport
 ) -> str:
     """Compares the directory with the trace's last state, adds a line to `found` for each
-    difference, and returns in words how it was compared."""
+    difference, and returns in words how it was compared. If the directory can't be read, that is a
+    line too, and it was compared with nothing. OSError or ValueError if the trace can't be
+    replayed."""
     try:
         now = scan_directory(options.directory, options.ignored, options.version or NEWEST)
     except OSError as error:
@@ -170,7 +175,9 @@ def compare_directory(
 
 
 def ways_to_last_state(options: RecordOptions, recording: Recording) -> List[LastState]:
-    """The ways to compute the last state: the program, if it can read the trace, then a replay."""
+    """The ways to compute the last state, to be tried in this order: the program, if there is one
+    and the trace isn't too long for it, then a replay. If OUT is no file, there is only a replay of
+    the trace in memory."""
     if not os.path.isfile(options.out):
         return [Replayed(recording.trace.lines())]
     program = None if needs_windows(recording) else Crashfs.find(options.crashfs)
@@ -183,7 +190,7 @@ def needs_windows(recording: Recording) -> bool:
 
 
 def summary_line(options: RecordOptions, recording: Recording, how: str) -> str:
-    """The last line that is printed: what the trace has, and how it was compared."""
+    """The last line that is printed: what the trace has, and `how` it was compared."""
     trace = recording.trace
     counts = [
         count_text(len(trace.start), 'start line'),
@@ -196,7 +203,8 @@ def summary_line(options: RecordOptions, recording: Recording, how: str) -> str:
 
 
 def acknowledged_text(recording: Recording) -> str:
-    """How many lines are acknowledged, and by which streams."""
+    """How many lines are acknowledged in the trace, and by which streams: those that ever
+    acknowledged one."""
     lines = sum(isinstance(one, Say) for one in recording.trace.operations)
     names = dict.fromkeys(
         stream.name
@@ -207,7 +215,9 @@ def acknowledged_text(recording: Recording) -> str:
 
 
 def states_text(options: RecordOptions, recording: Recording) -> str:
-    """How many states the check has, by the program or else by the second reading."""
+    """How many prefixes and holes the trace has as states, in words, by the program or else by the
+    second reading. IN_WINDOWS if they are too many for a plan; else the fault, if neither can count
+    them."""
     if needs_windows(recording):
         return IN_WINDOWS
     found = f'no states ({options.out} is no file)'
@@ -223,8 +233,8 @@ def states_text(options: RecordOptions, recording: Recording) -> str:
 
 @contextmanager
 def trace_file(out: str, trace: Trace) -> Iterator[str]:
-    """The path of a file that has the trace: OUT itself, or a temporary one if OUT is no file, such
-    as standard output."""
+    """Yields the path of a file that has the trace: OUT, or a temporary one, which is removed at
+    the end, if OUT is no file, such as standard output."""
     if os.path.isfile(out):
         yield out
         return
@@ -236,6 +246,6 @@ def trace_file(out: str, trace: Trace) -> Iterator[str]:
 
 def failure_of_command(status: int, stops: Tuple[int, ...]) -> Optional[str]:
     """How COMMAND failed, from its status; None if it didn't. A signal of `stops`, which were
-    passed to it, is no failure, also as a shell has it: 128 more."""
+    passed to it, is no failure, nor is 128 more, which is how a shell reports it."""
     passed = [-number for number in stops] + [128 + number for number in stops]
     return None if status == 0 or status in passed else ending_text(status)

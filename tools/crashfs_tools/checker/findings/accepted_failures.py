@@ -24,18 +24,20 @@ class AcceptedFailure(NamedTuple):
 
     @property
     def key(self) -> Tuple[str, str, str]:
-        """Equal for entries that differ only in numbers and random parts."""
+        """Equal for entries whose cause and operations differ only in numbers and random parts. The
+        reason and the last day don't count."""
         return without_numbers(self.cause), without_numbers(self.lost), without_numbers(self.kept)
 
     @property
     def fields(self) -> Dict[str, str]:
-        """What a file has of it, by its keys."""
+        """The entry as JSON has it, by KEYS; `until` is empty if it has no last day."""
         until = self.until.isoformat() if self.until else ''
         return {**self._asdict(), 'until': until}
 
     @property
     def name(self) -> str:
-        """The cause and the two operations, as a report names an accepted failure."""
+        """The cause as a report names the entry, with the operations in parentheses unless it has
+        none."""
         operations = ', then '.join(filter(None, (self.lost, self.kept)))
         return f'{self.cause} ({operations})' if operations else self.cause
 
@@ -50,14 +52,14 @@ class AcceptedFailures:
 
     @staticmethod
     def read(path: str) -> AcceptedFailures:
-        """The entries of a file. Refused if it can't be read, or isn't a file of accepted
-        failures."""
+        """The entries of a file, whose last days are compared with the date of this call. Refused
+        if the file can't be read, or isn't a list of such entries."""
         try:
             with open(path, encoding='utf-8') as file:
                 values = json.load(file)
         except OSError as error:
             raise Refused(f'--accept {path}: {error.strerror}') from error
-        except ValueError as error:
+        except (ValueError, RecursionError) as error:
             raise Refused(f'--accept {path}: no JSON ({error})') from error
         if not isinstance(values, list):
             raise Refused(f'--accept {path}: no list of entries')
@@ -70,18 +72,19 @@ class AcceptedFailures:
         return self.entries.get(failure.key)
 
     def is_over(self, entry: AcceptedFailure) -> bool:
-        """Whether the last day of an entry has passed."""
+        """Whether the last day of an entry has passed; never for one without a last day."""
         return entry.until is not None and self.today > entry.until
 
     def entries_not_among(self, failures: Iterable[AcceptedFailure]) -> List[AcceptedFailure]:
-        """The entries whose key none of the failures has."""
+        """The entries that have the key of none of the failures, also those whose last day has
+        passed."""
         seen = {failure.key for failure in failures}
         return [entry for key, entry in self.entries.items() if key not in seen]
 
 
 def entry_of(path: str, place: int, value: Any) -> AcceptedFailure:
-    """An entry of a file, by its place from 1, from its JSON; Refused if something is missing or
-    unknown."""
+    """The entry that the JSON at a place of a file, counted from 1, has. Refused if it is no object
+    of texts, has an unknown key, lacks `cause` or `why`, or has an `until` that is no date."""
     where = f'--accept {path}: entry {place}'
     if not isinstance(value, dict) or not all(isinstance(text, str) for text in value.values()):
         raise Refused(f'{where} is no object of texts')
@@ -101,16 +104,23 @@ def entry_of(path: str, place: int, value: Any) -> AcceptedFailure:
 
 
 def date_of(where: str, text: str) -> Optional[datetime.date]:
-    """A date, or None for an empty text. Refused, with the place where it is, for any other
-    text."""
+    """The date of a text such as 2027-01-31; None for an empty text. Refused for any other text, in
+    a line that begins with `where`."""
+    if not text:
+        return None
     try:
-        return datetime.date.fromisoformat(text) if text else None
-    except ValueError as error:
-        raise Refused(f'{where}: until is no date such as 2027-01-31: {text}') from error
+        date: Optional[datetime.date] = datetime.date.fromisoformat(text)
+    except ValueError:
+        date = None
+    # Since Python 3.11 other forms are dates too, such as 20270131.
+    if date is None or date.isoformat() != text:
+        raise Refused(f'{where}: until is no date such as 2027-01-31: {text}')
+    return date
 
 
 def operation_text(line: Optional[TraceLine]) -> str:
-    """A line without its details: `rename /new to /old`; an empty text if there is no line."""
+    """A line of the trace without its details, such as `rename /new to /old`; an empty text for
+    None."""
     if line is None:
         return ''
     target = f'to {line.target}' if line.target else ''

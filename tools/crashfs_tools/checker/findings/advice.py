@@ -19,9 +19,10 @@ NOT_REPRODUCIBLE = (
 
 @dataclass
 class Tried:
-    """The result of trying an advice on a copy of the trace, in different states: how many of the
-    group's are left, of how many in total; how many others fail, and how many of these failed
-    before (still). before and after are how many fail without the advice and with it."""
+    """What an advice does, tried on a copy of the trace; all numbers count different states. Of the
+    group's `total` states a crash of the copy may still leave `left`. Of the copy's other states
+    `others` fail, of which `still` failed without the advice too. before and after are how many
+    fail in all, without the advice and with it."""
 
     left: int
     total: int
@@ -31,7 +32,7 @@ class Tried:
     after: int = 0
 
     def __add__(self, other: Tried) -> Tried:
-        """The results for two groups of different windows that are one entry."""
+        """The results for two groups of different windows that are one entry, added up."""
         return Tried(
             self.left + other.left,
             self.total + other.total,
@@ -43,11 +44,12 @@ class Tried:
 
     @property
     def is_right(self) -> bool:
-        """Whether fewer states fail with the advice."""
+        """Whether fewer states fail with the advice than without it."""
         return self.after < self.before
 
     def text(self, syncs: int) -> str:
-        """The result as a sentence, for an advice of so many syncs that is right."""
+        """A sentence on an advice of so many syncs that is right: how many of the group's states
+        are left, and how many others fail."""
         that = 'that sync' if syncs == 1 else f'those {syncs:,} syncs'
         these = 'this state' if self.total == 1 else f'these {self.total:,} states'
         line = f'tried: with {that} {self.left:,} of {these} are left'
@@ -64,7 +66,8 @@ class Tried:
         )
 
     def not_enough_text(self, remedy: str) -> str:
-        """The result as a sentence, for an advice after which no fewer states fail."""
+        """A sentence on an advice that isn't right: the remedy, and how many states fail with it
+        and without it."""
         return (
             f'tried, and not enough alone: {remedy} ({self.after:,} '
             f'state{" fails" if self.after == 1 else "s fail"} then, {self.before:,} before)'
@@ -82,8 +85,8 @@ class Advice:
     tried: Optional[Tried] = None
 
     def lines(self) -> List[str]:
-        """The sentence, the remedy, and the result of trying it, as a report has them. What doesn't
-        help is no remedy."""
+        """The lines of a report: the sentence, the remedy, and the result if the advice was tried.
+        If no fewer states fail with it, the remedy is only a part of the result."""
         if self.tried is None:
             return self.text + ([self.remedy] if self.remedy else [])
         if not self.tried.is_right:
@@ -94,8 +97,10 @@ class Advice:
 def loss_advice(
     kept: TraceLine, lost: TraceLine, places: Places, lines: Dict[int, TraceLine]
 ) -> Advice:
-    """The advice for a line that was lost; places are all pairs of lines to keep in order, and
-    lines those of the trace. There is none if no sync makes the line durable."""
+    """The advice for states that have the line `kept`, and lack the earlier line `lost`: a sync
+    between them. Its syncs are as few as keep all pairs of `places` in order; lines are those of
+    the trace by number. If no sync makes the lost line durable, there is neither a remedy nor a
+    sync."""
     path = lost.synced_by
     sentence = f'line {lost.number} ({lost.text}) was not durable when {kept_text(kept)}'
     if path is None:
@@ -114,14 +119,16 @@ def loss_advice(
 
 
 def kept_text(kept: TraceLine) -> str:
-    """The end of the sentence `line N was not durable when ..`."""
+    """The end of the sentence `line N was not durable when ..`: that an acknowledged line
+    acknowledged its text, or that another line was durable."""
     if kept.word == 'say':
         return f'line {kept.number} acknowledged "{kept.details}"'
     return f'line {kept.number} ({kept.text}) was'
 
 
 def torn_advice(line: TraceLine, parts: str) -> Advice:
-    """The advice for a line of which a crash kept a part; parts says which, in words."""
+    """The advice for a line of which a crash kept only a part, which `parts` names in words. It has
+    no syncs, since none helps."""
     return Advice(
         [f'line {line.number} ({line.text}) was torn: a crash kept {parts}'],
         f'no sync helps: a record that recovery may drop needs a checksum; for all else, {ATOMIC}',
@@ -129,8 +136,9 @@ def torn_advice(line: TraceLine, parts: str) -> Advice:
 
 
 def span_advice(kept: Optional[TraceLine], lost: Optional[TraceLine]) -> Advice:
-    """The advice for states that lose nothing: they fail from the kept line on, or from the
-    beginning, until the one that is lost; to the end if there is none."""
+    """The advice for states that lose nothing, before anything is tried. They fail from the line
+    `kept` on, or from the beginning if that is None, until the line `lost` repairs them. If this is
+    None, they fail to the end, and there is no remedy."""
     first = f'line {kept.number} ({kept.text})' if kept else 'the beginning'
     if lost is None:
         return Advice([f'from {first} on it fails, though nothing is lost'])
@@ -147,7 +155,8 @@ def span_advice(kept: Optional[TraceLine], lost: Optional[TraceLine]) -> Advice:
 
 
 def overwriting_text(kept: TraceLine, lost: TraceLine) -> str:
-    """The remedy if the line that was kept overwrites what an older version still refers to."""
+    """The remedy if the line `kept` overwrites bytes that are needed until the later line `lost` is
+    durable."""
     return (
         f'no sync helps: line {kept.number} overwrites bytes that are needed until line '
         f'{lost.number} ({lost.text}) is durable: write to another place until then'
@@ -155,7 +164,7 @@ def overwriting_text(kept: TraceLine, lost: TraceLine) -> str:
 
 
 def swap_text(kept: TraceLine, lost: TraceLine) -> str:
-    """The remedy if another order of the two lines repairs the failure."""
+    """The remedy if fewer states fail when the line `lost` comes before the line `kept`."""
     return (
         f'no sync helps: do line {lost.number} before line {kept.number}, with a sync between them'
     )

@@ -50,8 +50,9 @@ class DiskTree:
 
 def sightings_of(trials: Trials, by_state: Dict[int, Outcome]) -> Sightings:
     """Makes the session again on the file systems of --disks, and returns what was seen; by_state
-    has the outcomes of the states by their numbers. Images are in memory if there is room for them:
-    a crash is then taken in a fraction of a second."""
+    has the outcomes of the states by their numbers. Images are in memory if there is room for them,
+    since a crash is then taken in a fraction of a second; they are removed in any case. Refused if
+    one can't be made or mounted."""
     with open(trials.planned.trace, 'rb') as file:
         text = file.read()
     trace = read_trace(text.decode('utf-8', 'surrogateescape'))
@@ -66,12 +67,14 @@ def sightings_of(trials: Trials, by_state: Dict[int, Outcome]) -> Sightings:
 
 
 def process_count(trials: Trials) -> int:
-    """How many processes make disks at once: most of the time they wait for a mount."""
+    """How many processes make disks at once: several for each job, since they mostly wait for a
+    mount."""
     return DISKS_AT_ONCE * trials.options.jobs
 
 
 def has_room(folder: str, size: int) -> bool:
-    """Whether the file system of a folder has room for so many bytes."""
+    """Whether the file system of a folder has room for so many bytes, and we may write there. False
+    if the folder isn't there."""
     try:
         room = os.statvfs(folder)
     except OSError:
@@ -90,8 +93,9 @@ class DiskSearch:
         self.checker = trials.new_checker()
 
     def run(self, pool: DiskPool, on_step: Callable[[int, int], None]) -> Sightings:
-        """Makes the disks, and returns what was seen on them. on_step is called with the number of
-        moments that were tried, and that of all moments."""
+        """Makes the disks, and returns what was seen on them. on_step is called with how many
+        moments are done and how many there are, each counted once for each file system. Refused if
+        an image can't be made or mounted, or a process is killed."""
         disks = pool.disks(process_count(self.trials), on_step)
         found = Sightings(list(disks))
         for name, different in disks.items():
@@ -101,8 +105,9 @@ class DiskSearch:
         return found
 
     def add_outcomes(self, trees: List[DiskTree], found: Sightings) -> None:
-        """Adds to `found`, for each tree, the states that have it, or runs COMMAND in one that no
-        tried state has, and adds the failures."""
+        """Adds to `found` which listed states have the trees, and on each file system how many
+        trees fail or give no answer. COMMAND is run in each tree that no tried state has; what
+        fails there is added as a further failure."""
         states = self.states_by_tree()
         failing: Dict[str, Set[str]] = {name: set() for name in found.names}
         unlisted: List[Tuple[DiskTree, Outcome]] = []
@@ -122,7 +127,8 @@ class DiskSearch:
         found.further = failures_of(self.trace, unlisted)
 
     def states_by_tree(self) -> Dict[TreeAndCount, List[int]]:
-        """The numbers of the listed states by what they leave."""
+        """The numbers of all listed states, tried or not, by the tree and the number of
+        acknowledged lines that they leave. ProgramFault if the program doesn't give a tree."""
         planned = self.trials.planned
         digests: Dict[int, str] = {}
         firsts = {state.same for state in planned.plan.listed}
@@ -135,13 +141,12 @@ class DiskSearch:
         return found
 
     def known_outcome(self, numbers: Sequence[int]) -> Optional[Outcome]:
-        """The outcome of the first of the states of some numbers that was tried; None if none
-        was."""
+        """The outcome of the first of these states that was tried; None if none was."""
         return next((self.by_state[it] for it in numbers if it in self.by_state), None)
 
     def run_in(self, one: DiskTree) -> Outcome:
-        """Runs COMMAND in a tree that is no listed state, and returns its outcome; CRASHFS_STATE is
-        a number past those of the listed states."""
+        """Runs COMMAND in a tree that no tried state has, and returns its outcome; CRASHFS_STATE is
+        the first number after those of the listed states."""
         directory = os.path.join(self.trials.guard.directory, 'disk')
         lay_out(directory, members_of(one.tree))
         try:
@@ -152,8 +157,8 @@ class DiskSearch:
 
 
 def all_trees(disks: Dict[str, List[Disk]]) -> List[DiskTree]:
-    """What the disks of all file systems, by their names, leave: each tree and number of lines
-    once."""
+    """Each tree of some disks, once for each number of lines that may be acknowledged with it, with
+    the first crash of each file system. disks has those of each file system by its name."""
     found: Dict[TreeAndCount, DiskTree] = {}
     for name, different in disks.items():
         for disk in different:
@@ -167,13 +172,15 @@ def all_trees(disks: Dict[str, List[Disk]]) -> List[DiskTree]:
 
 
 def members_of(tree: Entries) -> Iterator[Member]:
-    """A tree as an archive has it: its paths without the first slash."""
+    """A tree as an archive has it: its paths without the first slash, the root's empty."""
     for path, entry in tree.items():
         yield path[1:], entry
 
 
 def failures_of(trace: bytes, unlisted: List[Tuple[DiskTree, Outcome]]) -> List[DiskFailure]:
-    """The failures that no tried state has, each tree and cause once, with why they are listed."""
+    """The failures that no tried state has, each tree, cause and reason once, with all numbers of
+    lines and the first crash of each file system. Searches the crash states for the trees: the
+    reason says why no tried state has them."""
     wanted = {(one.digest, one.says) for one, _ in unlisted}
     result = search_trees(trace, wanted) if wanted else SearchResult(set(), 0, True)
     failures: Dict[Tuple[str, str, str], DiskFailure] = {}
@@ -195,15 +202,17 @@ class SearchResult(NamedTuple):
     is_whole: bool
 
     def explanation(self, tree: TreeAndCount) -> Explanation:
-        """Why no tried state has a tree."""
+        """Why no tried state has a tree: UNTRIED if an allowed set leaves it, OUTSIDE if none does,
+        UNKNOWN if the search ended before it was found."""
         if tree in self.found:
             return Explanation(UNTRIED)
         return Explanation(OUTSIDE) if self.is_whole else Explanation(UNKNOWN, self.searched)
 
 
 def search_trees(trace: bytes, wanted: Set[TreeAndCount]) -> SearchResult:
-    """Looks for trees among the different crash states, by the second reading, until all are found,
-    MOST_STATES were looked at, or MOST_SECONDS have passed."""
+    """Looks for trees among the different crash states, by the second reading. is_whole is False if
+    it ended at MOST_STATES or MOST_SECONDS, and True if it went through all states or found all
+    trees."""
     reading = read(trace)
     states = States(reading)
     found: Set[TreeAndCount] = set()

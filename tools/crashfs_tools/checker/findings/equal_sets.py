@@ -13,10 +13,12 @@ from .groups import Findings
 
 
 class EqualSets:
-    """The outcomes of a plan's states by what they leave. Made for plans of all crash states only:
-    of these each allowed set leaves a tree that was tried, if the check was not stopped."""
+    """The outcomes of a plan's sets by what they leave, for plans of which all crash states were
+    asked for. If these are listed and the check was not stopped, each allowed set leaves a tree
+    that was tried."""
 
     def __init__(self, planned: Planned, findings: Findings) -> None:
+        """Reads the plan's trace by the second reading, and finds what each tried state leaves."""
         self.plan = findings.plan
         with open(planned.trace, 'rb') as file:
             self.trees = States(read(file.read()))
@@ -29,11 +31,13 @@ class EqualSets:
                 self.outcomes[self.tree_and_says(self.plan.kept[number])] = outcome
 
     def outcome(self, kept: int) -> Optional[Outcome]:
-        """The outcome of the state that an allowed set leaves; None if no equal one was tried."""
+        """The outcome of a tried state that is equal to what a set leaves; None if there is
+        none."""
         return self.outcomes.get(self.tree_and_says(kept))
 
     def tree_and_says(self, kept: int) -> Tuple[Digest, int]:
-        """What a set leaves: its tree, as a digest, and how many lines are acknowledged."""
+        """What a set leaves: its tree, as a digest, and how many lines are acknowledged. Computed
+        once for each set."""
         if kept not in self.found:
             self.found[kept] = self.trees.digest(kept), self.trees.count_says(kept)
         return self.found[kept]

@@ -43,7 +43,8 @@ class Totals(NamedTuple):
 
     @property
     def text(self) -> str:
-        """How many fail after the change, as a report says it."""
+        """How many states fail after the change, and before it unless none is left: `2 states fail,
+        5 before`."""
         if not self.after:
             return 'none fails'
         fail = 'state fails' if self.after == 1 else 'states fail'
@@ -104,7 +105,8 @@ class Group:
 
     @property
     def count(self) -> int:
-        """How many different states it has; 1 if the window before had them all."""
+        """How many different states of the group were tried in its windows; 1 if the window before
+        tried them all."""
         return max(1, len(self.tried))
 
     @property
@@ -125,21 +127,23 @@ class Group:
     @property
     def is_span(self) -> bool:
         """Whether the states lose nothing: they fail from the kept line on, or from the beginning,
-        until the line in `lost` repairs them, or to the end."""
+        until the line in `lost` repairs them, or to the end. False for a torn line."""
         if self.is_torn:
             return False
         return self.pair.lost is None or (self.pair.kept or 0) <= self.pair.lost
 
     @property
     def is_swappable(self) -> bool:
-        """Whether the advice may be another order of the two lines."""
+        """Whether another order of the two lines may be tried: the states lose nothing, the failure
+        is reproducible, and both lines are there, of which the later one acknowledges nothing."""
         is_known = self.is_reproducible and self.kept is not None
         return is_known and self.is_span and self.lost is not None and self.lost.word != 'say'
 
     @property
     def key(self) -> Tuple[object, ...]:
-        """Equal for groups that are one entry of a report. Of an example that isn't reproducible
-        only the cause counts."""
+        """Equal for groups that are one entry of a report: cause without numbers, result,
+        statements of the two lines, and whether a line is torn or nothing is lost. Of an example
+        that isn't reproducible only cause and result."""
         kinds = [line.statement if line else '' for line in (self.kept, self.lost)]
         if not self.is_reproducible:
             return without_numbers(self.cause), self.outcome.result
@@ -152,8 +156,9 @@ class Group:
         )
 
     def add_group(self, other: Group) -> None:
-        """Adds the states, pairs and results of another group with the same key. The example
-        stays."""
+        """Adds the states, pairs and profiles of another group with the same key; the example
+        stays, with all that is of it. The advice keeps a result only if both groups have one: their
+        sum. The group is covered only if both are."""
         self.states.extend(other.states)
         self.tried |= other.tried
         self.explained |= other.explained
@@ -166,8 +171,9 @@ class Group:
         self.advice.tried = mine + others if mine and others else None
 
     def set_advice(self, lines: Dict[int, TraceLine], more_places: Places = ()) -> None:
-        """Sets the advice for the pairs of lines, and for more pairs that the same syncs serve. The
-        result of trying the advice stays."""
+        """Sets the advice by what is known of the group. For a lost line it has the syncs for the
+        group's pairs of lines and `more_places`, and the result of trying the advice stays. lines
+        are those of the trace by number."""
         tried = self.advice.tried
         if not self.is_reproducible:
             self.advice = Advice(list(NOT_REPRODUCIBLE))
@@ -181,7 +187,9 @@ class Group:
             self.advice.tried = tried
 
     def span_advice(self) -> Advice:
-        """The advice for states that lose nothing, by what was tried."""
+        """The advice for states that lose nothing. Its remedy is another order of the lines if
+        fewer states fail with it, else another place for the bytes if the kept line overwrites some
+        in use."""
         advice = span_advice(self.kept, self.lost)
         if self.kept is not None and self.lost is not None:
             if self.swap is not None and self.swap.after < self.swap.before:
@@ -193,9 +201,10 @@ class Group:
 
 class Findings:
     """The findings of one window. by_state has the outcomes by the numbers of states, also of those
-    that the window before has too, of which `before` are the outcomes; only those of this window
-    are counted and grouped. States that fail as `ignored` does, if it is given, are left out.
-    losses are the smallest ones that were found, by the numbers of states."""
+    that the window before has too: `before` are the outcomes of that window. Only the other states,
+    its own, are counted and grouped; those that fail as `ignored` does, if it is given, are left
+    out. losses are the smallest ones that were found, by the numbers of states. union is None until
+    the advice was tried."""
 
     def __init__(
         self,
@@ -204,6 +213,8 @@ class Findings:
         before: Dict[int, Outcome],
         ignored: Optional[Outcome] = None,
     ) -> None:
+        """Makes the groups of the failing states, and sets their advice and what the results have
+        of second runs."""
         self.head = head
         self.ignored = ignored
         self.results = results
@@ -216,7 +227,8 @@ class Findings:
         self.set_reruns()
 
     def own_outcomes(self) -> List[Outcome]:
-        """The outcomes of the states that the window before doesn't have."""
+        """The outcomes of the states that the window before doesn't have, one for each state, also
+        for equal ones. States without an outcome are left out."""
         return [
             self.by_state[state.number]
             for state in self.results.own
@@ -224,8 +236,8 @@ class Findings:
         ]
 
     def groups_of_failures(self) -> List[Group]:
-        """The groups of the states that aren't good, the largest first, without advice:
-        set_reruns() adds it."""
+        """The groups of the window's own failing states, the largest first; the example of each
+        lacks the least. Second runs and advice are missing: set_reruns() adds them."""
         failing = [state for state in self.results.own if self.is_failure(state)]
         groups = merged_groups(map(self.group_of_state, sorted(failing, key=self.lost_count)))
         for group in groups:
@@ -238,8 +250,9 @@ class Findings:
         return groups
 
     def add_losses(self, found: Dict[int, Loss]) -> None:
-        """Adds the smallest losses of some states, also for the other states that they explain:
-        those that lack the same and keep the same. The groups are made again."""
+        """Adds the smallest losses of some states, also for other states whose pair is a guess:
+        those that lack all of such a loss, and have the operation that it kept. The groups are made
+        again, without what was added to the old ones, such as differences."""
         self.losses.update(found)
         kept = self.plan.kept
         guessed = [state for group in self.groups if group.pair.is_guess for state in group.states]
@@ -253,23 +266,25 @@ class Findings:
         self.set_reruns()
 
     def set_reruns(self) -> None:
-        """Sets what second runs of the examples found, and all advice: there is none for what
-        passed."""
+        """Sets in all groups the outcome of the example's second run, None if there was none, and
+        the advice. If the example passed, the advice only says that the failure isn't
+        reproducible."""
         for group in self.groups:
             number = self.results.tried_for[group.example.trial]
             group.rerun = self.results.reruns.get(number)
         set_all_advice(self.groups, self.head.lines)
 
     def is_failure(self, state: State) -> bool:
-        """Whether a state isn't good, and has another cause than the one that is ignored."""
+        """Whether a state was tried and isn't good. A failure whose cause is that of `ignored`, but
+        for numbers, doesn't count."""
         outcome = self.by_state.get(state.number, GOOD_OUTCOME)
         if outcome.result == GOOD or self.ignored is None:
             return outcome.result != GOOD
         return outcome.cause_without_numbers != self.ignored.cause_without_numbers
 
     def lost_count(self, state: State) -> Tuple[int, int]:
-        """How many micro-operations a state lacks, then its number: states that lack less come
-        first."""
+        """What failing states are sorted by, so that an example lacks the least: how many
+        micro-operations a state lacks, then its number."""
         return size_of(self.plan.set_lost_by(state)), state.number
 
     def group_of_state(self, state: State) -> Group:
@@ -295,20 +310,22 @@ class Findings:
         )
 
     def is_explained(self, state: State, pair: Pair) -> bool:
-        """Whether a state lacks the operation that was lost, and has the one that was kept."""
+        """Whether a state lacks the operation that a pair lost, and has the one that it kept. False
+        if either is None."""
         kept = self.plan.kept[state.number]
         lacks = pair.lost is not None and not kept >> pair.lost & 1
         return lacks and pair.kept is not None and bool(kept >> pair.kept & 1)
 
     def tried_numbers(self, state: State) -> FrozenSet[Tuple[int, ...]]:
-        """The number of the state that was tried for a state, as a set of rows of one number; empty
-        if the window before tried it. In the groups of second crashes the rows have the number of
-        the first crash's state before it."""
+        """The number of the state that was tried for this one, as a set of one row, so that those
+        of several states can be united; empty if the window before tried it. Rows of second crashes
+        have the number of the first crash's state before that."""
         number = self.results.tried_for[state.trial]
         return frozenset() if number in self.results.known else frozenset([(number,)])
 
     def line_at(self, place: Optional[int]) -> Optional[TraceLine]:
-        """The line of the micro-operation at a place; None if there is no place."""
+        """The line of the micro-operation at a place, or the micro-operation in the form of a line
+        if the report doesn't have that line. None for no place."""
         if place is None:
             return None
         operation = self.plan.operations[place]
@@ -318,14 +335,15 @@ class Findings:
         )
 
     def lost_lines(self, state: State) -> List[int]:
-        """The numbers of the lines of which a state lacks something that would be there without the
-        crash, ascending."""
+        """The numbers, ascending, of the lines of which a state lacks something before its last
+        micro-operation."""
         lacking = self.plan.set_lost_by(state)
         return sorted({self.plan.operations[place].line for place in places_of(lacking)})
 
     def needed_lines(self, group: Group) -> List[int]:
-        """The numbers of the lines that must be lost too for the example to fail, and don't need
-        the lost one, ascending."""
+        """The numbers, ascending, of the lines that must be lost too for the example to fail,
+        although they don't need the lost operation. Empty if no smallest loss was found for the
+        example."""
         loss, lost = self.losses.get(group.example.number), group.pair.lost
         if loss is None or lost is None:
             return []
@@ -339,7 +357,8 @@ class Findings:
 
     def other_syncs(self, group: Group) -> List[TraceLine]:
         """The syncs between a group's two lines that are of the same file or of its directory, and
-        nevertheless don't make the lost line durable. None for a group that loses nothing."""
+        nevertheless don't make the lost line durable. Empty for a group that loses nothing, or that
+        is torn."""
         if group.kept is None or group.lost is None or group.is_span:
             return []
         names = [path for path in (group.lost.path, group.lost.target) if path]
@@ -354,8 +373,9 @@ class Findings:
 
 
 def set_all_advice(groups: List[Group], lines: Dict[int, TraceLine]) -> None:
-    """Sets the advice of all groups. If a directory is never synced, the first group whose advice
-    is to sync it gets the places of the other ones too."""
+    """Sets the advice of all groups; lines are those of the trace by number. If several groups are
+    advised to sync one directory, which is never synced, the syncs of the first of them serve the
+    pairs of all."""
     of_directory: Dict[str, List[Group]] = {}
     for group in groups:
         group.set_advice(lines)
@@ -368,8 +388,8 @@ def set_all_advice(groups: List[Group], lines: Dict[int, TraceLine]) -> None:
 
 
 def merged_groups(groups: Iterable[Group]) -> List[Group]:
-    """The groups, in which those with one key are one: the first of them, to which the others are
-    added. The largest comes first."""
+    """The groups, the largest first, in which those with one key are one: the first of them is
+    changed, since the others are added to it."""
     found: Dict[Tuple[object, ...], Group] = {}
     for group in groups:
         first = found.setdefault(group.key, group)

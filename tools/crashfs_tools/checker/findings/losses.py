@@ -32,8 +32,8 @@ Search = Generator[int, bool, Loss]
 
 
 def sets_by_line(plan: Plan, lacking: int) -> List[int]:
-    """The micro-operations of a set by the lines of the trace that they are of: a set for each
-    line, in the order of the lines."""
+    """A set in parts: for each line of the trace, in their order, the set of its members that are
+    of this line."""
     sets: Dict[int, int] = {}
     for place in places_of(lacking):
         line = plan.operations[place].line
@@ -42,9 +42,10 @@ def sets_by_line(plan: Plan, lacking: int) -> List[int]:
 
 
 def find_losses(trials: Trials, planner: Planner, findings: Findings) -> None:
-    """Finds the smallest losses of groups' examples whose pair is a guess, and adds them to the
-    findings, which make their groups again: of SEARCHED examples at most, or of more if all states
-    were tried. The planner makes plans of the sets to try."""
+    """Finds the smallest losses of examples whose pair is a guess: of SEARCHED at most, or of
+    SEARCHED_OF_ALL if all crash states are listed. Adds them to the findings, which make their
+    groups again; after an exception those that were added stay. The planner makes plans of the sets
+    to try."""
     searched = 0
     equal = EqualSets(trials.planned, findings) if findings.plan.all_states else None
     every = findings.plan.all_states
@@ -88,23 +89,25 @@ class Searches:
         self.found: Dict[int, Loss] = {}
 
     def run(self, states: List[State]) -> Dict[int, Loss]:
-        """The smallest losses of failing states, by their numbers. A search that takes more than
-        RUNS turns ends with the smallest loss so far."""
+        """The smallest losses of failing states, by their numbers; to be called once. A search that
+        isn't over after RUNS sets ends with the smallest loss so far."""
         for state in states:
             self.searches[state.number] = loss_search(self.findings.plan, state)
             self.send_answer(state.number, None)
-        for _ in range(RUNS + 1):
-            self.answer_known()
+        self.answer_known()
+        for _ in range(RUNS):
             if not self.wanted:
                 break
             self.try_sets(list(self.wanted.values()))
+            self.answer_known()
         for number, one in self.searches.items():
             if number not in self.found:
                 self.found[number] = smallest_so_far(one)
         return self.found
 
     def answer_known(self) -> None:
-        """Goes on with each search until it wants a set that has not been tried."""
+        """Answers each search by the outcomes that are known, until it wants a set without one, or
+        ends."""
         for number in list(self.wanted):
             while number in self.wanted:
                 outcome = self.outcome_of_set(self.wanted[number])
@@ -114,7 +117,8 @@ class Searches:
                 self.send_answer(number, self.findings.pairs.is_same_failure(failing, outcome))
 
     def outcome_of_set(self, kept: int) -> Optional[Outcome]:
-        """The outcome of a set; None if neither it nor an equal one was tried."""
+        """The outcome of a set that a search wants; None if neither it nor one that leaves the same
+        was tried."""
         if kept not in self.known and self.equal is not None:
             return self.equal.outcome(kept)
         return self.known.get(kept)
@@ -130,8 +134,9 @@ class Searches:
             self.found[number] = end.value
 
     def try_sets(self, sets: List[int]) -> None:
-        """Tries sets that the order allows; `known` has the outcome of each afterwards, unless the
-        check is stopped. Of a set that is a prefix too, the prefix is tried."""
+        """Tries sets that the order allows, and adds each outcome to `known` as it comes. Some are
+        missing if an exception or --fail-fast ends the trial. Of a set that is a prefix too, the
+        prefix is tried."""
         planned = self.planner.plan_of_sets(self.trials.planned, sets)
         numbers = {
             planned.plan.kept[state.number]: state.number for state in reversed(planned.plan.states)
@@ -159,9 +164,10 @@ def smallest_so_far(one: Search) -> Loss:
 
 
 def loss_search(plan: Plan, state: State) -> Search:
-    """A search for the smallest loss of a failing state. It yields sets, and must be sent whether
-    each fails alike; it returns the loss. First it puts back lines of what the state lacks, then it
-    makes the state shorter."""
+    """A search for the smallest loss of a failing state, which must lack something. It yields sets,
+    and must be sent whether each fails alike. First it puts back lines that the state lacks, then
+    it makes the state shorter. It returns the loss at its end, and the smallest one so far if
+    EndSearch is thrown into it."""
     kept = plan.kept[state.number]
     try:
         parts = 2
@@ -187,8 +193,9 @@ def loss_search(plan: Plan, state: State) -> Search:
 
 
 def shortest_beginning(kept: int) -> Generator[int, bool, int]:
-    """A search, as loss_search is one, for the shortest beginning of a set that lacks the same and
-    still fails alike: a binary search. The set must lack something."""
+    """A part of loss_search, by binary search: the shortest beginning of a set that lacks the same
+    and still fails alike. The set must lack something. If EndSearch is thrown into it, it returns
+    the shortest beginning so far."""
     members = [place for place in places_of(kept) if place > first_lacking(kept)]
     low, high = 0, len(members) - 1
     try:
@@ -204,8 +211,8 @@ def shortest_beginning(kept: int) -> Generator[int, bool, int]:
 
 
 def united_in_parts(sets: List[int], parts: int) -> Iterator[int]:
-    """Sets in so many parts of neighbours, at most as many as there are sets; the sets of each part
-    as one."""
+    """Divides a list of sets into so many parts of neighbours, at most one for each set, and yields
+    the union of each part."""
     parts = min(parts, len(sets))
     for part in range(parts):
         first, last = part * len(sets) // parts, (part + 1) * len(sets) // parts
@@ -213,7 +220,7 @@ def united_in_parts(sets: List[int], parts: int) -> Iterator[int]:
 
 
 def with_needed(plan: Plan, members: int) -> int:
-    """A set with all that its members need."""
+    """The set of some members and all micro-operations that they need."""
     needed = 0
     for place in places_of(members):
         needed |= plan.needs.masks[place]
@@ -226,8 +233,8 @@ def first_lacking(kept: int) -> int:
 
 
 def loss_of(kept: int) -> Loss:
-    """The loss of a set that isn't empty: its last member was kept, and the first one that it lacks
-    was lost."""
+    """The loss of a set that isn't empty: its last member was kept, the first place that it lacks
+    was lost, None if it lacks none."""
     lacking = lacking_of(kept)
     lost: Optional[int] = next(places_of(lacking), None)
     return Loss(Pair(kept.bit_length() - 1, lost), lacking)

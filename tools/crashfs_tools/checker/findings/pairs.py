@@ -79,8 +79,9 @@ class Pairs:
         self.causes = Counter(one.cause_without_numbers for one in failing)
 
     def pair_of(self, state: State) -> Pair:
-        """The pair of a state that was tried and isn't good, by rules 1, 2, 3 and 6. KeyError for a
-        state without an outcome."""
+        """The pair of a state that was tried and isn't good: by rule 1 for a prefix, by rule 2 for
+        a state equal to one that fails alike, else by rules 3 to 5 for a hole and by rule 6 for a
+        pick. KeyError for a state without an outcome."""
         compare = self.comparison_with(self.outcomes[state.number])
         if state.family == 'prefix':
             return self.prefix_pair(state.numbers[0], compare)
@@ -92,10 +93,11 @@ class Pairs:
         return self.pick_pair(state, compare)
 
     def comparison_with(self, outcome: Outcome) -> Compare:
-        """A function that says of the state of a number how it compares with a failing state of
-        this outcome."""
+        """A function that compares the state of a number with a failing one that has this
+        outcome."""
 
         def compare(number: int) -> Comparison:
+            """How the state of a number compares; NOT_TRIED if it has no outcome."""
             other = self.outcomes.get(number)
             if other is None:
                 return Comparison.NOT_TRIED
@@ -105,8 +107,9 @@ class Pairs:
         return compare
 
     def is_same_failure(self, outcome: Outcome, other: Outcome) -> bool:
-        """Rule 7: whether states of two outcomes fail alike. By the word before the colon only if
-        no other state has the whole cause of the first one."""
+        """Rule 7: whether a state of the outcome `other` fails as one of `outcome` does; False if
+        one of them is good, or only one gave an answer. The words before the colons are compared
+        only if no other state has the whole cause of `outcome`."""
         if not other.result == outcome.result != GOOD:
             return False
         cause = outcome.cause_without_numbers
@@ -115,8 +118,8 @@ class Pairs:
         return other.word == outcome.word
 
     def prefix_pair(self, length: int, compare: Compare) -> Pair:
-        """The pair of a prefix by rule 1; one that wasn't tried is taken to fail like its
-        neighbours."""
+        """The pair of the prefix of a length by rule 1. A prefix that wasn't tried is taken to fail
+        alike."""
         first = last = length
         while first > 0 and compare(self.prefixes[first - 1]) is not Comparison.OTHER:
             first -= 1
@@ -126,7 +129,8 @@ class Pairs:
         return Pair(first - 1 if first > 0 else None, last if last < total else None)
 
     def hole_pair(self, state: State, compare: Compare) -> Pair:
-        """The pair of a hole by rules 3 to 5."""
+        """The pair of a hole by rules 3 to 5. In rule 5 a shorter hole that wasn't tried, or isn't
+        there, is passed over."""
         lost, length = state.numbers
         if is_failing_alike(self.prefixes[length], compare):
             return self.prefix_pair(length, compare)
@@ -143,7 +147,7 @@ class Pairs:
 
     def last_lost(self, lost: int, length: int, compare: Compare) -> int:
         """Rule 4: the last place that needs a lost one and whose own hole of this length fails
-        alike; the lost one itself if there is none."""
+        alike; the lost one if there is none."""
         for later in range(length - 2, lost, -1):
             hole = self.holes.get((later, length))
             if self.plan.needs.is_needed(lost, by=later) and is_failing_alike(hole, compare):
@@ -151,7 +155,8 @@ class Pairs:
         return lost
 
     def pick_pair(self, state: State, compare: Compare) -> Pair:
-        """The pair of a pick by rule 6; it is a guess unless a hole gives it."""
+        """The pair of a pick by rule 6. If no hole gives it, it is a guess, unless the pick has
+        nothing or lacks nothing."""
         kept, lacking = self.plan.kept[state.number], self.plan.set_lost_by(state)
         for place in places_of(lacking):
             hole = self.holes.get((place, kept.bit_length()))
@@ -162,5 +167,5 @@ class Pairs:
 
 
 def is_failing_alike(number: Optional[int], compare: Compare) -> bool:
-    """Whether there is such a state (number isn't None), and it fails alike."""
+    """Whether a number is that of a state that fails alike. False for None, which is no state."""
     return number is not None and compare(number) is Comparison.FAILS_ALIKE

@@ -13,12 +13,13 @@ WHOLE_BYTES = 1 << 20
 
 
 def entries_of(tree: Dict[str, Item]) -> Entries:
-    """A tree of the second reading, the root among its paths."""
+    """A tree of the second reading as these tools have it. The root is in both."""
     return {path: entry_of(item) for path, item in tree.items()}
 
 
 def entry_of(item: Item) -> Entry:
-    """What is at a path, with its rights; a large file without its zeros."""
+    """The entry of an item: a directory, a symbolic link, or a file with its bytes; one of more
+    than WHOLE_BYTES is kept without its zeros."""
     (owner, group, mode), data = item.rights, item.data
     if data is None:
         return Entry(owner, group, int(mode, 8), None)

@@ -16,9 +16,9 @@ ENTRIES = 20
 
 
 def rerun_example(trials: Trials, example: State) -> Outcome:
-    """The outcome of a second run of a state, or of a third run if the second one fails too:
-    COMMAND may fail in some runs only. One that is good shows that the failure isn't
-    reproducible."""
+    """Tries a failing state a second time, and a third time if it fails again, since COMMAND may
+    fail in some runs only; the cache may have the outcomes. Returns the last one: if it is good,
+    the failure isn't reproducible."""
     for attempt in range(1, ATTEMPTS):
         outcome = trials.try_one(example, attempt)
         if outcome.result == GOOD:
@@ -27,9 +27,9 @@ def rerun_example(trials: Trials, example: State) -> Outcome:
 
 
 def rerun_examples(trials: Trials, findings: Findings, seconds: float = float('inf')) -> None:
-    """Runs the examples of the first ENTRIES groups again, one at a time, unless they were; begins
-    none after so many seconds. Writes the outcomes into the results and the groups, and drops the
-    states of what passed from the cache."""
+    """Runs the examples of the first ENTRIES groups again, one at a time, but none that was run
+    again before; begins none after so many seconds. Writes the outcomes into the results and the
+    groups. If an example passes, the states of its group are dropped from the cache."""
     deadline = time.monotonic() + seconds
     results = findings.results
     for group in findings.groups[:ENTRIES]:

@@ -32,9 +32,9 @@ class SecondCrash(NamedTuple):
 
 
 def second_crash_entries(recoveries: Iterable[Recovery]) -> List[Tuple[Group, SecondCrash]]:
-    """Copies of the groups of all recoveries, each with the crashes of its example; groups with the
-    same key are one, with the first one's example. Of the others only the states are taken: nothing
-    else of them is reported."""
+    """The groups of all recoveries as copies, each with the two crashes of its example. Of groups
+    with the same key only the first is an entry; the states of the others are added to it, and
+    nothing else of them is reported."""
     found: Dict[Tuple[object, ...], Tuple[Group, SecondCrash]] = {}
     for recovery in recoveries:
         for group in recovery.groups:

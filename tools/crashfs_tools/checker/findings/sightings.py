@@ -17,14 +17,15 @@ OUTSIDE, UNTRIED, UNKNOWN = 'outside the model', 'not tried', 'not found'
 
 
 class Explanation(NamedTuple):
-    """Why no tried state has a disk's tree: where it was found, and among how many states."""
+    """Why no tried state has a disk's tree: `where` is OUTSIDE, UNTRIED or UNKNOWN. `searched` is
+    how many states were looked through for an UNKNOWN one, else 0."""
 
     where: str
     searched: int = 0
 
     @property
     def text(self) -> str:
-        """The explanation as a report has it."""
+        """The explanation as a report has it, such as `no crash state has this tree`."""
         if self.where == OUTSIDE:
             return 'no crash state has this tree'
         if self.where == UNTRIED:
@@ -44,7 +45,8 @@ class DiskFailure:
     explanation: Explanation
 
     def lines(self) -> List[str]:
-        """Where it was seen, why it is listed, and its first paths."""
+        """Three lines of a report: on which file systems and after which crashes it was seen, why
+        it is listed, and the first SHOWN_PATHS paths of the tree."""
         more = len(self.tree) - SHOWN_PATHS
         paths = [path_text(path, self.tree[path]) for path in sorted(self.tree)[:SHOWN_PATHS]]
         says = joined_by('or', list(map(str, self.says)))
@@ -55,7 +57,7 @@ class DiskFailure:
         ]
 
     def fields(self) -> Dict[str, Any]:
-        """The failure as the JSON has it."""
+        """The failure as the JSON has it, with all paths of the tree."""
         return {
             'cause': self.outcome.cause,
             'where': self.explanation.where,
@@ -67,10 +69,10 @@ class DiskFailure:
 
 @dataclass
 class Sightings:
-    """What was seen on the file systems. crashes and trees have how many there were of each;
-    failing the trees among them in which COMMAND failed, all by the name of the file system. states
-    has for the number of each state seen the first crash of each file system that left it, and
-    further the failures that no tried state has."""
+    """What was seen on the file systems, by their names: crashes and trees have how many there
+    were, and failing in how many of the trees COMMAND failed or gave no answer. states has for the
+    number of each state seen the first crash, as keep_first() has it, of each file system that left
+    it. further has the failures that no tried state has."""
 
     names: List[str]
     crashes: Dict[str, int] = field(default_factory=dict)
@@ -80,18 +82,21 @@ class Sightings:
     further: List[DiskFailure] = field(default_factory=list)
 
     def of_states(self, numbers: Sequence[int]) -> Dict[str, Crash]:
-        """The first crash of each file system that left one of the states of these numbers."""
+        """The first crash of each file system that left one of the states of these numbers; without
+        the file systems on which none of them was seen."""
         found: Dict[str, Crash] = {}
         for number in numbers:
             keep_first(found, self.states.get(number, {}))
         return found
 
     def sentence(self, numbers: Sequence[int]) -> str:
-        """On which file systems a crash left one of the states, and on which not."""
+        """A sentence on the states of these numbers: on which file systems a crash left one of
+        them, after which crash, and on which not."""
         return sentence(self.names, self.of_states(numbers))
 
     def fields(self) -> Dict[str, Any]:
-        """What the JSON has: of each file system its counts, of each state seen its crashes."""
+        """What the JSON has: the counts of each file system, the first crashes of each state seen
+        by its number, and the further failures."""
         counts = {
             name: {
                 'crashes': self.crashes[name],
@@ -105,7 +110,8 @@ class Sightings:
         return {'filesystems': counts, 'states': states, 'further': further}
 
     def lines(self) -> List[str]:
-        """How many crashes were tried on each file system, and what came of them."""
+        """A line of a report for each file system: how many crashes there were, how many different
+        trees they left, and in how many of these COMMAND fails."""
         return [
             f'{name}: {self.crashes[name]:,} crashes, {self.trees[name]:,} different trees: '
             + fail_text(self.failing[name])
@@ -114,20 +120,22 @@ class Sightings:
 
 
 def keep_first(found: Dict[str, Crash], more: Dict[str, Crash]) -> None:
-    """Adds crashes by the names of file systems, and keeps of each the one that says most: for
-    which the kernel wrote the least by itself, and of these the earliest."""
+    """Adds crashes to `found`, by the names of file systems. Of two of one file system the one
+    stays for which the kernel wrote less by itself, since it says more; of equal ones the earlier
+    one."""
     for name, crash in more.items():
         if name not in found or crash.rank < found[name].rank:
             found[name] = crash
 
 
 def fail_text(count: int) -> str:
-    """How many fail: `3 fail`, `none fails`."""
+    """How many fail, as text: `3 fail`, `none fails`."""
     return f'{count:,} {fails(count)}' if count else 'none fails'
 
 
 def sentence(names: Sequence[str], found: Dict[str, Crash]) -> str:
-    """On which of some file systems something was seen, after which crash, and on which not."""
+    """A sentence on something that was seen on some file systems: on which of them and after which
+    crash, by `found`, and on which not."""
     seen = [f'{name} ({crash_text(found[name])})' for name in names if name in found]
     unseen = [name for name in names if name not in found]
     if not seen:
@@ -137,18 +145,21 @@ def sentence(names: Sequence[str], found: Dict[str, Crash]) -> str:
 
 
 def crash_fields(found: Dict[str, Crash]) -> Dict[str, Any]:
-    """What the JSON has of the crashes of file systems."""
+    """What the JSON has of crashes, by the names of file systems: the line and the lever of
+    each."""
     return {name: [crash.moment.line, crash.lever.value] for name, crash in found.items()}
 
 
 def crash_text(crash: Crash) -> str:
-    """When a crash was: after which line, and what was written meanwhile."""
+    """When a crash was, as text: after which line of the trace, or before the first operation, and
+    what the kernel had written by then."""
     place = f'after line {crash.moment.line}' if crash.moment.line else 'before the first operation'
     return f'{place}, {crash.lever.value}'
 
 
 def path_text(path: str, entry: Entry) -> str:
-    """A path with what is there."""
+    """A path with what is there: a link's target, a file's size, and of a directory nothing
+    more."""
     if entry.link is not None:
         return f'{path} (a symbolic link to {entry.link})'
     return path if entry.data is None else f'{path} ({len(entry.data):,} bytes)'

@@ -24,7 +24,7 @@ ENTRIES, MOST_STATES = 3, 2_000
 
 def add_swaps(trials: Trials, planner: Planner, findings: Findings, spans: List[Group]) -> None:
     """Tries the other order for the first ENTRIES of some swappable groups, finds out whether their
-    first line overwrites what is in use, and sets their advice."""
+    kept line overwrites bytes in use, and sets their advice again."""
     for group in spans[:ENTRIES]:
         group.swap = Swap(trials, planner, findings, group).run()
         group.overwrites = is_overwriting(trials, findings, group)
@@ -43,8 +43,8 @@ class Swap:
         self.kept, self.lost = group.kept, group.lost
 
     def run(self) -> Optional[Totals]:
-        """How many states fail before and after the change of the order; None if the lines can't
-        change places, or the copy has too many states."""
+        """How many different states fail in the trace and in the copy. None if the lines can't
+        change places, or the copy has more than MOST_STATES states: then none is tried."""
         moved = moved_lines(self.kept, self.lost, self.findings.head.lines)
         planned = self.planned_copy(moved) if moved else None
         if planned is None or len(planned.plan.states) > MOST_STATES:
@@ -54,22 +54,27 @@ class Swap:
         return Totals(before, count_failing_states(planned.plan, outcomes))
 
     def planned_copy(self, moved: List[int]) -> Optional[Planned]:
-        """Writes the copy, in which the lines of these numbers are moved, and plans it. None if the
-        trace lacks one of the lines, or the program refuses them in this order."""
+        """Writes the copy, in which the lines of these numbers come before the kept one, and after
+        them a sync of the lost one's path; then plans it. None if the window lacks one of the
+        lines, or has one of these numbers in parts, or if the program refuses this order. A later
+        copy replaces the file."""
         before = self.trials.planned.offsets
         with open(self.trials.planned.trace, **TEXT) as file:
             text = file.read().rstrip('\n').split('\n')
         numbered = list(zip(before.lines or range(1, len(text) + 1), text))
+        numbers = [number for number, _ in numbered]
         taken = [(number, line) for number, line in numbered if number in moved]
-        if len(taken) != len(moved) or self.kept.number not in dict(numbered):
+        if len(taken) != len(moved) or self.kept.number not in numbers:
             return None
         sync = {'op': 'fsync', 'path': self.lost.synced_by}
-        lines: List[Tuple[int, str]] = []
-        for number, line in numbered:
-            if number == self.kept.number:
-                lines += [*taken, (0, json.dumps(sync, ensure_ascii=False))]
-            if number not in moved:
-                lines.append((number, line))
+        # Of a kept line in parts this is the first: all parts come after the sync.
+        place = numbers.index(self.kept.number)
+        lines: List[Tuple[int, str]] = [
+            *numbered[:place],
+            *taken,
+            (0, json.dumps(sync, ensure_ascii=False)),
+            *(one for one in numbered[place:] if one[0] not in moved),
+        ]
         path = os.path.join(self.trials.guard.directory, 'swap.trace')
         with open(path, 'w', **TEXT) as file:
             file.write('\n'.join(line for _, line in lines))
@@ -82,7 +87,8 @@ class Swap:
 
     def outcomes_of(self, planned: Planned) -> Dict[int, Outcome]:
         """Tries the copy's states, and returns their outcomes by their numbers. A state with the
-        same micro-operations as one of the session is equal to it, and not tried."""
+        same micro-operations as a tried one of the session is equal to it, and not tried. Those
+        that --fail-fast left untried have no outcome."""
         plan, findings = planned.plan, self.findings
         known = {findings.plan.kept[one]: found for one, found in findings.by_state.items()}
         places = same_operations(plan, findings.plan)
@@ -101,8 +107,9 @@ class Swap:
 
 
 def moved_lines(kept: TraceLine, lost: TraceLine, lines: Dict[int, TraceLine]) -> List[int]:
-    """The numbers of the lost line, which is later, and of those between the two that it needs,
-    ascending; none if the kept line has paths in common with them."""
+    """The numbers, ascending, of the lines that must be moved before the kept one: the later lost
+    line, and lines between the two that must be moved together with it (moves_with). Empty if the
+    kept line has a path in common with one of them that isn't a sync."""
     moved = [lost]
     for number in range(lost.number - 1, kept.number, -1):
         line = lines.get(number)
@@ -113,21 +120,22 @@ def moved_lines(kept: TraceLine, lost: TraceLine, lines: Dict[int, TraceLine]) -
 
 
 def moves_with(line: TraceLine, moved: Iterable[TraceLine]) -> bool:
-    """Whether a line must be moved together with the moved ones: it has a path in common with one
-    of them. A sync is moved only with a line of its own file."""
+    """Whether a line must be moved together with the moved ones, because it has a path in common
+    with one of them. A sync is moved only with a line of its own file."""
     if line.word in SYNCS:
         return any(line.path in (one.path, one.target) for one in moved)
     return not all(line.is_apart_from(one) for one in moved if one.word not in SYNCS)
 
 
 def same_operations(plan: Plan, other: Plan) -> Dict[int, int]:
-    """The place in a plan of each micro-operation that another plan has too, with its place there.
+    """The places in `plan` of the micro-operations that `other` has too, each with the place there.
     Micro-operations of one line and kind are matched in their order."""
 
-    def turns(of: Plan) -> Dict[Tuple[int, str, int], int]:
-        """The places by line, kind, and how many such ones come before."""
+    def turns(of_plan: Plan) -> Dict[Tuple[int, str, int], int]:
+        """The place of each micro-operation of a plan, by its line, its kind, and how many of the
+        same line and kind come before it."""
         found: Dict[Tuple[int, str, int], int] = {}
-        for place, one in enumerate(of.operations):
+        for place, one in enumerate(of_plan.operations):
             turn = 0
             while (one.line, one.kind, turn) in found:
                 turn += 1
@@ -139,7 +147,8 @@ def same_operations(plan: Plan, other: Plan) -> Dict[int, int]:
 
 
 def set_in_places(kept: int, places: Dict[int, int]) -> int:
-    """A set with other places for its members; -1, which is no set, if one has no other place."""
+    """A set whose members are at other places: each by its old place in `places`. If one isn't
+    there, -1, which is no set."""
     found = 0
     for place in places_of(kept):
         if place not in places:
@@ -149,8 +158,8 @@ def set_in_places(kept: int, places: Dict[int, int]) -> int:
 
 
 def count_failing_states(plan: Plan, by_state: Dict[int, Outcome]) -> int:
-    """How many different states of a plan aren't good, by the outcomes of the states' numbers;
-    those without an outcome don't count."""
+    """How many different states of a plan aren't good, by the outcomes of the states' numbers. A
+    state without an outcome doesn't count."""
     return len(
         {
             state.trial
@@ -161,8 +170,9 @@ def count_failing_states(plan: Plan, by_state: Dict[int, Outcome]) -> int:
 
 
 def is_overwriting(trials: Trials, findings: Findings, group: Group) -> bool:
-    """Whether the kept micro-operation of a group is a write that replaces bytes that aren't zeros
-    by others."""
+    """Whether the kept micro-operation of a group is a write that replaces bytes of a file, other
+    than zeros, by different ones. False if the group keeps none. The trees of the prefixes before
+    and after it are compared."""
     plan, place = findings.plan, group.pair.kept
     if place is None or plan.operations[place].kind != 'write_block':
         return False
@@ -176,7 +186,8 @@ def is_overwriting(trials: Trials, findings: Findings, group: Group) -> bool:
 
 
 def has_replaced_bytes(before: SparseBytes, after: SparseBytes) -> bool:
-    """Whether some bytes of a file that aren't zeros have others in their place."""
+    """Whether a change of a file puts other bytes in the place of some that aren't zeros. Bytes
+    past the new end don't count."""
     for number, page in before.data_pages():
         new = after.read(number * PAGE_BYTES, PAGE_BYTES)
         if page != new and any(old not in (0, now) for old, now in zip(page, new)):

@@ -20,8 +20,9 @@ class Interval(NamedTuple):
 
 
 def sync_points(places: Places, lines: Dict[int, TraceLine]) -> Dict[int, str]:
-    """The path to sync after each line, by its number: as few as serve all pairs, since one sync
-    serves those that it is between. Pairs whose lost line no sync makes durable are left out."""
+    """The paths to sync, each by the number of the line that it comes after: as few syncs as serve
+    all pairs. A sync serves each pair of its path if it comes between the two lines. Pairs whose
+    lost line no sync makes durable are left out."""
     points: Dict[int, str] = {}
     left = sorted(
         sync_interval(lost, kept, lines) for lost, kept in places if is_syncable(lost, lines)
@@ -36,13 +37,13 @@ def sync_points(places: Places, lines: Dict[int, TraceLine]) -> Dict[int, str]:
 
 
 def is_syncable(number: int, lines: Dict[int, TraceLine]) -> bool:
-    """Whether a sync makes a line durable."""
+    """Whether the trace has the line of a number, and a sync makes it durable."""
     return number in lines and lines[number].synced_by is not None
 
 
 def sync_interval(lost: int, kept: int, lines: Dict[int, TraceLine]) -> Interval:
-    """Where a sync for two lines may be: while the path names what the lost line changed. That line
-    must be one that a sync makes durable."""
+    """Where a sync may be that makes a lost line durable before a kept one: after it, and as long
+    as the path names what it changed. The lost line must be syncable."""
     path = lines[lost].synced_by
     assert path is not None
     end = end_of_path(path, range(lost + 1, kept), lines)
@@ -50,22 +51,23 @@ def sync_interval(lost: int, kept: int, lines: Dict[int, TraceLine]) -> Interval
 
 
 def end_of_path(path: str, between: range, lines: Dict[int, TraceLine]) -> Optional[TraceLine]:
-    """The first of some lines after which a path doesn't name what it named before; None if there
-    is none."""
+    """The first of the lines numbered in `between` after which a path doesn't name what it named
+    before; None if there is none. Numbers that have no operation are passed over."""
     found = (lines[number] for number in between if number in lines)
     return next((line for line in found if line.takes_path(path)), None)
 
 
 def is_synced(path: str, lines: Dict[int, TraceLine]) -> bool:
-    """Whether the session ever syncs a path, or everything."""
+    """Whether the session ever syncs a path, or everything at once."""
     return any(
         line.word in SYNCS and (line.path == path or line.word == 'sync') for line in lines.values()
     )
 
 
 def never_synced_directory(syncs: Dict[int, str], lines: Dict[int, TraceLine]) -> str:
-    """The directory that all syncs are of, each after a line, if the session never syncs it; else
-    an empty text."""
+    """The path of the one directory that an advice syncs, after each of the lines in `syncs`, if
+    the session never syncs it. An empty text if it does, or if the syncs are of a file or of
+    several paths."""
     paths = set(syncs.values())
     if len(paths) != 1:
         return ''

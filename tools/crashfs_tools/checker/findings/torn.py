@@ -20,8 +20,8 @@ class Piece(NamedTuple):
 
 
 def kept_part(plan: Plan, kept: int, line: int) -> str:
-    """What a set kept of a line of the trace, of which it lacks a part: its length, or which of its
-    bytes."""
+    """What a set kept of a line of the trace, of which it lacks a part, in words: its length or its
+    bytes, or which of its bytes."""
     places = [place for place, one in enumerate(plan.operations) if one.line == line]
     pieces = pieces_of([(plan.operations[place], bool(kept >> place & 1)) for place in places])
     sizes = [kept >> one & 1 for one in places if plan.operations[one].kind == 'change_file_size']
@@ -38,8 +38,9 @@ def kept_part(plan: Plan, kept: int, line: int) -> str:
 
 
 def pieces_of(operations: List[Tuple[MicroOperation, bool]]) -> List[Piece]:
-    """The pieces of a write from its micro-operations, in their order, each with whether it was
-    kept; neighbours with the same fate are one."""
+    """The pieces of a write, from the micro-operations of its line in their order, each with
+    whether it was kept. Neighbours that were both kept or both lost are one piece. Only operations
+    of the kind write_block have bytes."""
     pieces: List[Piece] = []
     for operation, is_kept in operations:
         if operation.kind == 'write_block':
@@ -52,7 +53,8 @@ def pieces_of(operations: List[Tuple[MicroOperation, bool]]) -> List[Piece]:
 
 
 def bytes_text(pieces: List[Piece]) -> str:
-    """Which bytes pieces are: `0 to 9, 20 to 29`; the first SHOWN of them, and how many more."""
+    """Which bytes of the write the pieces are: `0 to 9, 20 to 29`; the first SHOWN of them, and how
+    many more."""
     shown = [f'{piece.first:,} to {piece.end - 1:,}' for piece in pieces[:SHOWN]]
     more = len(pieces) - SHOWN
     return ', '.join(shown) + (f' and {more:,} more parts' if more > 0 else '')

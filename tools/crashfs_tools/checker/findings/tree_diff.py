@@ -20,7 +20,7 @@ SHOWN_BYTES = 8
 
 def find_differences(trials: Trials, findings: Findings) -> None:
     """Compares the examples of the largest groups with their nearest good states, and sets the
-    groups' differences."""
+    groups' differences, at most SHOWN_LINES lines each. A group without such a state gets none."""
     for group in findings.groups[:ENTRIES]:
         good = nearest_good(findings, group)
         if good is not None:
@@ -30,8 +30,8 @@ def find_differences(trials: Trials, findings: Findings) -> None:
 
 
 def nearest_good(findings: Findings, group: Group) -> Optional[State]:
-    """The good state that differs from a group's example in the fewest micro-operations; None if no
-    state is good."""
+    """The good state that differs from a group's example in the fewest micro-operations, of several
+    the first; None if no state of the window is good."""
     kept = findings.plan.kept
     good = [
         state
@@ -40,14 +40,15 @@ def nearest_good(findings: Findings, group: Group) -> Optional[State]:
     ]
 
     def distance(state: State) -> Tuple[int, int]:
-        """In how many micro-operations a state differs, and its number."""
+        """In how many micro-operations a state differs from the example, then its number."""
         return size_of(kept[state.number] ^ kept[group.example.number]), state.number
 
     return min(good, key=distance) if good else None
 
 
 def different_lines(failing: Entries, good: Entries) -> Iterator[str]:
-    """How a failing tree differs from a good one: a line for each path that differs."""
+    """How a failing tree differs from a good one: a line for each path that differs, in the order
+    of paths. It has the first difference of these: presence, kind, bytes, owner, group and mode."""
     for path in sorted(failing.keys() | good.keys()):
         one, other = failing.get(path), good.get(path)
         if one is None or other is None:
@@ -64,40 +65,41 @@ def different_lines(failing: Entries, good: Entries) -> Iterator[str]:
 
 
 def kind_text(entry: Entry) -> str:
-    """What is at a path."""
+    """What is at a path, without its size: `a file`."""
     if entry.link is not None:
         return f'a symbolic link to {entry.link}'
     return 'a directory' if entry.is_directory else 'a file'
 
 
 def size_text(entry: Entry) -> str:
-    """How large a file is; of anything else what it is."""
+    """The size of a file; of a directory or a link what it is."""
     return kind_text(entry) if entry.data is None else f'{len(entry.data):,} bytes'
 
 
 def size_difference(one: Entry, other: Entry) -> str:
-    """What sizes a file of the failing state and of the good one have."""
+    """The end of a sentence: which sizes a file has in the failing state and in the good one, or
+    that they are equal."""
     if one.data is not None and other.data is not None and len(one.data) == len(other.data):
         return f'has {size_text(one)} in both'
     return f'has {size_text(one)}, in the good state {size_text(other)}'
 
 
 def bytes_text(data: bytes) -> str:
-    """Bytes as text if they are ASCII; otherwise as hexadecimal digits. No bytes are a file's
-    end."""
+    """Some bytes of a file as text if all are printable ASCII, otherwise as hexadecimal digits. No
+    bytes mean that the file ends there."""
     if data and all(0x20 <= byte < 0x7F for byte in data):
         return f'"{data.decode("ascii")}"'
     return data.hex() or 'its end'
 
 
 def rights_text(entry: Entry) -> str:
-    """The mode, the owner and the group of a file or directory."""
+    """The mode, in octal digits, the owner and the group of an entry."""
     return f'{entry.mode:03o} {entry.owner} {entry.group}'
 
 
 def first_difference(one: Entry, other: Entry) -> str:
-    """The offset at which two files' bytes begin to differ, and the bytes there; an empty text if
-    they don't, or one isn't a file."""
+    """The end of a sentence: the offset at which the bytes of two files begin to differ, and up to
+    SHOWN_BYTES of each from there. An empty text if one isn't a file. They must differ."""
     if one.data is None or other.data is None:
         return ''
     place = sparse.first_difference(one.data, other.data)

@@ -6,14 +6,14 @@ from typing import Sequence
 
 
 def joined_by(word: str, names: Sequence[str]) -> str:
-    """Names with commas, and a word such as `and` before the last one; `none` if there are no
-    names."""
+    """Names with commas, and a word such as `and` before the last one: `a, b and c`. `none` if
+    there are no names."""
     *others, last = names or ['none']
     return f'{", ".join(others)} {word} {last}' if others else last
 
 
 def number_of(count: int, noun: str, plural: str = '') -> str:
-    """A count with a noun in the right number; its plural is given if it isn't the noun and an
+    """A count with a noun in the right number. `plural` must be given if it isn't the noun and an
     s."""
     return f'{count:,} {noun if count == 1 else plural or noun + "s"}'
 

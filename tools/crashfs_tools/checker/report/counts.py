@@ -31,9 +31,10 @@ NO_ACCEPTED = AcceptedStates(0, Counter())
 @dataclass
 class StateCounts:
     """How many states there are, over all windows. results and words count different states, which
-    are tried once; all_failing counts their repetitions too. is_part says that not all crash states
-    are tried, although they were asked for; seconds is how long a state takes; drawn has of each
-    set that was drawn whether it fails."""
+    are tried once; all_failing counts states that are equal to them too. is_part says that all
+    crash states were asked for, but only some are tried; seconds is how long a state takes, 0 if
+    that isn't known; drawn counts the drawn sets, up to the first that wasn't tried, by their
+    results."""
 
     windows: int = 0
     operations: int = 0
@@ -46,12 +47,13 @@ class StateCounts:
     profile: str = ''
     is_part: bool = False
     seconds: float = 0.0
-    drawn: List[bool] = field(default_factory=list)
+    drawn: Counts[str] = field(default_factory=Counter)
     results: Counts[str] = field(default_factory=Counter)
     words: Counts[str] = field(default_factory=Counter)
 
     def add(self, findings: Findings) -> None:
-        """Adds the states of a window."""
+        """Adds the states of a window, in the order of windows. Of those that the window before has
+        too only drawn ones count."""
         results, shard = findings.results, findings.head.shard
         outcomes = [
             results.outcomes[number]
@@ -68,8 +70,8 @@ class StateCounts:
         self.is_part = self.is_part or results.is_part
         self.seconds = results.seconds or self.seconds
         drawn = results.plan.all_states.drawn if results.plan.all_states else ()
-        tried = list(takewhile(bool, map(findings.by_state.get, drawn)))
-        self.drawn += [one is not None and one.result == BAD for one in tried]
+        tried = takewhile(bool, map(findings.by_state.get, drawn))
+        self.drawn.update(one.result for one in tried if one is not None)
         self.tried += len(outcomes)
         self.all_failing += sum(one.result == BAD for one in findings.own_outcomes())
         self.results.update(one.result for one in outcomes)
@@ -87,7 +89,8 @@ class StateCounts:
 
     @property
     def left(self) -> int:
-        """How many different states of this shard should have been tried, and weren't."""
+        """How many different states of this shard should have been tried, and weren't: in the
+        windows so far, and of those that were chosen."""
         return self.wanted - self.tried
 
     @property
@@ -102,21 +105,24 @@ class StateCounts:
 
     @property
     def sets(self) -> Optional[int]:
-        """How many sets the rules allow; None if that isn't known, or of a session in windows."""
+        """How many sets the rules allow. None if they are too many to count, weren't asked for, or
+        the session is in several windows."""
         only = self.every[0] if len(self.every) == 1 else None
         return only.sets if only is not None else None
 
     @property
     def tried_text(self) -> str:
-        """How many of the crash states were tried, as a sentence."""
+        """How many of the crash states were tried, or how many states of some families, as a
+        sentence."""
         if self.is_part or self.has_every:
             return f'{self.tried:,} of {self.total} crash states were tried.'
         return f'{self.tried:,} different states of some families were tried, not all crash states.'
 
     @property
     def total(self) -> str:
-        """How many crash states there are, as text; if they are too many to be listed, how many
-        sets, or that they are more than so many."""
+        """How many crash states there are, as text. If they aren't all listed: more than the most
+        that are tried, if the session is in windows; else how many sets, or more than
+        LEAST_OF_MANY."""
         if self.has_every:
             return f'{self.different:,}'
         if len(self.every) > 1:
@@ -124,17 +130,19 @@ class StateCounts:
         return f'{self.sets:,}' if self.sets is not None else f'more than {LEAST_OF_MANY:,}'
 
     def has_tried_all(self, head: Head) -> bool:
-        """Whether all states of the whole check that were to be tried were. Not so for a shard,
-        even if none of its own states is left, nor if the session goes on after the last window."""
+        """Whether the whole check has tried all states that it chose. False for a shard, even if
+        none of its own states is left, and if the session goes on after the last window."""
         return head.shard.parts == 1 and not self.left and not head.has_rest
 
 
 def states_of_accepted(groups: List[Group]) -> AcceptedStates:
-    """The states of accepted groups that no other group has."""
+    """The states of accepted groups that no group has that isn't accepted. A state of several
+    accepted groups counts once, for the first of them."""
     none: FrozenSet[Tuple[int, ...]] = frozenset()
-    others = none.union(*(group.tried for group in groups if group.accepted is None))
+    seen = none.union(*(group.tried for group in groups if group.accepted is None))
     found: Counts[str] = Counter()
     for group in groups:
         if group.accepted is not None:
-            found[group.outcome.word] += len(group.tried - others)
+            found[group.outcome.word] += len(group.tried - seen)
+            seen |= group.tried
     return AcceptedStates(sum(found.values()), found)

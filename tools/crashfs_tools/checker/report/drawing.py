@@ -16,10 +16,11 @@ Drawing = Dict[str, Any]
 
 
 def drawing_of(findings: Findings) -> Drawing:
-    """What the page's script draws of a window. prefixes is a row of signs, and holes has one for
-    each length: the k-th sign is that of the hole at k. numbers are those of the holes that are
-    there, in their order. picks are the states that no prefix and no hole is equal to, once each: a
-    number, a sign, and how many micro-operations it lacks, in the order of that."""
+    """What the page's script draws of a window. prefixes is a row of signs, and holes has a row for
+    each number of micro-operations that were begun: its k-th sign is that of the hole at k. A blank
+    is a state that isn't listed. numbers has the states' numbers of each row of holes, without
+    blanks. picks are the states that no prefix and no hole is equal to, once each: a number, a
+    sign, and how many micro-operations it lacks, in the order of that."""
     plan = findings.plan
     count = len(plan.operations)
     holes: List[List[str]] = [[' '] * max(0, end - 1) for end in range(count + 1)]
@@ -43,7 +44,8 @@ def drawing_of(findings: Findings) -> Drawing:
 
 
 def picks_of(findings: Findings) -> List[List[Any]]:
-    """The rows of drawing_of for picks: states that no prefix and no hole is equal to."""
+    """The rows of picks of drawing_of(): of equal picks the first one, and none that is equal to a
+    prefix or a hole."""
     plan = findings.plan
     drawn = {one.trial for one in plan.states if one.family != 'pick'}
     picks = []
@@ -57,6 +59,6 @@ def picks_of(findings: Findings) -> List[List[Any]]:
 
 
 def sign_of(findings: Findings, state: State) -> str:
-    """The sign of a state's outcome, one for states that weren't tried among them."""
+    """The sign of a state's outcome, or `-` if it has none."""
     outcome = findings.by_state.get(state.number)
     return SIGNS[outcome.result] if outcome else '-'

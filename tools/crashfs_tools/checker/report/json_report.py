@@ -19,7 +19,8 @@ KILLED = 'a kill'
 
 
 def json_pieces(report: CheckReport) -> Iterator[str]:
-    """The text of the file of --json, in pieces: the results, and the entries with their texts."""
+    """The text of the file of --json, in pieces: the results of each window, the entries with their
+    texts, and what else was found. The report must have been made with has_json."""
     yield as_json(report.head.fields(), **COMPACT)[:-1] + ',\n"windows":[\n'
     for place, window in enumerate(report.packed_windows):
         yield (',\n' if place else '') + unpacked(window)
@@ -37,8 +38,9 @@ def json_pieces(report: CheckReport) -> Iterator[str]:
 
 
 def partial_pieces(report: CheckReport, results: Results) -> Iterator[str]:
-    """The text of the file of --json before the check's end, in pieces: with the results of the
-    window that is tried, without entries. It reads as the report of a check that was killed."""
+    """The text of the file of --json while the check still runs, in pieces: the results of earlier
+    windows and of the one that is tried, without entries. It reads as the report of a check that
+    was killed."""
     yield as_json(replace(report.head, stopped=KILLED).fields())[:-1] + ',\n"windows":[\n'
     for window in report.packed_windows:
         yield unpacked(window) + ',\n'
@@ -46,7 +48,7 @@ def partial_pieces(report: CheckReport, results: Results) -> Iterator[str]:
 
 
 def recovery_fields(recovery: Recovery) -> Dict[str, Any]:
-    """What the JSON has of a recovery in which a second crash was tried."""
+    """What the JSON has of a recovery: of one with a fault, no groups."""
     groups = [
         {
             'cause': group.cause,
@@ -66,7 +68,7 @@ def recovery_fields(recovery: Recovery) -> Dict[str, Any]:
 
 
 def group_fields(report: CheckReport, group: Group) -> Dict[str, Any]:
-    """What the JSON has of an entry."""
+    """What the JSON has of an entry; `good` and `differences` only if its files were compared."""
     fields = {
         'cause': group.cause,
         'states': [state.number for state in group.states],

@@ -11,7 +11,7 @@ SURROGATE = re.compile('[\ud800-\udfff]')
 
 
 def packed(text: str) -> bytes:
-    """A text, compressed: unpacked() gives it back."""
+    """A text, compressed, for unpacked(). It may have surrogates of bytes that aren't UTF-8."""
     import zlib
 
     return zlib.compress(text.encode('utf-8', 'surrogateescape'))
@@ -25,7 +25,8 @@ def unpacked(packed_text: bytes) -> str:
 
 
 def as_json(fields: Any, **layout: Any) -> str:
-    """Fields as JSON, which is UTF-8 even if their texts aren't; layout is for json.dumps."""
+    """Fields as JSON that can be written as UTF-8: bytes in their texts that aren't UTF-8 are
+    escapes of surrogates. layout has further arguments of json.dumps()."""
     return SURROGATE.sub(
         lambda match: f'\\u{ord(match[0]):04x}',
         json.dumps(fields, ensure_ascii=False, **layout),

@@ -26,8 +26,8 @@ Entry = Tuple[Group, Optional[SecondCrash]]
 def junit_lines(report: CheckReport) -> Iterator[str]:
     """The text of the file of --junit, in pieces: a test case for each entry of the report, for
     each failure on disks that no tried state has, and one for all other states. The time of an
-    entry is that of its example's second run, and that of the last case is the rest of the
-    check's."""
+    entry is that of its example's second run, 0 if it had none; the last case has the rest of the
+    check's. An entry whose cause another one had gets a number."""
     entries: List[Entry] = [(group, None) for group in report.groups()]
     entries += report.recovery_groups()
     seconds = report.seconds
@@ -48,7 +48,8 @@ def junit_lines(report: CheckReport) -> Iterator[str]:
 
 
 def counts_of(report: CheckReport, entries: List[Entry]) -> str:
-    """How many test cases there are, and with which results, as attributes."""
+    """How many test cases there are, and with which results, as attributes of the suite. The case
+    of all other states is counted too: as an error if it isn't whole."""
     results = [group.outcome.result for group, _ in entries if group.accepted is None]
     results += [one.outcome.result for one in report.disk_failures()]
     skipped = sum(group.accepted is not None for group, _ in entries)
@@ -63,9 +64,9 @@ def counts_of(report: CheckReport, entries: List[Entry]) -> str:
 def case_lines(
     report: CheckReport, group: Group, second: Optional[SecondCrash], attributes: str
 ) -> Iterator[str]:
-    """The test case of an entry, with these attributes; its message is the whole sentence with the
-    advice, or why the entry is accepted. second has the crashes of its example, if there were
-    two."""
+    """The test case of an entry: a failure, an error if the recovery gave no answer, or skipped if
+    the entry is accepted. attributes has the class and the name of the case. second has the first
+    crash of an entry of second crashes."""
     head, *details = ReportText(report).group_lines(group, second)
     kind = 'failure' if group.outcome.result == BAD else 'error'
     message = ' '.join(group.advice.lines()) or head.strip()
@@ -80,7 +81,8 @@ def case_lines(
 
 
 def others_case_lines(report: CheckReport, class_name: str, seconds: float) -> Iterator[str]:
-    """The test case of all other states, an error if not all were tried; class_name is quoted."""
+    """The test case of all other states: an error if not all were tried that should have been.
+    class_name is quoted."""
     case = attribute(f'all other states ({report.counts.good:,})')
     yield f'<testcase classname={class_name} name={case} time="{seconds:.3f}">\n'
     if not report.is_whole:
@@ -91,7 +93,8 @@ def others_case_lines(report: CheckReport, class_name: str, seconds: float) -> I
 
 
 def disk_case_lines(one: DiskFailure, class_name: str) -> Iterator[str]:
-    """The test case of a failure on disks that no tried state has; class_name is quoted."""
+    """The test case of a failure on disks that no tried state has: an error if COMMAND gave no
+    answer there. class_name is quoted."""
     kind = 'failure' if one.outcome.result == BAD else 'error'
     case = f'{one.outcome.cause} ({one.explanation.where})'
     yield f'<testcase classname={class_name} name={attribute(case)} time="0.000">\n'
@@ -102,10 +105,11 @@ def disk_case_lines(one: DiskFailure, class_name: str) -> Iterator[str]:
 
 
 def text(shown: str) -> str:
-    """A text as XML has it between tags."""
+    """A text as XML has it between tags, with newlines and tabs as they are."""
     return escape(printable(shown, SPACES))
 
 
 def attribute(shown: str) -> str:
-    """A text as the value of an attribute, with its quotes."""
+    """A text as the value of an attribute, with its quotes; newlines and tabs are shown as
+    escapes."""
     return quoteattr(printable(shown))

@@ -19,7 +19,7 @@ from crashfs_tools.checker.running.results import Head
 from crashfs_tools.checker.running.runner import BAD, NO_ANSWER, Outcome
 from crashfs_tools.checker.states.plan import State
 
-from .counts import StateCounts, states_of_accepted
+from .counts import StateCounts
 from .json_text import COMPACT, as_json, packed
 
 if TYPE_CHECKING:
@@ -36,8 +36,9 @@ StateRow = Tuple[State, Outcome, List[str]]
 
 class CheckReport:
     """The findings of a check, window by window. With has_json it keeps all that the JSON has, with
-    has_page the drawings of the page, and with has_states the outcome of each state; otherwise
-    little of each window. accept_list has the failures of --accept, if they are given."""
+    has_page the drawings of the page, and with has_states the outcome of each state: has_states
+    must be set before add(). Otherwise it keeps little of each window. accept_list has the failures
+    of --accept, None if none are given."""
 
     def __init__(
         self,
@@ -46,6 +47,7 @@ class CheckReport:
         has_page: bool = False,
         accept_list: Optional[AcceptedFailures] = None,
     ) -> None:
+        """The time that the check takes is counted from here on."""
         self.head = head
         self.accept_list = accept_list
         self.has_states = False
@@ -67,7 +69,8 @@ class CheckReport:
         self.not_done: List[str] = []
 
     def add(self, findings: Findings) -> None:
-        """Adds the findings of a window; its drawing if it is the first or has failures."""
+        """Adds the findings of a window, after those of the windows before it; its drawing too if
+        it is the first or has failures."""
         self.counts.add(findings)
         self.profiles = findings.plan.profiles.names
         if self.has_states:
@@ -82,7 +85,8 @@ class CheckReport:
             self.drawings.append(drawing_of(findings))
 
     def replace_last(self, findings: Findings) -> None:
-        """Replaces what is kept of the last window's groups, to which something was added."""
+        """Replaces the groups and results of the last window that was added, after something was
+        added to its findings. The counts, the outcomes of states and the drawing stay."""
         self.groups_of_windows[-1] = findings.groups
         self.unions[-1] = findings.union
         if self.has_json:
@@ -94,8 +98,8 @@ class CheckReport:
         return time.monotonic() - self.began
 
     def groups(self) -> List[Group]:
-        """Copies of the groups of all windows, the largest first; those that agree are one.
-        Accepted failures are marked."""
+        """Copies of the groups of all windows, the largest first; those with one key are one. Their
+        advice is made again, and accepted failures are marked."""
         found = merged_groups(
             replace(group, states=list(group.states), advice=replace(group.advice))
             for part in self.groups_of_windows
@@ -107,8 +111,8 @@ class CheckReport:
         return found
 
     def mark(self, group: Group) -> None:
-        """Sets whether a group is an accepted failure, or one whose last day has passed. A group
-        without an answer never is."""
+        """Sets on a group the accepted failure that it is, or, if its last day has passed, the
+        expired one. A group without an answer is never accepted."""
         if self.accept_list is None or group.outcome.result != BAD:
             return
         entry = self.accept_list.entry_for(group.as_accepted)
@@ -118,8 +122,8 @@ class CheckReport:
             group.expired = entry if is_over else None
 
     def recovery_groups(self) -> List[Tuple[Group, SecondCrash]]:
-        """The groups of second crashes, of all recoveries, with the crashes of their examples.
-        Accepted failures are marked."""
+        """The groups of second crashes of all recoveries, as second_crash_entries() merges them,
+        with accepted failures marked."""
         if not self.recoveries:
             return []
         from crashfs_tools.checker.findings.second_crashes import second_crash_entries
@@ -130,15 +134,16 @@ class CheckReport:
         return found
 
     def accepted_not_found(self) -> List[AcceptedFailure]:
-        """The accepted failures that no group is, those of second crashes included."""
+        """The accepted failures that no group is, also none of second crashes; empty if no --accept
+        is given. Expired ones that a group is count as found."""
         if self.accept_list is None:
             return []
         groups = [*self.groups(), *(group for group, _ in self.recovery_groups())]
         return self.accept_list.entries_not_among(group.as_accepted for group in groups)
 
     def union(self) -> Optional[Union]:
-        """All advised syncs of all windows with failures, and their results added up; None if there
-        are none, or a window's were not tried."""
+        """The advised syncs of all windows that have failures, and their results added up. None if
+        no window has failures, or if the syncs of one weren't tried."""
         failing = zip(self.groups_of_windows, self.unions)
         unions = [union for groups, union in failing if groups]
         whole = [union for union in unions if union is not None]
@@ -150,31 +155,31 @@ class CheckReport:
         return Union(points, Totals(before, after))
 
     def disk_failures(self) -> List[DiskFailure]:
-        """The failures on real disks that no tried state has."""
+        """The failures on real disks that no tried state has; none without --disks."""
         return self.sightings.further if self.sightings is not None else []
 
     @property
     def status(self) -> int:
-        """The exit status: 3 if a state has no answer, else 1 if something fails that isn't
-        accepted, else 3 if something is left, else 0."""
+        """The exit status: NOT_ALL_TRIED if a state gave no answer, else SOME_FAIL if a group isn't
+        accepted, also one of second crashes, or something fails on disks only, else NOT_ALL_TRIED
+        if is_whole is False, else NONE_FAILS."""
         if self.counts.results[NO_ANSWER]:
             return NOT_ALL_TRIED
-        further = self.disk_failures()
-        failing = self.counts.failing - states_of_accepted(self.groups()).total
-        second = any(group.accepted is None for group, _ in self.recovery_groups())
-        if failing or further or second:
+        groups = [*self.groups(), *(group for group, _ in self.recovery_groups())]
+        if self.disk_failures() or any(group.accepted is None for group in groups):
             return SOME_FAIL
         return NONE_FAILS if self.is_whole else NOT_ALL_TRIED
 
     @property
     def is_whole(self) -> bool:
-        """Whether all was tried that should have been."""
+        """Whether all was tried that should have been, of a shard its own states: nothing stopped
+        the check, and no recovery had a fault."""
         is_whole = not self.counts.left and not self.head.stopped
         return is_whole and not any(one.fault for one in self.recoveries)
 
 
 def rows_of(findings: Findings) -> List[StateRow]:
-    """The states of a window that have an outcome, without those that the window before has."""
+    """The states of a window that have an outcome, without those that the window before has too."""
     return [
         (state, findings.by_state[state.number], findings.plan.profile_names_of(state))
         for state in findings.results.own

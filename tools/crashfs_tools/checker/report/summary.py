@@ -9,7 +9,7 @@ from typing import Iterator, List
 from crashfs_tools.checker.findings.wording import fails
 from crashfs_tools.checker.running.progress import duration_text
 from crashfs_tools.checker.running.results import Head
-from crashfs_tools.checker.running.runner import NO_ANSWER
+from crashfs_tools.checker.running.runner import BAD, NO_ANSWER
 from crashfs_tools.common.printable import printable
 
 from .counts import AcceptedStates, StateCounts
@@ -20,8 +20,8 @@ CONFIDENCE = 0.95
 
 
 class Summary:
-    """The first line of a report, for what was counted of a check; accepted are the states of
-    accepted failures."""
+    """The first line of a report, from what was counted in a check. `accepted` has the states of
+    accepted failures, which count as failing in `counts`."""
 
     def __init__(self, head: Head, counts: StateCounts, accepted: AcceptedStates) -> None:
         self.head = head
@@ -32,7 +32,8 @@ class Summary:
 
     @property
     def line(self) -> str:
-        """What was checked, how many states there are, and the verdict."""
+        """What was checked, how many states there are, and the verdict; or that nothing was tried,
+        if no window was."""
         counts, trace = self.counts, printable(self.head.trace)
         if not counts.windows:
             return f'{trace}: nothing was tried{self.stop_text}'
@@ -44,12 +45,14 @@ class Summary:
 
     @property
     def stop_text(self) -> str:
-        """What stopped the check, in brackets; an empty text if nothing did."""
+        """What stopped the check, in brackets after a blank; an empty text if nothing did."""
         return f' (stopped by {self.head.stopped})' if self.head.stopped else ''
 
     @property
     def states_text(self) -> str:
-        """How many states there are."""
+        """How many states there are: `all` crash states only if each was tried, and none was cut
+        off by a window's end; of crash states that are tried in part, how many of them; else the
+        states of some families."""
         counts = self.counts
         under = f' under {counts.profile}' if counts.profile else ''
         if counts.is_part:
@@ -65,8 +68,8 @@ class Summary:
 
     @property
     def verdict(self) -> str:
-        """How many states fail, gave no answer or were not tried; `none fails` is only said of a
-        whole check."""
+        """How many states fail, are accepted, gave no answer or were not tried. `none fails`
+        without more means that all were tried."""
         counts = self.counts
         if not counts.tried:
             return f'nothing was tried{self.stop_text}'
@@ -79,7 +82,8 @@ class Summary:
 
     @property
     def accepted_text(self) -> List[str]:
-        """How many states are of accepted failures, in a part of the verdict; none if none is."""
+        """How many states are of accepted failures, as a part of the verdict; no part if there are
+        none."""
         count = self.accepted.total
         if not count:
             return []
@@ -90,8 +94,8 @@ class Summary:
 
     @property
     def failing_text(self) -> List[str]:
-        """How many fail, apart from accepted failures, in a part of the verdict; none if there are
-        only these."""
+        """How many states fail that aren't accepted, with the most frequent words of their causes,
+        as a part of the verdict; or that none fails, if none is accepted either."""
         counts = self.counts
         if not self.failing:
             return [] if self.accepted.total else [self.none_text]
@@ -106,21 +110,22 @@ class Summary:
 
     @property
     def none_text(self) -> str:
-        """That no state fails; if not all were tried, that none of the tried ones does."""
+        """That no state fails; if not all were tried, that none of those that were tried does."""
         if self.counts.is_part:
             return 'none of these fails'
         return 'none fails' if self.is_whole else f'none{self.of_tried} fails'
 
     @property
     def of_tried(self) -> str:
-        """The words ` of the N tried`, with the shard if there are several."""
+        """The words ` of the N tried`, with the shard if there are several shards."""
         shard = self.head.shard
         by_shard = f' by shard {shard.part}/{shard.parts}' if shard.parts > 1 else ''
         return f' of the {self.counts.tried:,} tried{by_shard}'
 
     @property
     def left_text(self) -> str:
-        """How many states were not tried, and which further ones."""
+        """How many states of the windows were not tried, and that no state after the last window
+        was, if the session goes on there."""
         counts, rest = self.counts, ''
         if self.head.has_rest:
             rest = f'all states after micro-operation {counts.operations - 1:,}'
@@ -128,8 +133,9 @@ class Summary:
 
 
 def rest_lines(counts: StateCounts) -> Iterator[str]:
-    """The last lines of a report: what was drawn at random, and how long all would take, by which
-    option; none if all crash states were tried, or weren't asked for."""
+    """The last lines of a report, if only some of the crash states were tried: what was drawn at
+    random, how long all would take, and which option tries them. Else none, also if crash states
+    weren't asked for."""
     if not counts.is_part:
         return
     if counts.drawn and len(counts.every) == 1 and not counts.profile:
@@ -142,17 +148,23 @@ def rest_lines(counts: StateCounts) -> Iterator[str]:
 
 
 def time_text(counts: StateCounts, states: int, at_least: str = '') -> str:
-    """How long so many states take, after a comma; an empty text if that isn't known."""
+    """How long a number of states would take, after a comma, with `at_least` before the time; an
+    empty text if it isn't known how long one takes."""
     seconds = counts.seconds * states
     return f', and would take {at_least}about {duration_text(seconds)}' if seconds else ''
 
 
 def drawn_text(counts: StateCounts) -> str:
-    """How many of the sets that were drawn at random fail; if none does, how few of all sets
-    can."""
-    drawn, fail = len(counts.drawn), sum(counts.drawn)
+    """How many of the sets that were drawn at random fail or gave no answer; if all are good, which
+    share of all sets may fail at most, with the probability CONFIDENCE. At least one must have been
+    tried. A set without an answer may fail: then no share is known."""
+    drawn, fail = sum(counts.drawn.values()), counts.drawn[BAD]
+    no_answer = counts.drawn[NO_ANSWER]
+    rest = f'; {no_answer:,} gave no answer' if no_answer else ''
     if fail:
-        return f'{fail:,} of {drawn:,} drawn at random {fails(fail)}'
+        return f'{fail:,} of {drawn:,} drawn at random {fails(fail)}{rest}'
+    if no_answer:
+        return f'{drawn:,} drawn at random: none fails{rest}'
     sets = f'{counts.sets:,} sets' if counts.sets is not None else 'sets'
     share = shown_share(1 - (1 - CONFIDENCE) ** (1 / drawn))
     return (
@@ -162,6 +174,6 @@ def drawn_text(counts: StateCounts) -> str:
 
 
 def shown_share(share: float) -> str:
-    """A share, from 0 to 1, as a percentage with two digits that count, rounded up."""
+    """A share, above 0 and up to 1, as a percentage with two significant digits, rounded up."""
     digits = 1 - math.floor(math.log10(share * 100))
     return f'{math.ceil(share * 100 * 10**digits) / 10**digits:.{max(0, digits)}f}%'

@@ -17,15 +17,16 @@ VERSION = 'TAP version 13'
 
 
 class TestPoint(NamedTuple):
-    """A test, as TAP has it. failure has the lines that say what failed, none if nothing did;
-    reason is why the test is skipped, or an empty text."""
+    """A test, as TAP has it. failure has the lines that say what failed; none if the test passes.
+    reason says why it is skipped, and is empty if it isn't."""
 
     name: str
     failure: Sequence[str] = ()
     reason: str = ''
 
     def lines(self, number: int) -> Iterator[str]:
-        """The lines of the test, which has this number in the file."""
+        """The lines of the test in the file, where it has this number; those of its failure are
+        comments."""
         result = 'not ok' if self.failure else 'ok'
         skipped = f' # SKIP {printable(self.reason)}' if self.reason else ''
         yield f'{result} {number} - {description(self.name)}{skipped}\n'
@@ -34,8 +35,9 @@ class TestPoint(NamedTuple):
 
 
 def tap_lines(report: CheckReport) -> Iterator[str]:
-    """The text of the file of --tap, in pieces: a test for each entry of the report, and one for
-    all other states. One of them fails exactly if the check's status isn't 0."""
+    """The text of the file of --tap, in pieces: a test for each entry of the report, for each entry
+    of second crashes, for each failure on disks that no tried state has, and one for all other
+    states. One of them fails exactly if the check's status isn't 0."""
     text = ReportText(report)
     points = [entry_point(text, group) for group in report.groups()]
     points += [second_crash_point(text, *found) for found in report.recovery_groups()]
@@ -50,7 +52,7 @@ def tap_lines(report: CheckReport) -> Iterator[str]:
 
 
 def entry_point(text: ReportText, group: Group) -> TestPoint:
-    """The test of an entry."""
+    """The test of an entry: skipped if the entry is accepted, else one that failed."""
     if group.accepted is not None:
         return TestPoint(group.cause, reason=accepted_text(group.accepted))
     example = f'state {group.example.number} of {text.head.trace}'
@@ -58,7 +60,8 @@ def entry_point(text: ReportText, group: Group) -> TestPoint:
 
 
 def second_crash_point(text: ReportText, group: Group, second: SecondCrash) -> TestPoint:
-    """The test of an entry of crashes during recovery."""
+    """The test of an entry of second crashes, whose example names both states; skipped if it is
+    accepted."""
     if group.accepted is not None:
         return TestPoint(group.cause, reason=accepted_text(group.accepted))
     example = f'state {second.state}/{group.example.number} of {text.head.trace}'
@@ -66,7 +69,8 @@ def second_crash_point(text: ReportText, group: Group, second: SecondCrash) -> T
 
 
 def others_point(text: ReportText) -> TestPoint:
-    """The test of all other states; it fails if not all were tried."""
+    """The test of all states that are in no entry; it fails if not all were tried that should have
+    been."""
     name = f'all other states ({text.counts.good:,})'
     if text.report.is_whole:
         return TestPoint(name)
@@ -74,11 +78,10 @@ def others_point(text: ReportText) -> TestPoint:
 
 
 def failed_point(cause: str, details: List[str]) -> TestPoint:
-    """The test point of a test that failed: its name is the cause, which its lines have with the
-    details."""
+    """A test that failed. Its name is the cause; its lines are the cause and the details."""
     return TestPoint(cause, [cause, *(f'  {line}' for line in details)])
 
 
 def description(name: str) -> str:
-    """A name as TAP has it, where `#` begins what is said of a test."""
+    """A name as TAP has it: a `#` in it doesn't begin a directive, such as SKIP."""
     return printable(name).replace('\\', '\\\\').replace('#', '\\#')

@@ -43,8 +43,8 @@ class ReportText:
         self.counts = report.counts
 
     def lines(self) -> List[str]:
-        """The whole report. No line but those of first_lines() is longer than WIDTH: the JSON has
-        all of it."""
+        """The whole report, each line without its end. No line but those of first_lines() is longer
+        than WIDTH: what is cut off is in the JSON."""
         groups = self.report.groups()
         accepted = [group for group in groups if group.accepted is not None]
         # What the syncs of accepted entries remove has no others above it.
@@ -67,7 +67,8 @@ class ReportText:
         ]
 
     def entry_lines(self, shown: List[Group]) -> List[str]:
-        """The lines of the first SHOWN_GROUPS entries, and how many more there are."""
+        """The lines of the first SHOWN_GROUPS entries, and a line that says how many more there
+        are."""
         lines = [line for group in shown[:SHOWN_GROUPS] for line in self.group_lines(group)]
         others = shown[SHOWN_GROUPS:]
         if others:
@@ -77,7 +78,8 @@ class ReportText:
         return lines
 
     def accepted_lines(self, accepted: List[Group]) -> List[str]:
-        """The accepted failures that were found, with their reasons."""
+        """The first SHOWN_GROUPS accepted failures that were found, with their reasons, and how
+        many more there are; no line if there are none."""
         lines: List[str] = []
         for group in accepted[:SHOWN_GROUPS]:
             assert group.accepted is not None
@@ -88,8 +90,8 @@ class ReportText:
         return lines + ([f'  and {more:,} more that are accepted'] if more > 0 else [])
 
     def not_found_lines(self) -> List[str]:
-        """The accepted failures that were not found: they are gone if all crash states were tried,
-        else not seen."""
+        """The accepted failures of the file that no entry is. They are `gone` if all crash states
+        were tried, else `not seen`."""
         counts = self.counts
         is_all = counts.has_every and not counts.is_part and counts.has_tried_all(self.head)
         how = 'gone' if is_all else 'not seen'
@@ -101,7 +103,9 @@ class ReportText:
         return Summary(self.head, self.counts, states_of_accepted(self.report.groups())).line
 
     def union_lines(self, shown: List[Group], covered: List[Group]) -> List[str]:
-        """The result of all advised syncs at once, and the entries that need no other syncs."""
+        """The result of all advised syncs at once, if several of the shown entries have some; then
+        the covered entries, whose states these syncs remove too. The sentences of a covered entry
+        are shown if no entry before it has its cause up to the first colon."""
         union, lines = self.report.union(), []
         advised = [group for group in shown if group.advice.syncs]
         if union is not None and len(advised) > 1:
@@ -123,7 +127,8 @@ class ReportText:
         return lines
 
     def first_lines(self) -> List[str]:
-        """The summary, after a line that says what isn't proved, if something isn't."""
+        """The summary line. Before it, if the second reading took the program's place or found the
+        sets, a line says so. These lines may have any length."""
         how = HOW_TO_BUILD if can_be_built() else ''
         if self.head.refused_version:
             return [VERSION_UNPROVED.format(self.head.refused_version), self.summary()]
@@ -137,8 +142,8 @@ class ReportText:
         return [f'  {number_of(count, "outcome")} from earlier checks (--cache)'] if count else []
 
     def cut_off_lines(self) -> List[str]:
-        """A line for the lines that were still pending where their last window ended; none if none
-        was."""
+        """A line for what was still pending where its last window ended: its loss wasn't tried to
+        the session's end. No line if nothing was."""
         if not self.head.cut_off:
             return []
         number, tried = self.head.cut_off[0]
@@ -150,7 +155,16 @@ class ReportText:
         ]
 
     def recovery_lines(self) -> List[str]:
-        """The findings of second crashes, during the recovery from the first."""
+        """What second crashes left, during the recovery from the first one; no line if no recovery
+        was chosen for that."""
+        lines = [f'  {line}' for line in self.recovery_counts()]
+        for group, where in self.report.recovery_groups():
+            lines += self.group_lines(group, where)
+        return lines + self.not_tried_lines()
+
+    def recovery_counts(self) -> List[str]:
+        """A line that counts the states of second crashes and those that fail, and one if the
+        second reading computed some that crashfs should have; no line if no recovery was chosen."""
         if not self.report.recoveries:
             return []
         tried = [one for one in self.report.recoveries if not one.fault]
@@ -158,18 +172,16 @@ class ReportText:
         how_many = f'{failing:,} {fails(failing)}' if failing else 'none fails'
         states = number_of(sum(one.states for one in tried), 'different state')
         recoveries = number_of(len(tried), 'recovery', 'recoveries')
-        lines = [f'  {recoveries}: {states} of a second crash, {how_many}']
+        lines = [f'{recoveries}: {states} of a second crash, {how_many}']
         unproved = sum(one.unproved for one in tried)
         if unproved and not self.head.unproved:
             lines.append(
-                f'  unproved: the Python implementation computed the states of {unproved} of these'
+                f'unproved: the Python implementation computed the states of {unproved} of these'
             )
-        for group, where in self.report.recovery_groups():
-            lines += self.group_lines(group, where)
-        return lines + self.not_tried_lines()
+        return lines
 
     def not_tried_lines(self) -> List[str]:
-        """The recoveries in which no second crash was tried, each with the reason."""
+        """A line for each recovery in which no second crash was tried, with the reason."""
         return [
             f'  the recovery of state {one.state} was not tried: {one.fault}'
             for one in self.report.recoveries
@@ -177,7 +189,8 @@ class ReportText:
         ]
 
     def disk_lines(self) -> List[str]:
-        """What was seen on real disks, and the failures there that no tried state has."""
+        """What was seen on real disks, and the failures there that no tried state has; no line
+        without --disks."""
         if self.report.sightings is None:
             return []
         lines = [f'  {line}' for line in self.report.sightings.lines()]
@@ -189,7 +202,8 @@ class ReportText:
         return lines
 
     def group_lines(self, group: Group, second: Optional[SecondCrash] = None) -> List[str]:
-        """The lines of an entry. second has the crashes of its example, if there were two."""
+        """The lines of an entry: its cause with its states, and below it the details. second has
+        the first crash of an entry of second crashes."""
         states = self.states_text(group, f'{second.state}/' if second else '')
         cause = cut(printable(group.cause), max(CAUSE_WIDTH, WIDTH - len(states) - 3))
         lines = [f'  {cause:<{CAUSE_WIDTH}} {states}']
@@ -199,31 +213,33 @@ class ReportText:
 
     @staticmethod
     def second_crash_details(group: Group, second: SecondCrash) -> List[str]:
-        """The lines below the cause of an entry of second crashes."""
+        """The lines below the cause of an entry of second crashes: where its example's two crashes
+        were, and the advice."""
         crashes = f'state {second.state}, then a crash {second.place}'
         return [crashes, *group.advice.lines()]
 
     def sentences(self, group: Group) -> List[str]:
-        """Which lines of the trace an entry is about, without what to do."""
+        """Which lines of the trace an entry is about, without what to do about it."""
         return [line.rstrip(':') for line in [*group.advice.text, *self.needed_lines(group)]]
 
     def needed_lines(self, group: Group) -> List[str]:
-        """What must be lost too for the example to fail; none if nothing must."""
+        """A line with what must be lost too for the example to fail; no line if nothing must."""
         lines = ', '.join(map(self.shown_line, group.needed_lines))
         return [f'it fails only if this is lost too: {lines}'] if lines else []
 
     @staticmethod
     def states_text(group: Group, first: str = '') -> str:
-        """How many states an entry has, and its example. first comes before the example's number:
-        for a second crash the first one's state and a slash."""
+        """How many states an entry has, and the option that shows its example. `first` comes before
+        the example's number: the state of a first crash and a slash."""
         example = f'--state {first}{group.example.number}'
         if group.count == 1:
             return f'1 state: {example}'
         return f'{group.count:,} states, e.g. {example}'
 
     def details(self, group: Group) -> List[str]:
-        """The lines below an entry's cause: the sentence, what was tried, and what else the example
-        lacks."""
+        """The lines below an entry's cause, not wrapped: its notes, why it is accepted, the
+        sentence and the advice with what was tried, what else the example lacks, and where its
+        states were seen."""
         notes = {line.number: line.note for line in (group.lost, group.kept) if line and line.note}
         lines = [f'line {number}: {note}' for number, note in sorted(notes.items())]
         if group.expired is not None:
@@ -253,14 +269,16 @@ class ReportText:
         return lines
 
     def shown_line(self, number: int) -> str:
-        """A line of the trace, by its number, in words."""
+        """A line of the trace in words, by its number; with empty brackets if the report doesn't
+        know it."""
         line = self.head.lines.get(number, TraceLine(number, ''))
         return f'line {number} ({line.text})'
 
 
 def profiles_text(group: Group, are_all: bool) -> str:
-    """The profiles that allow states of an entry, with how many if not all, and those that allow
-    none. are_all says whether all sets that leave the states were looked at."""
+    """The profiles that allow states of an entry, with how many if they don't allow all, and those
+    that allow none. are_all says whether all sets that leave the states were looked at; if not, the
+    text says that too."""
     counts = {name: len(states) for name, states in group.under.items()}
     is_same = all(count in (0, group.count) for count in counts.values())
     allow = [
@@ -281,8 +299,8 @@ def shown_profile(name: str) -> str:
 
 
 def folded(lines: Iterable[str], indent: str) -> List[str]:
-    """Lines with an indent, printable, and wrapped at WIDTH; further lines of one have a larger
-    indent."""
+    """Lines with an indent, printable, and wrapped at WIDTH; the further parts of a line have a
+    larger indent. A word that is longer than WIDTH isn't broken."""
     from textwrap import wrap
 
     return [
@@ -300,10 +318,10 @@ def folded(lines: Iterable[str], indent: str) -> List[str]:
 
 
 def accepted_text(entry: AcceptedFailure) -> str:
-    """Until when a failure is accepted, and why."""
+    """Why a failure is accepted, after the last day on which it is, if it has one."""
     return f'until {entry.until}: {entry.why}' if entry.until else entry.why
 
 
 def cut(text: str, width: int = WIDTH) -> str:
-    """A text of at most `width` letters: the end of a longer one becomes two points."""
+    """A text of at most `width` letters: a longer one ends in two points."""
     return text if len(text) <= width else text[: width - 2] + '..'

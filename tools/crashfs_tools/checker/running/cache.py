@@ -30,18 +30,21 @@ Digests = Dict[str, str]
 
 
 class OutcomeCache:
-    """The outcomes of one COMMAND in a directory, by keys of states; name is a part of the name of
-    the file that has them. hits counts those of earlier checks that were used, each once."""
+    """The outcomes of one COMMAND, by keys of states, from a file of a directory. name is a part of
+    the file's name. hits counts outcomes of earlier checks that were used, each once."""
 
     def __init__(self, folder: str, name: str) -> None:
+        """Reads the file. One that isn't there, or that read_checked() doesn't accept, counts as
+        empty."""
         self.path = os.path.join(folder, f'outcomes-{name}.json')
         self.earlier: Dict[str, List[str]] = read_checked(self.path)
         self.used: Dict[str, List[str]] = {}
         self.hits = 0
 
     def outcome(self, key: str) -> Optional[Outcome]:
-        """What COMMAND made of the state with a key, now or in an earlier check; None if that isn't
-        known. Keeps the outcome for later checks, and counts a hit if it is of an earlier one."""
+        """What COMMAND made of the state with a key, in this check or an earlier one; None if that
+        isn't known. Keeps the outcome for later checks, and counts a hit if it is of an earlier
+        one."""
         found = self.used.get(key) or self.earlier.get(key)
         if found is None or len(found) != 3 or found[0] not in (GOOD, BAD):
             return None
@@ -50,18 +53,19 @@ class OutcomeCache:
         return Outcome(*found)
 
     def add(self, key: str, outcome: Outcome) -> None:
-        """Keeps an outcome, but not that a state gave no answer."""
+        """Keeps the outcome of this check for a key. That a state gave no answer isn't kept."""
         if outcome.result in (GOOD, BAD):
             self.used[key] = list(outcome)
 
     def drop(self, key: str) -> None:
-        """Drops an outcome that another run didn't confirm, if there is one."""
+        """Drops the outcome of a key, that of an earlier check too; nothing if there is none."""
         self.used.pop(key, None)
         self.earlier.pop(key, None)
 
     def save(self) -> None:
-        """Writes the outcomes, those of this check last; of more than MOST_OUTCOMES the oldest ones
-        are dropped. An OSError if they can't be written."""
+        """Replaces the file by all outcomes. Those that this check used or added are last; of the
+        others the oldest are dropped if all are more than MOST_OUTCOMES. OSError if they can't be
+        written."""
         kept = {key: one for key, one in self.earlier.items() if key not in self.used}
         room = max(0, MOST_OUTCOMES - len(self.used))
         oldest = dict(list(kept.items())[len(kept) - min(room, len(kept)) :])
@@ -73,7 +77,8 @@ class StateKeys:
     whatever trace."""
 
     def __init__(self, trace: str, plan: Plan, lines: List[str]) -> None:
-        """trace is the path of the plan's trace, and lines are the session's acknowledged ones."""
+        """trace is the path of the plan's trace, and lines are the session's acknowledged ones.
+        ReadingFault if the second reading refuses the trace."""
         with open(trace, 'rb') as file:
             self.reading = read(file.read())
         self.states = States(self.reading)
@@ -81,7 +86,8 @@ class StateKeys:
         self.lines = lines
 
     def key(self, number: int, attempt: int) -> str:
-        """The key of a state, for COMMAND's first run in it (attempt 0) or a further one."""
+        """The key of a state of the plan. attempt is 0 for COMMAND's first run in it; each further
+        run has a key of its own."""
         state = self.plan.state(number)
         tree = self.states.digest(self.plan.kept[number])
         lines = self.lines[: state.says]
@@ -90,8 +96,8 @@ class StateKeys:
 
 
 def open_folder(path: str) -> str:
-    """The path of a cache's directory, which is made if it isn't there; Refused if others may write
-    it."""
+    """Returns the path of a cache's directory, after making it with the mode 700 if it isn't there.
+    Refused if it can't be made, is another user's, or others may write it."""
     try:
         os.makedirs(path, mode=0o700, exist_ok=True)
         status = os.stat(path)
@@ -105,7 +111,8 @@ def open_folder(path: str) -> str:
 
 
 def read_checked(path: str) -> Dict[str, Any]:
-    """The values that write_checked wrote; none if the file isn't whole, or may not be ours."""
+    """The values that write_checked() wrote to a file. An empty map if there is no file, it isn't
+    whole, or another user owns it or may write it."""
     try:
         with open(os.open(path, os.O_RDONLY | os.O_NOFOLLOW | os.O_CLOEXEC), 'rb') as file:
             status = os.fstat(file.fileno())
@@ -122,7 +129,8 @@ def read_checked(path: str) -> Dict[str, Any]:
 
 
 def write_checked(path: str, values: Dict[str, Any]) -> None:
-    """Replaces a file by values, durably. Its first line is the digest of the rest."""
+    """Replaces a file by values, durably, so that only its owner may read it. Its first line is the
+    digest of the rest. OSError if it can't be written."""
     content = json.dumps({'format': FORMAT, 'values': values})
     digest = hashlib.sha256(content.encode()).hexdigest()
     write_whole(path, [digest, '\n', content], OWN_MODE)

@@ -32,9 +32,10 @@ RunInState = Callable[[List[str], int], Tuple[Outcome, str]]
 
 
 def command_name(folder: str, words: List[str], states: List[int], run: RunInState) -> str:
-    """A name for a command: equal for commands with equal words that open equal files. The list of
-    files is kept in a cache's folder: it is made by runs under strace in some states, by their
-    numbers, and made again if one of the files has changed. Refused as opened_files is."""
+    """A name for a command: equal for commands with equal words that open equal files, under the
+    same version of these tools. The list of files is kept in a cache's folder: runs under strace in
+    some states, by their numbers, make it, again if one of the files has changed. Refused as
+    opened_files() is; OSError if the list can't be written."""
     path = os.path.join(folder, f'command-{digest_of_text(json.dumps(words))}.json')
     known: Dict[str, str] = read_checked(path)
     if not known or any(digest_of_file(name) != digest for name, digest in known.items()):
@@ -46,9 +47,9 @@ def command_name(folder: str, words: List[str], states: List[int], run: RunInSta
 
 
 def opened_files(words: List[str], state: int, run: RunInState) -> Set[str]:
-    """The paths of the files that a command opens in a state, or finds missing, but for those of
-    the state. Refused if there is no strace, or it shows none, or the command was ended: what it
-    would have opened later isn't known."""
+    """The paths of the files that a command opens in a state, or finds missing, without those of
+    the state itself, of /proc and of /sys. Refused if there is no strace, if it shows no file, or
+    if the command was ended: what it would have opened later isn't known."""
     strace = shutil.which('strace')
     if strace is None:
         raise Refused('--cache needs strace, which shows the files that COMMAND opens')
@@ -67,15 +68,16 @@ def opened_files(words: List[str], state: int, run: RunInState) -> Set[str]:
 
 
 def has_exited(lines: List[str]) -> bool:
-    """Whether the first process of a log of strace ended by itself. strace itself runs on while
-    others do, which the first has left."""
+    """Whether the first process in a log of strace ended by itself. strace itself runs on while
+    there are others, which the first one left."""
     ended = {match[1] for match in map(EXITED.match, lines) if match}
     return bool(lines) and lines[0].split(' ', 1)[0] in ended
 
 
 def opened_paths(lines: Iterable[str]) -> Iterator[str]:
-    """The real paths that a log of strace has. Relative ones are of a state, what is only written
-    is no input, and Python looks at a module's source to see whether its compiled form is older."""
+    """The real paths of the files that a log of strace has opened, some several times. Relative
+    paths are left out, since they are of a state, and files that are only written. A compiled
+    module of Python counts as its source, if that is there."""
     for line in lines:
         match = OPENED.search(line)
         if match is not None and os.path.isabs(match[1]) and 'O_WRONLY' not in line:
@@ -95,5 +97,6 @@ def digest_of_file(path: str) -> str:
 
 
 def digest_of_text(text: str) -> str:
-    """The first 160 bits of a text's digest: short enough for a file's name."""
+    """The first 40 digits of a text's digest, which are 160 bits: short enough for a file's
+    name."""
     return hashlib.sha256(text.encode('utf-8', 'surrogateescape')).hexdigest()[:40]

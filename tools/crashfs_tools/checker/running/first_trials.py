@@ -15,9 +15,9 @@ from .trials import Trials
 
 
 class FirstTrials:
-    """Tries the tree at the session's end and the start tree, and adds to the results the outcomes
-    of those that are tried anyway. end is a plan of the tree at the session's end, if the plan of
-    the trials doesn't have it."""
+    """Tries the tree at the session's end and the start tree. end is a plan of a trace that has
+    only the tree at the session's end, if the plan of the trials, which is that of a window,
+    doesn't have it."""
 
     def __init__(self, trials: Trials, results: Results, end: Optional[Planned] = None) -> None:
         self.trials = trials
@@ -27,8 +27,8 @@ class FirstTrials:
         self.is_command = trials.options.function is None
 
     def run(self) -> None:
-        """Tries the two trees. Refused if COMMAND fails in one of them. An outcome is added to the
-        results if its state is one of those that are tried anyway."""
+        """Tries the two trees, first that at the end. Refused if COMMAND fails in one of them. The
+        results get the outcomes of states that are tried anyway; that of `end` is dropped."""
         prefixes = [state for state in self.trials.plan.states if state.family == 'prefix']
         if self.end is None:
             self.try_state(prefixes[-1], "the tree at the session's end")
@@ -43,8 +43,8 @@ class FirstTrials:
         self.try_state(prefixes[0], 'the start tree')
 
     def try_state(self, state: State, tree: str) -> None:
-        """Tries a state, unless the results have its outcome; `tree` says in words what it has.
-        Refused if COMMAND fails in it."""
+        """Tries a state, unless the results have its outcome, which they get if it is a state of
+        this shard. `tree` says in words what the state is. Refused if COMMAND fails in it."""
         number = self.results.tried_for[state.trial]
         outcomes: Dict[int, Outcome] = self.results.outcomes
         first = self.trials.plan.state(number)
@@ -61,8 +61,8 @@ class FirstTrials:
         )
 
     def refuse_bad(self, outcome: Outcome, tree: str, more: List[str]) -> None:
-        """Refused if an outcome is BAD: tree says in which tree, more what else to look at. No
-        answer is no verdict, and passes."""
+        """Refused if an outcome is BAD; the text names `tree`, and has `more` as its last lines. A
+        state without an answer isn't refused."""
         if outcome.result == BAD:
             name = 'COMMAND' if self.is_command else 'the recovery'
             raise Refused(
@@ -72,7 +72,7 @@ class FirstTrials:
             )
 
     def hints(self, cause: str) -> List[str]:
-        """What to look at if COMMAND fails with a cause."""
+        """Lines that say what to look at if COMMAND fails with a cause; at least one."""
         if not self.is_command:
             return ['does it expect more than the session did, or files of another place?']
         relative = relative_arguments(self.trials.options.command)

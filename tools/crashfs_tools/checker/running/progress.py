@@ -19,12 +19,14 @@ MEASURED = 100
 
 
 class Progress:
-    """Shows how many states of one part of a check after the other were tried. The pause between
-    two lines goes on from part to part. Without a stream nothing is shown."""
+    """Shows how many states of a part of a check were tried: on a terminal in one line that
+    changes, else in a new line every EVERY_SECONDS, also if parts are shorter than that. Without a
+    stream nothing is shown."""
 
     def __init__(
         self, stream: Optional[TextIO] = sys.stderr, clock: Callable[[], float] = time.monotonic
     ) -> None:
+        """On no terminal, the first line comes EVERY_SECONDS after this."""
         self.stream = stream
         self.clock = clock
         self.reported = clock()
@@ -32,14 +34,16 @@ class Progress:
         self.begin_part(0)
 
     def begin_part(self, total: int, name: str = '') -> None:
-        """Begins a part of so many states; its name comes first in its lines."""
+        """Begins a part of `total` states, of which none is counted yet. Its lines begin with its
+        name, which may be empty."""
         self.total = total
         self.name = name
         self.tried = self.failed = 0
         self.begun = self.clock()
 
     def add_outcome(self, outcome: Outcome) -> None:
-        """Counts one more state of the part, and prints a line if it is time."""
+        """Counts one more state of the part, and shows how far the part is, if the last time was
+        long enough ago."""
         self.tried += 1
         self.failed += outcome.result == BAD
         if self.stream is None:
@@ -53,7 +57,7 @@ class Progress:
 
     def progress_text(self) -> str:
         """How far the part is, as a line shows it. The states that are left are taken to be as slow
-        as those that were tried; at least one must have been."""
+        as those that were tried, of which there must be one."""
         seconds = (self.clock() - self.begun) / self.tried * (self.total - self.tried)
         return (
             f'{self.name}{self.tried:,} of {self.total:,} tried, {self.failed:,} fail, '
@@ -61,7 +65,8 @@ class Progress:
         )
 
     def show_moments(self, done: int, total: int) -> None:
-        """Shows how many of the moments of a session were tried on real disks, on a terminal."""
+        """On a terminal, shows how many moments of a session were tried on real disks, if the last
+        time was long enough ago. After the last moment the line is removed."""
         if self.is_terminal and self.clock() - self.reported >= TERMINAL_SECONDS:
             self.reported = self.clock()
             text = f'disks: {done:,} of {total:,} moments'
@@ -79,7 +84,8 @@ class TooSlow(Exception):
 
 
 class Pace:
-    """Measures how long states take as they are tried; all together may take so many seconds."""
+    """Measures how long states take as they are tried. All of them together may take `most`
+    seconds."""
 
     def __init__(self, most: float, clock: Callable[[], float] = time.monotonic) -> None:
         self.most = most
@@ -87,14 +93,14 @@ class Pace:
         self.begin(0)
 
     def begin(self, total: int) -> None:
-        """Begins to measure: so many states will be tried."""
+        """Begins to measure, with no state counted: `total` states will be tried."""
         self.total = total
         self.tried = 0
         self.begun = self.clock()
 
     def note_tried(self) -> None:
-        """Counts one more state as tried. After MEASURED states it raises TooSlow if all would take
-        longer than they may, and never again."""
+        """Counts one more state as tried. Raises TooSlow after MEASURED states, if at their pace
+        all would take longer than they may: once, after which there is no bound."""
         self.tried += 1
         if self.tried == MEASURED and self.seconds * self.total > self.most:
             self.most = float('inf')
@@ -107,7 +113,8 @@ class Pace:
 
 
 def duration_text(seconds: float) -> str:
-    """A duration in its largest unit: `2 hours`."""
+    """A duration in the largest unit that it fills, rounded, such as `2 hours`; in seconds if it is
+    shorter than one."""
     size, unit = next((one for one in UNITS if seconds >= one[0]), UNITS[-1])
     count = round(seconds / size)
     return f'{count:,} {unit}{"s" if count != 1 else ""}'

@@ -22,8 +22,6 @@ from .results import FORMAT, AllResults, Head, Results
 from .runner import BAD, GOOD, NO_ANSWER, Outcome
 
 MOST = 1 << 40
-# How many numbers a state of a family has; a pick has any number of them.
-NUMBERS = {'prefix': 1, 'hole': 2}
 
 # Returns a value that JSON may have; ValueError for one that it may not have there.
 Read = Callable[[Any], Any]
@@ -31,7 +29,8 @@ Value = TypeVar('Value')
 
 
 def read_json(path: str) -> AllResults:
-    """The results that a file of --json has. Refused if it can't be read, or isn't such a file."""
+    """The results that a file of --json has, also one of a check that was stopped or still runs.
+    Refused if it can't be read, or isn't such a file."""
     try:
         with open(path, encoding='utf-8', errors='surrogateescape') as file:
             fields = json.load(file)
@@ -47,8 +46,8 @@ def read_json(path: str) -> AllResults:
 
 
 def head_of(fields: Dict[str, Any]) -> Head:
-    """What is checked. Like all functions below, it raises a ValueError or KeyError for fields that
-    no check writes."""
+    """What is checked, from the fields of a whole report. Like all functions below, it raises a
+    ValueError, KeyError or TypeError for fields that no check writes."""
     if integer(fields['crashfs-check']) != FORMAT:
         raise ValueError('another format')
     part, parts = row(fields['shard'], integer, integer)
@@ -73,7 +72,8 @@ def head_of(fields: Dict[str, Any]) -> Head:
 
 
 def results_of(fields: Dict[str, Any]) -> Results:
-    """The results of a window."""
+    """The results of a window from its fields. What reports of older tools don't have is empty: the
+    second runs, the choice, and the seconds."""
     plan = plan_of(fields)
     return Results(
         plan,
@@ -86,8 +86,8 @@ def results_of(fields: Dict[str, Any]) -> Results:
 
 
 def chosen_of(plan: Plan, value: Any) -> Optional[FrozenSet[int]]:
-    """The numbers of the states to try if not all are; None if all are. ValueError for anything
-    else."""
+    """The numbers of the states to try, which must be states of the plan; None if all are tried.
+    ValueError for anything else."""
     chosen = None if value is None else frozenset(map(integer, items(value)))
     if chosen is not None and not all(map(plan.has_state, chosen)):
         raise ValueError('no state of the plan')
@@ -102,8 +102,9 @@ def seconds(value: Any) -> float:
 
 
 def plan_of(fields: Dict[str, Any]) -> Plan:
-    """The plan of a window, whose states have the numbers that their places give. ValueError or
-    KeyError for anything else."""
+    """The plan of a window from its fields. Each state must have the number of its place in the
+    list, each prefix must be there, the shorter ones first, and no micro-operation may need a later
+    one. ValueError or KeyError for anything else."""
     operations = [
         MicroOperation(*row(one, integer, text, text, text, integer))
         for one in items(fields['operations'])
@@ -113,6 +114,9 @@ def plan_of(fields: Dict[str, Any]) -> Plan:
         state(one, number, len(operations))
         for number, one in enumerate(items(fields['states']), first)
     ]
+    ends = [one.numbers[0] for one in listed if one.family == 'prefix']
+    if ends != list(range(len(operations) + 1)):
+        raise ValueError('other prefixes')
     masks = [int(text(mask), 16) for mask in items(fields['needs'])]
     if len(masks) != len(operations) or any(
         not 0 <= mask < 2 << place for place, mask in enumerate(masks)
@@ -129,7 +133,8 @@ def plan_of(fields: Dict[str, Any]) -> Plan:
 
 
 def set_profiles_of(value: Any, count: int) -> SetProfiles:
-    """The profiles of so many listed states. ValueError for anything else."""
+    """The profiles of each of `count` listed states, or of none. ValueError for anything else, such
+    as a wanted profile that isn't among the names."""
     names, of_sets, wanted = row(value, items, items, text)
     names = tuple(map(text, names))
     allowed = tuple(integer(one, (1 << len(names)) - 1) for one in of_sets)
@@ -139,8 +144,8 @@ def set_profiles_of(value: Any, count: int) -> SetProfiles:
 
 
 def all_states_of(value: Any, has_state: Callable[[int], bool]) -> AllStates:
-    """What is known of all crash states; has_state says which numbers a state of the plan has.
-    ValueError for anything else."""
+    """What is known of all crash states; has_state says whether a number is that of a state of the
+    plan, as the drawn ones must be. ValueError for anything else."""
     sets, are_listed, are_read, most, families, drawn = row(
         value, count_or_none, boolean, boolean, integer, integer, items
     )
@@ -150,21 +155,30 @@ def all_states_of(value: Any, has_state: Callable[[int], bool]) -> AllStates:
 
 
 def count_or_none(value: Any) -> Optional[int]:
-    """A whole number of any size, or None. ValueError for anything else."""
+    """A whole number from 0 on, of any size, or None. ValueError for anything else."""
     if value is not None and (type(value) is not int or value < 0):
         raise ValueError('no number')
     return value
 
 
 def state(value: Any, number: int, count: int) -> State:
-    """A state of a plan that has so many micro-operations; it must have this number. ValueError for
-    anything else."""
+    """A state of a plan that has `count` micro-operations: a list whose number must be `number`,
+    and which has numbers that its family may have. ValueError for anything else."""
     own, family, numbers, says, same = row(value, integer, text, items, integer, integer)
-    places = [integer(place, count) for place in numbers]
-    wanted = NUMBERS.get(family, len(places) if family == 'pick' else -1)
-    if own != number or len(places) != wanted or family != 'prefix' and count in places[:1]:
+    places = tuple(integer(place, count) for place in numbers)
+    if own != number or not is_of_family(family, places, count):
         raise ValueError('no state of a plan')
-    return State(number, family, tuple(places), says, same)
+    return State(number, family, places, says, same)
+
+
+def is_of_family(family: str, numbers: Tuple[int, ...], count: int) -> bool:
+    """Whether a state of this family may have these numbers, each from 0 to `count`, in a plan that
+    has `count` micro-operations. False for another family."""
+    if family == 'prefix':
+        return len(numbers) == 1
+    if family == 'hole':
+        return len(numbers) == 2 and numbers[0] + 1 < numbers[1]
+    return family == 'pick' and count not in numbers
 
 
 def outcome(value: Any) -> Outcome:
@@ -176,8 +190,8 @@ def outcome(value: Any) -> Outcome:
 
 
 def by_state(plan: Plan, values: Dict[str, Any], read: Callable[[Any], Value]) -> Dict[int, Value]:
-    """Values by the numbers of states of a plan, each read by a function. ValueError for other
-    keys."""
+    """Values by numbers of states, which must be in the plan; `read` makes each value of what JSON
+    has. ValueError for another key, and what `read` raises."""
     found = {int(number): read(value) for number, value in values.items()}
     if not all(map(plan.has_state, found)):
         raise ValueError('no state of the plan')
@@ -185,8 +199,8 @@ def by_state(plan: Plan, values: Dict[str, Any], read: Callable[[Any], Value]) -
 
 
 def row(values: Any, *reads: Read) -> Tuple[Any, ...]:
-    """The items of a list, each read by the function at its place. ValueError if they aren't as
-    many."""
+    """The items of a list, each read by the function at its place. ValueError if there are more or
+    fewer items than functions."""
     if len(items(values)) != len(reads):
         raise ValueError('a list of another length')
     return tuple(read(value) for read, value in zip(reads, values))
@@ -207,7 +221,8 @@ def integer(value: Any, most: int = MOST) -> int:
 
 
 def text(value: Any) -> str:
-    """A text that can be written: what is no UTF-8 is a ValueError."""
+    """A text that can be written as UTF-8, with bytes that aren't UTF-8 as surrogateescape keeps
+    them. ValueError for anything else."""
     if type(value) is not str:
         raise ValueError('no text')
     value.encode('utf-8', 'surrogateescape')

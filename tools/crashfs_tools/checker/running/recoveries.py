@@ -36,7 +36,8 @@ class StateRecovery(Protocol):
         """What reports call it."""
 
     def start(self, environment: Dict[bytes, bytes], streams: StandardStreams) -> int:
-        """Starts it, and returns the number of its process."""
+        """Starts it, and returns the number of its process. Refused if it can't be started, but an
+        OSError if there is no room for a process."""
 
 
 @dataclass
@@ -46,8 +47,8 @@ class CommandRecovery:
     words: List[str]
 
     def start(self, environment: Dict[bytes, bytes], streams: StandardStreams) -> int:
-        """Starts the program, and returns the number of its process. Refused if it can't be
-        started, but an OSError if there is no room for a process."""
+        """Starts the program: words[0] is its path, which isn't looked for on PATH. Refused and
+        OSError as in StateRecovery."""
         try:
             return os.posix_spawn(
                 self.words[0],
@@ -81,7 +82,8 @@ class FunctionRecovery:
 
     def start(self, environment: Dict[bytes, bytes], streams: StandardStreams) -> int:
         """Forks this process, calls the function in the fork, and returns the number of its
-        process. An OSError if there is no room for one."""
+        process. An OSError if there is no room for one. What goes wrong in the fork is printed
+        there, and its status is FAILED."""
         process = os.fork()
         if process == 0:
             try:
@@ -95,8 +97,8 @@ class FunctionRecovery:
 
     def become_child(self, environment: Dict[bytes, bytes], streams: StandardStreams) -> None:
         """Makes this fork what a command would be: in a session of its own, with the streams, usual
-        signals, and the three variables that differ for each state. It is killed if its parent
-        ends."""
+        signals, and of the environment the three variables that differ from state to state. It is
+        killed if its parent ends."""
         die_with_parent()
         os.setsid()
         for stop in STOPS:
@@ -112,7 +114,9 @@ class FunctionRecovery:
                 os.environb[name] = environment[name]
 
     def call(self) -> int:
-        """Calls the function, and returns the exit status; the last line printed is the cause."""
+        """Calls the function, and returns the exit status: 0 whatever the function returns, FAILED
+        if it raises, and the number of a SystemExit. The last line that is printed is the cause,
+        such as that of cause_of()."""
         lines = [line.rstrip('\n') for line in sys.stdin]
         try:
             self.function(os.getcwd(), lines)
@@ -129,7 +133,8 @@ class FunctionRecovery:
 
 
 def cause_of(fault: BaseException) -> str:
-    """A fault as a line: the text of an assertion; of another exception also its type."""
+    """A fault as one line: the first line of an assertion's text; of any other exception its type
+    and the first line of its text. An assertion without a text is such an exception."""
     text = str(fault).strip()
     if not (isinstance(fault, AssertionError) and text):
         text = traceback.format_exception_only(type(fault), fault)[-1].strip()
@@ -137,7 +142,8 @@ def cause_of(fault: BaseException) -> str:
 
 
 def end_process(status: int) -> NoReturn:
-    """Ends this fork, without what the caller's program does at its own end."""
+    """Ends this fork with a status, after its output is written, without what the caller's program
+    does at its own end."""
     try:
         sys.stdout.flush()
     finally:

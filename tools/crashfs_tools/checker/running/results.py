@@ -38,11 +38,11 @@ class Head:
     refused_version: int = 0
 
     def identity(self) -> Tuple[object, ...]:
-        """Equal for two reports of one check: the trace's digest, COMMAND and the shard."""
+        """What is equal for two reports of one check: the trace's digest, COMMAND and the shard."""
         return self.digest, self.command, self.shard
 
     def fields(self) -> Dict[str, Any]:
-        """What the JSON has of it, which read_results reads."""
+        """What a file of --json has of the head, by its keys: head_of() reads it."""
         return {
             'crashfs-check': FORMAT,
             'trace': self.trace,
@@ -77,7 +77,7 @@ class Results:
     seconds: float = 0.0
 
     def __post_init__(self) -> None:
-        """Finds what is tried, once: plan and known don't change later. Of equal states a known
+        """Finds, once, what is tried: plan and known mustn't change later. Of equal states a known
         one comes first, so that nothing is tried again."""
         first: Dict[Trial, int] = {}
         for state in sorted(self.plan.states, key=lambda one: one.number not in self.known):
@@ -87,8 +87,9 @@ class Results:
         self.trials = {trial: number for trial, number in first.items() if number not in self.known}
 
     def outcomes_by_state(self, before: Dict[int, Outcome]) -> Dict[int, Outcome]:
-        """The outcome of each state, by its number, that is equal to one that was tried here, or in
-        the window before, whose outcomes are `before`."""
+        """The outcomes of all states by their numbers: each has that of the equal state that was
+        tried here, or in the window before, whose outcomes are `before`. A state is left out if
+        that has none yet."""
         found = {}
         for state in self.plan.states:
             number = self.tried_for[state.trial]
@@ -100,7 +101,8 @@ class Results:
 
     @cached_property
     def numbers_of_sets(self) -> Dict[int, Set[int]]:
-        """The numbers of the states that are tried here for each set."""
+        """For each set the numbers of the states that are tried for it. Sets of states that the
+        window before has tried are left out."""
         found: Dict[int, Set[int]] = {}
         for state in self.plan.states:
             number = self.trials.get(state.trial)
@@ -110,25 +112,25 @@ class Results:
 
     @property
     def is_part(self) -> bool:
-        """Whether not all crash states are tried, although they were asked for."""
+        """Whether all crash states were asked for, but only some are tried."""
         every = self.plan.all_states
         return every is not None and (self.chosen is not None or not every.are_listed)
 
     @property
     def wanted(self) -> List[int]:
-        """The numbers of the states to try: of equal states one, and if some are chosen only
-        these."""
+        """The numbers of the states to try, of equal states one: all that the window before doesn't
+        try, or the chosen ones among them. They may have outcomes already."""
         numbers = self.trials.values()
         return [one for one in numbers if self.chosen is None or one in self.chosen]
 
     def choose(self, turns: Iterable[Set[int]]) -> None:
-        """Lets only some states be tried: those of some turns, and those that were tried
-        already."""
+        """Chooses the states of some turns, and those that have an outcome already: from here on no
+        others are tried."""
         self.chosen = frozenset(self.outcomes).union(*turns)
 
     def take_earlier(self, earlier: Results) -> None:
-        """Takes the outcomes and the choice of an earlier check of the same plan. States without an
-        answer are tried again."""
+        """Takes the outcomes and the choice of an earlier check, whose plan must be equal. States
+        without an answer are tried again, and second runs too."""
         self.chosen, self.seconds = earlier.chosen, earlier.seconds
         self.outcomes.update(
             {state: one for state, one in earlier.outcomes.items() if one.result != NO_ANSWER}
@@ -140,12 +142,14 @@ class Results:
         return all(number in self.outcomes for number in self.wanted)
 
     def identity(self) -> Tuple[object, ...]:
-        """Equal for two results of one window of a trace: its micro-operations, states and
+        """What is equal for two results of one window of a trace: its micro-operations, states and
         needs."""
         return self.plan.operations, self.plan.listed, self.plan.needs.masks
 
     def fields(self) -> Dict[str, Any]:
-        """What the JSON has of the window, which read_results reads."""
+        """What a file of --json has of a window, by its keys: results_of() reads it. The seconds of
+        a state are 0 unless only some of the crash states are tried: only then a report shows
+        them."""
         return {
             'first': self.plan.first,
             'all_states': self.plan.all_states and list(self.plan.all_states),
@@ -170,8 +174,8 @@ class AllResults:
 
 
 def known_states(before: Plan, plan: Plan) -> Dict[int, int]:
-    """The states of a window's plan that the plan before it has too, by their numbers, with the
-    numbers there. Both keep the same, if all before the window is kept."""
+    """The states of a window that the window before it has too: their numbers, each with the number
+    there. A state of a window counts as having all that comes before the window."""
     lead = plan.first_place - before.first_place
     earlier = {before.kept[state.number]: state.number for state in reversed(before.states)}
     shared = {}
@@ -183,7 +187,8 @@ def known_states(before: Plan, plan: Plan) -> Dict[int, int]:
 
 
 def refuse_other_parts(parts: List[int], count: int) -> None:
-    """Refused unless each of so many shards is there once, by its number from 1."""
+    """Refused unless each of the shards 1 to `count` is given exactly once. parts has the numbers
+    of those given."""
     for part in range(1, count + 1):
         given = parts.count(part)
         if given != 1:
@@ -193,7 +198,8 @@ def refuse_other_parts(parts: List[int], count: int) -> None:
 
 
 def refuse_other_commands(commands: List[List[str]]) -> None:
-    """Refused unless all commands are one; its program may be in another directory."""
+    """Refused unless all commands have equal words; only the directories of their programs may
+    differ."""
     first, *others = ([os.path.basename(one[0]), *one[1:]] if one else [] for one in commands)
     for other in others:
         if other != first:
@@ -202,9 +208,9 @@ def refuse_other_commands(commands: List[List[str]]) -> None:
 
 
 def merged_shards(parts: List[AllResults]) -> AllResults:
-    """The results of the shards of one check as one. Refused if they aren't all shards of one
-    check. Of a check that was stopped some may lack windows: the results with most windows are
-    changed, and used."""
+    """The results of all shards of one check as one. Refused if a shard is missing or is there
+    twice, or if one is of another check. A shard that was stopped may have fewer windows. The
+    results that have the most windows get the outcomes of the others, and are changed by that."""
     first = max(parts, key=lambda one: len(one.windows))
     for one in parts:
         refuse_other_check(first, one)
@@ -228,7 +234,8 @@ def merged_shards(parts: List[AllResults]) -> AllResults:
 
 
 def refuse_other_check(first: AllResults, other: AllResults) -> None:
-    """Refused unless two reports are shards of one check: of one trace and plan."""
+    """Refused unless two reports are shards of one check: equal traces, numbers of shards, and
+    plans of the windows that both have. `first` must have at least as many windows."""
     plans = [
         [window.identity() for window in one.windows[: len(other.windows)]]
         for one in (first, other)

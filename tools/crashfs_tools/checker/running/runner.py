@@ -66,8 +66,9 @@ class AcknowledgedLines:
         self.sizes = [0, *accumulate(len(text.encode('utf-8')) + 1 for text in texts)]
 
     def path(self, count: int) -> str:
-        """The path of this process's file, after the file was given the first so many lines. A
-        later call changes the file."""
+        """The path of this process's file, which has the first `count` lines until the next call.
+        OSError if it must be changed, but COMMAND has removed it or put a symbolic link in its
+        place."""
         file = os.path.join(self.folder, f'says-{os.getpid()}')
         if self.file != file:
             self.file, self.count = file, 0
@@ -132,7 +133,8 @@ class Checker:
 
     @cached_property
     def poll(self) -> select.poll:
-        """Waits for the check's end, and for what else is registered."""
+        """A poll object that has the pipe `life`, if there is one. Each run adds what it waits for,
+        and takes it away again."""
         poll = select.poll()
         if self.life is not None:
             poll.register(self.life, select.POLLIN)
@@ -144,9 +146,11 @@ class Checker:
         return MountTable()
 
     def run(self, state: int, says: int, directory: str) -> Outcome:
-        """Runs the recovery in a state's directory with the first so many acknowledged lines, ends
-        what it leaves running, and unmounts what it leaves mounted. Once a process can't be ended,
-        neither this state nor a later one has an answer. CheckEnded if the check ends meanwhile."""
+        """Runs the recovery in a state's directory with the first `says` acknowledged lines, ends
+        what it leaves running, and unmounts what it leaves mounted. No answer if it is late, prints
+        too much or leaves a mount that stays; nor if it left a process that can't be ended, also in
+        later states while that runs. Refused or an OSError if it can't be started, CheckEnded if
+        the check ends meanwhile."""
         if self.left and self.end_left(descendants.children() - set(self.left)):
             return self.outcome_of_left()
         before, mounted = descendants.children(), self.mounts.below(directory)
@@ -179,7 +183,7 @@ class Checker:
             output.close()
 
     def end_left(self, before: Set[int], seconds: float = 0) -> Dict[int, str]:
-        """Kills the children that weren't there before, and waits so many seconds for them. Sets
+        """Kills the children that weren't there before, and waits at most `seconds` for them. Sets
         `left` to those that still run, with the names of their programs, and returns it."""
         self.end_bearers()
         self.left = descendants.end_children(before, seconds)
@@ -193,8 +197,8 @@ class Checker:
         )
 
     def unmount(self, directory: str, before: Set[int]) -> List[str]:
-        """Unmounts what wasn't mounted below a directory before, by the numbers of the mounts;
-        returns what stays, as paths in the directory."""
+        """Unmounts what is mounted below a directory and wasn't before; `before` has the numbers of
+        those mounts. Returns what stays mounted, as paths in the directory."""
         found = self.mounts.below(directory)
         left = self.mounts.unmount({one: found[one] for one in found if one not in before})
         return [os.path.relpath(point, directory) for point in left]
@@ -202,8 +206,9 @@ class Checker:
     def start(
         self, directory: str, environment: Dict[bytes, bytes], lines: str, output: Output
     ) -> int:
-        """Starts the recovery with a file of lines as its input; returns the number of its process.
-        Its directory is this process's meanwhile, and output is closed for writing."""
+        """Starts the recovery, with the file of a path as its input, and returns the number of its
+        process. Meanwhile this process is in the recovery's directory. `output` is closed for
+        writing here, also if the recovery can't be started (Refused or an OSError)."""
         here = self.own_directory
         os.chdir(directory)
         try:
@@ -213,8 +218,9 @@ class Checker:
             output.close_writing()
 
     def wait(self, process: int, output: Output) -> End:
-        """Waits for the command's end, and returns why it came; CheckEnded if the check's comes
-        before. A process that hasn't exited still runs when this returns."""
+        """Waits until the command exits, is late or has printed too much, and returns which of
+        these. It isn't reaped, and still runs unless it exited. CheckEnded if the check ends
+        before."""
         waiting = Waiting(self.poll, process, output)
         begun = time.monotonic()
         is_slow = False
@@ -242,7 +248,8 @@ class Checker:
 
     def outcome_of_end(self, end: End, status: int, printed: str) -> Outcome:
         """The outcome of a command that isn't good, by its end, its status as subprocess has it,
-        and the end of what it printed."""
+        and the end of what it printed. Its cause is the last line, or else its status; a signal's
+        name comes before the line."""
         output = printed[-OUTPUT_LETTERS:]
         if end is End.LATE:
             return Outcome(NO_ANSWER, f'it had not ended after {self.timeout:g} seconds', output)
@@ -260,6 +267,7 @@ class Waiting:
     without descriptors of processes (before Linux 5.3) is asked again and again."""
 
     def __init__(self, poll: select.poll, process: int, output: Output) -> None:
+        """Adds the process and its output to the poll object: call close() in any case."""
         self.poll, self.process, self.output = poll, process, output
         self.descriptor = opened_process(process)
         self.registered = {output.reading}
@@ -269,8 +277,8 @@ class Waiting:
             poll.register(one, select.POLLIN)
 
     def wait(self, seconds: float) -> Set[Optional[int]]:
-        """Waits at most so many seconds; returns the descriptors that are ready, maybe none. What
-        is printed is read meanwhile."""
+        """Waits at most `seconds`. Returns the descriptors that are ready, also those that the poll
+        object had already; maybe none. What is printed is read meanwhile."""
         if self.descriptor is None:
             seconds = min(seconds, LOOK_SECONDS)
         ready: Set[Optional[int]] = {one for one, _ in self.poll.poll(seconds * 1000)}
@@ -279,7 +287,8 @@ class Waiting:
         return ready
 
     def has_ended(self, ready: Set[Optional[int]]) -> bool:
-        """Whether the process has ended, by what wait() returned; it isn't reaped."""
+        """Whether the process has ended; `ready` is what wait() returned. The process isn't
+        reaped."""
         if self.descriptor is not None:
             return self.descriptor in ready
         return os.waitid(os.P_PID, self.process, os.WEXITED | os.WNOHANG | os.WNOWAIT) is not None
@@ -290,7 +299,7 @@ class Waiting:
         self.poll.unregister(one)
 
     def close(self) -> None:
-        """Leaves the poll object as it was."""
+        """Takes from the poll object what was added, and closes the descriptor of the process."""
         for one in list(self.registered):
             self.unregister(one)
         if self.descriptor is not None:
@@ -298,7 +307,8 @@ class Waiting:
 
 
 def opened_process(process: int) -> Optional[int]:
-    """A descriptor of a process, which is ready when it has ended; None if the system has none."""
+    """A descriptor of a process, which can be polled for its end; None if the system has none, or
+    the process is gone."""
     try:
         return os.pidfd_open(process)
     except (AttributeError, OSError):
@@ -306,8 +316,8 @@ def opened_process(process: int) -> Optional[int]:
 
 
 def keep_descriptors() -> None:
-    """Lets commands inherit the descriptors 0 to 2 only, and opens those of them that are
-    closed."""
+    """Lets commands that are started later inherit the descriptors 0 to 2 only. Those of them that
+    are closed are opened, as /dev/null."""
     while True:
         descriptor = os.open(os.devnull, os.O_RDWR | os.O_CLOEXEC)
         if descriptor > 2:

@@ -7,8 +7,8 @@ from typing import Callable
 
 
 class Saver:
-    """Calls `write` if it was not called for so many seconds. An OSError of it is passed over: it
-    comes up at the end, when the file is written for good."""
+    """Calls `write` if `seconds` have passed since the last call. An OSError of it is passed over:
+    it comes again at the end, when the file is written for good."""
 
     def __init__(
         self,
@@ -16,13 +16,15 @@ class Saver:
         seconds: float,
         clock: Callable[[], float] = time.monotonic,
     ) -> None:
+        """Counts the first `seconds` from here on, by the clock."""
         self.write = write
         self.seconds = seconds
         self.clock = clock
         self.saved = clock()
 
     def save_if_due(self) -> None:
-        """Calls `write` if the last call, or the beginning, is so many seconds ago."""
+        """Calls `write` if `seconds` have passed since the last call, or since the Saver was made.
+        A call that failed counts."""
         if self.clock() - self.saved < self.seconds:
             return
         try:

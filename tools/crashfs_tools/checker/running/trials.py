@@ -24,7 +24,7 @@ from .cache import OutcomeCache, StateKeys
 from .progress import Pace, Progress, TooSlow
 from .recoveries import CommandRecovery, FunctionRecovery, StateRecovery
 from .results import Results
-from .runner import AcknowledgedLines, Checker, Outcome, do_nothing
+from .runner import BAD, AcknowledgedLines, Checker, Outcome, do_nothing
 from .turns import states_in_turns
 from .workers import OnOutcome, StateWorkers
 
@@ -67,11 +67,13 @@ class Trials:
         self.plan = planned.plan
 
     def for_recovery(self, planned: Planned, program: Crashfs) -> Trials:
-        """The same for all states of a recovery, whose trees a program makes."""
+        """Trials of the states of a recovery: with the same COMMAND and workplace, but of another
+        plan, and with trees that another program makes."""
         return Trials(replace(self.workplace, program=program), planned, keeps_trees=True)
 
     def new_checker(self) -> Checker:
-        """A checker for COMMAND, or for the function in its place."""
+        """A checker for COMMAND, or for the function that takes its place. Its `life` isn't set:
+        StateWorkers sets it in each process."""
         recovery: StateRecovery = CommandRecovery(self.options.command)
         if self.options.function is not None:
             recovery = FunctionRecovery(self.options.function)
@@ -82,8 +84,9 @@ class Trials:
         return Archive(self.program, self.planned, folder, self.guard.environment, self.kept_trees)
 
     def new_layout(self, many: bool = False) -> Layout:
-        """A new layout, below the guard's directory or on the server of --serve. many says that so
-        many states are tried that a layout pays which keeps large trees from state to state."""
+        """A new layout, below the guard's directory or on the server of --serve. With `many` it may
+        be one that changes large trees from state to state, which pays for many states only.
+        Refused for a --uname or host that can't be; ProgramFault if the program fails."""
         if self.options.serve is None:
             if many and self.are_trees_large and self.program.has_changes:
                 from crashfs_tools.checker.states.kept_layout import KeptLayout
@@ -100,24 +103,25 @@ class Trials:
 
     @cached_property
     def are_trees_large(self) -> bool:
-        """Whether the trace has so many files or bytes that trees are kept from state to state."""
+        """Whether the trace has so many start lines or bytes that its trees aren't kept in memory,
+        but changed from state to state."""
         return has_large_trees(self.planned.trace)
 
     @cached_property
     def kept_trees(self) -> Optional[TreesByState]:
-        """All trees of the plan in memory; None if they aren't kept, since they are large, too
-        many, or not asked for. Made once."""
+        """All trees of the plan in memory, read once; None if they aren't kept, since they are
+        large, too many, or not asked for. ProgramFault if the program lacks one."""
         if not self.keeps_trees or self.are_trees_large:
             return None
         return trees_of_small_plan(self.program, self.planned, self.guard.environment)
 
     def tree(self, number: int) -> Entries:
-        """The tree of a state, without its root."""
+        """The tree of a state, without its root. Errors as in trees()."""
         return self.trees([number])[0]
 
     def trees(self, numbers: Sequence[int]) -> List[Entries]:
-        """The trees of the states of these numbers, in their order, without the roots.
-        ProgramFault, or KeyError for a number, if the program lacks one."""
+        """The trees of the states of these numbers, in their order, without the roots. If the
+        program lacks one: ProgramFault, or KeyError for its number."""
         kept = self.kept_trees
         if kept is not None:
             firsts = [self.plan.state(number).same for number in numbers]
@@ -130,15 +134,16 @@ class Trials:
         return [found[number] for number in numbers]
 
     def try_one(self, state: State, attempt: int = 0) -> Outcome:
-        """The outcome of a state. Each number of an attempt, below ATTEMPTS, has a run of its own,
-        also in the cache."""
+        """The outcome of a state, by a run of COMMAND or from the cache. Attempts of different
+        numbers, below ATTEMPTS, are different runs, which have their own outcomes in the cache."""
         found: Dict[int, Outcome] = {}
         self.find_outcomes(self.new_layout, {state.number}, found.__setitem__, attempt)
         return found[state.number]
 
     def run_words(self, words: List[str], number: int) -> Tuple[Outcome, str]:
-        """Runs other words than COMMAND in a state; returns their outcome, and the path that the
-        state's directory had: it is gone by then."""
+        """Runs other words than COMMAND in a state, in this process and never from the cache.
+        Returns their outcome, and the path that the state's directory had: it is gone by then.
+        Refused if they can't be started."""
         checker = replace(self.new_checker(), recovery=CommandRecovery(words))
         layout = self.new_layout()
         ((own, directory),) = layout.states({number})
@@ -147,15 +152,18 @@ class Trials:
         return outcome, directory
 
     def try_states(self, turns: Sequence[Set[int]], on_outcome: OnOutcome) -> None:
-        """Tries states, turn by turn, with their progress shown; on_outcome is called with each
-        number and outcome. Stopped, TimeUp or TooSlow may come in between: earlier outcomes were
-        given."""
+        """Tries states, turn by turn, with their progress shown, and calls on_outcome with each
+        number and outcome. With --fail-fast the first failure ends its turn, and no other turn is
+        begun. An exception, such as Stopped, TimeUp or TooSlow, may come in between: on_outcome was
+        called for what was tried before."""
         progress = self.workplace.progress
         progress.begin_part(sum(map(len, turns)), self.planned.part_text())
+        seen: Set[str] = set()
 
         def note(number: int, outcome: Outcome) -> None:
             on_outcome(number, outcome)
             progress.add_outcome(outcome)
+            seen.add(outcome.result)
 
         @lru_cache(None)
         def layout() -> Layout:
@@ -164,6 +172,8 @@ class Trials:
         try:
             for turn in turns:
                 self.find_outcomes(layout, turn, note)
+                if self.options.fail_fast and BAD in seen:
+                    break
         finally:
             progress.end_part()
 
@@ -180,7 +190,9 @@ class Trials:
         attempt: int = 0,
     ) -> None:
         """Gives on_outcome the outcome of each wanted state: from the cache, if that has it, else
-        by a run of COMMAND, which the cache gets. The layout is only made if COMMAND runs."""
+        by a run of COMMAND, whose outcome the cache gets. With --fail-fast it ends at the first
+        failure, also one that the cache has. `layout` is called, once, only if COMMAND runs.
+        Exceptions as in run_workers()."""
         cache, left = self.workplace.cache, set(wanted)
         if cache is None:
             self.run_workers(layout(), left, on_outcome)
@@ -190,6 +202,8 @@ class Trials:
             if known is not None:
                 left.remove(number)
                 on_outcome(number, known)
+                if self.options.fail_fast and known.result == BAD:
+                    return
 
         def keep(number: int, outcome: Outcome) -> None:
             assert cache is not None
@@ -200,8 +214,8 @@ class Trials:
             self.run_workers(layout(), left, keep)
 
     def drop_from_cache(self, numbers: Iterable[int]) -> None:
-        """Drops the outcomes of states, of all attempts, from the cache: they may be others the
-        next time."""
+        """Drops the outcomes of all attempts in these states from the cache, if there is one: they
+        may be others the next time."""
         cache = self.workplace.cache
         if cache is not None:
             for number in numbers:
@@ -210,7 +224,9 @@ class Trials:
 
     def run_workers(self, layout: Layout, wanted: Set[int], on_outcome: OnOutcome) -> None:
         """Runs COMMAND in some states, by processes that end with this one, and gives on_outcome
-        each outcome. Refused or an OSError if a process has a fault."""
+        each outcome. With --fail-fast it ends at the first failure. The fault of a process is
+        raised, such as Refused, ProgramFault or OSError. In any case nothing runs afterwards, but
+        for what can't be ended."""
         options = self.options
         workers = StateWorkers(
             self.new_checker(), layout, options.jobs, on_outcome, options.fail_fast
@@ -222,8 +238,8 @@ class Trials:
             self.guard.end_processes()
 
     def wanted_states(self, results: Results) -> Set[int]:
-        """The numbers of the states of this shard to try, one of equal ones. Refused if a server
-        has too few runs for them."""
+        """The numbers of the states of this shard to try, also those that have an outcome; of equal
+        states one. Refused if they are more than the runs of a server."""
         shard = self.options.shard
         firsts = {state for place, state in enumerate(results.wanted) if shard.has_place(place)}
         if self.options.serve is not None and len(firsts) > RUNS:
@@ -234,9 +250,10 @@ class Trials:
         return firsts
 
     def try_all(self, results: Results, after_each: Callable[[], None] = do_nothing) -> bool:
-        """Tries the states of the shard that have no outcome yet, and writes the outcomes into the
-        results, calling after_each. If all would take too long, only those of the families are
-        chosen. Returns whether all chosen ones have an outcome."""
+        """Tries the states of the shard that have no outcome yet, and adds the outcomes to the
+        results; after_each is called after each. If all would take too long, only those of the
+        families are chosen. Returns whether all chosen ones have an outcome: after a failure with
+        --fail-fast some may not. After an exception the results have what was tried before."""
         every = results.plan.all_states
         if every is not None and not every.are_listed:
             results.choose(states_in_turns(results, are_all=False))
@@ -259,8 +276,8 @@ class Trials:
                 results.seconds = pace.seconds or results.seconds
 
     def turns_of(self, results: Results, left: Set[int]) -> List[Set[int]]:
-        """The states that are left, turn by turn, so that an early end finds most. In one turn if
-        all will be tried anyway."""
+        """The states that are left, turn by turn, those first that find most: an early end then
+        misses least. All in one turn if the check won't end early."""
         every = results.plan.all_states
         is_whole = every is not None and every.are_listed and results.chosen is None
         is_limited = self.options.time_limit is not None or self.options.fail_fast
@@ -272,6 +289,7 @@ class Trials:
 
 
 def has_large_trees(trace: str) -> bool:
-    """Whether a trace's trees take longer to be laid out than to be looked at."""
+    """Whether the trace of a path has at least MUCH_ENTRIES start lines, or MUCH_BYTES bytes: its
+    trees take longer to lay out than a recovery takes to look at them."""
     with open(trace, **TEXT) as lines:
         return is_large_trace(lines, MUCH_ENTRIES, MUCH_BYTES)

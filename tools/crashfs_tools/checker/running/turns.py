@@ -10,9 +10,9 @@ from .results import Results
 
 
 def states_in_turns(results: Results, are_all: bool) -> List[Set[int]]:
-    """The numbers of the states to try, turn by turn; each state once, and no turn is empty.
-    are_all says whether states of no family come too, after those of the families and those that
-    were drawn."""
+    """The numbers of the states to try, turn by turn: each once, of equal states one, and no turn
+    is empty. First come the families, then what was drawn at random and, if are_all is set, all
+    other states."""
     plan = results.plan
     found: List[Set[int]] = []
     seen: Set[int] = set()
@@ -24,7 +24,8 @@ def states_in_turns(results: Results, are_all: bool) -> List[Set[int]]:
 
 
 def states_tried_for(results: Results, sets: Iterable[int]) -> Set[int]:
-    """The numbers of the states that are tried for those of some sets that the plan has."""
+    """The numbers of the states that are tried for some sets. A set has none if the plan doesn't
+    list it, or if the window before has tried it."""
     numbers = results.numbers_of_sets
     return {number for one in sets for number in numbers.get(one, ())}
 
@@ -32,8 +33,9 @@ def states_tried_for(results: Results, sets: Iterable[int]) -> Set[int]:
 def family_turns(plan: Plan) -> Iterator[List[int]]:
     """The sets of eight turns, those first that find most: prefixes that end at an acknowledged
     line; each micro-operation with what it needs; whole operations that are lost; holes that end at
-    an acknowledged line; picks; prefixes; some blocks of torn writes that are lost; holes. A turn
-    may have sets of an earlier one, or sets that the plan doesn't list."""
+    an acknowledged line; picks; prefixes; some blocks of torn writes that are lost; holes, the last
+    one first. No turn has the holes that lose a block of a torn write. A turn may have sets of an
+    earlier one, or sets that the plan doesn't list."""
     says = {place + 1 for place, one in enumerate(plan.operations) if one.kind == 'say'}
     prefixes = {
         one.numbers[0]: plan.kept[one.number] for one in plan.listed if one.family == 'prefix'
@@ -62,8 +64,8 @@ def torn_places(plan: Plan) -> Dict[int, List[int]]:
 
 
 def sample_places(torn: Dict[int, List[int]]) -> List[int]:
-    """The places of the first, the middle and the last block of each torn write, from what
-    torn_places returns."""
+    """The places of the first, the middle and the last block of each torn write, each once, from
+    what torn_places() returns."""
     writes = {places[0]: places for places in torn.values()}
     return [
         place
@@ -73,6 +75,6 @@ def sample_places(torn: Dict[int, List[int]]) -> List[int]:
 
 
 def drawn_sets(plan: Plan) -> List[int]:
-    """The sets that were drawn at random, in their order; none of a plan without such sets."""
+    """The sets that were drawn at random, in their order; none if the plan has no drawn states."""
     drawn = plan.all_states.drawn if plan.all_states is not None else ()
     return [plan.kept[number] for number in drawn]

@@ -40,8 +40,8 @@ class Worker:
     rest: bytes = b''
 
     def new_lines(self) -> Optional[List[bytes]]:
-        """The whole lines that it has written since the last call, maybe none; None at its end.
-        BlockingIOError if the pipe doesn't block and nothing is there."""
+        """The whole lines that it has written since the last call, maybe none; None at the end of
+        its pipe. BlockingIOError if the pipe is set not to block, and nothing is there."""
         piece = os.read(self.pipe, PIECE_BYTES)
         *lines, self.rest = (self.rest + piece).split(b'\n')
         return lines if piece else None
@@ -57,7 +57,8 @@ class Outbox:
         self.sent = time.monotonic()
 
     def add_outcome(self, number: int, outcome: Outcome) -> None:
-        """Adds the outcome of a state, and sends all lines if the last time is SENT_SECONDS ago."""
+        """Adds the outcome of a state. Sends all lines if the last time was SENT_SECONDS ago or
+        more."""
         if outcome.result == GOOD:
             self.lines.append(f'{number}\n')
         else:
@@ -70,7 +71,7 @@ class Outbox:
         self.lines.append(json.dumps(fields) + '\n')
 
     def send(self) -> None:
-        """Writes all lines that were added."""
+        """Writes all lines that were added to the pipe, and waits if that is full."""
         text = ''.join(self.lines).encode()
         self.lines = []
         while text:
@@ -79,9 +80,9 @@ class Outbox:
 
 
 class StateWorkers:
-    """Processes that share the states: of n jobs the k-th process has each n-th state. Each ends
-    when this process's end of the pipe `life` is closed, also because this process was killed. Call
-    run() once, and end() in any case."""
+    """Processes that share the states: of n jobs the k-th process has each n-th state. on_outcome
+    is called in this process. Each process ends when this one's end of the pipe `life` is closed,
+    also because this one was killed. Call run() once, and end() in any case."""
 
     def __init__(
         self,
@@ -91,6 +92,7 @@ class StateWorkers:
         on_outcome: OnOutcome,
         fail_fast: bool = False,
     ) -> None:
+        """Opens the pipe `life`, which end() closes. No process is started yet."""
         self.checker = checker
         self.layout = layout
         self.jobs = jobs
@@ -102,9 +104,10 @@ class StateWorkers:
         self.life, self.alive = os.pipe()
 
     def run(self, wanted: Set[int], says_of: Dict[int, int]) -> None:
-        """Runs the command in each wanted state; says_of has the number of acknowledged lines for
-        each. Returns at the end of all, or at the first failure with fail_fast. The first fault of
-        a process is raised."""
+        """Runs the recovery in each wanted state; says_of has the number of acknowledged lines of
+        each. Returns when all processes have ended or, with fail_fast, at the first failure. The
+        first fault that a process reports is raised, as fault_of_fields() makes it; Refused if a
+        process was killed. Others may still run then."""
         ordered = sorted(wanted)
         jobs = min(self.jobs, len(ordered))
         for place in range(jobs):
@@ -121,15 +124,16 @@ class StateWorkers:
                     self.reap_worker(left.pop(pipe))
 
     def read_outcomes(self, worker: Worker) -> bool:
-        """Reads what a process has written, and takes its lines; returns False at its end. The
-        fault of a process is raised."""
+        """Waits for lines of a process, and takes them; returns False at the end of its pipe. A
+        fault among them is raised, and the lines after it are lost. BlockingIOError as in
+        Worker.new_lines()."""
         lines = worker.new_lines()
         for line in lines or []:
             self.take_line(line)
         return lines is not None
 
     def start_worker(self, share: List[int], says_of: Dict[int, int]) -> None:
-        """Forks a process for a share of the states."""
+        """Forks a process for a share of the states. OSError if the system has no room for it."""
         reading, writing = os.pipe()
         # A signal waits meanwhile: the new process takes none as this one does.
         with stops_blocked() as before:
@@ -145,7 +149,8 @@ class StateWorkers:
         self.workers.append(Worker(process, reading))
 
     def work(self, share: List[int], says_of: Dict[int, int], pipe: int) -> NoReturn:
-        """The new process: it tries its states, reports by its pipe, and never returns."""
+        """What the new process does: it tries its states, in ascending order, reports by its pipe,
+        and never returns. Any fault is reported, and ends it."""
         gc.freeze()
         outbox = Outbox(pipe)
         checker = self.own_checker(outbox)
@@ -165,8 +170,9 @@ class StateWorkers:
             os._exit(0)
 
     def own_checker(self, outbox: Outbox) -> Checker:
-        """The checker of a new process, which is the reaper of what its commands leave. If the
-        system doesn't make it one, a token of its own is in their environment."""
+        """The checker of a new process, which becomes the reaper of what its commands leave. If the
+        system has no reapers, the commands' environment gets a token of its own, by which the
+        checker finds what is left."""
         checker = replace(self.checker, life=self.life, when_slow=outbox.send)
         if not become_reaper():
             token = os.urandom(16).hex()
@@ -175,8 +181,8 @@ class StateWorkers:
         return checker
 
     def take_line(self, line: bytes) -> None:
-        """Gives on_outcome the outcome of a line of an Outbox. If the line has a fault, that is
-        raised. With fail_fast the first failure ends the run."""
+        """Gives on_outcome the outcome that a line of an Outbox has, or raises the fault that it
+        has. With fail_fast the first failure ends the run; failures after it are dropped."""
         if line.isdigit():
             self.on_outcome(int(line), GOOD_OUTCOME)
             return
@@ -192,7 +198,8 @@ class StateWorkers:
         self.ending = self.ending or is_last
 
     def reap_worker(self, worker: Worker) -> None:
-        """Waits for a process that writes no more; Refused if it didn't end with status 0."""
+        """Waits for a process whose pipe is at its end, and drops it. Refused if it didn't end with
+        status 0, as after a kill."""
         status = os.waitstatus_to_exitcode(os.waitpid(worker.process, 0)[1])
         self.workers.remove(worker)
         os.close(worker.pipe)
@@ -200,9 +207,10 @@ class StateWorkers:
             raise Refused(f'a process of this check {ending_text(status)}')
 
     def end(self, end_processes: Callable[[Set[int]], object]) -> None:
-        """Ends all: first the commands, by a function that ends all other processes than some. It
-        waits for processes that must undo what they laid out, for ENDING_SECONDS, and takes what
-        they still report."""
+        """Ends all processes. First end_processes() ends their commands: it must spare the
+        processes whose numbers it is given. Then it waits for ENDING_SECONDS, since processes must
+        undo what they laid out, and kills those that are left. on_outcome gets what they still
+        report."""
         self.ending = True
         os.close(self.alive)
         deadline = time.monotonic() + ENDING_SECONDS
@@ -215,7 +223,8 @@ class StateWorkers:
         os.close(self.life)
 
     def end_one(self, worker: Worker, is_late: bool) -> None:
-        """Reaps a process if it has ended, and kills it before that if it is late."""
+        """Reads what a process has reported, and drops the process if it has ended; one that is
+        late is killed first."""
         if is_late:
             os.kill(worker.process, signal.SIGKILL)
         has_ended = os.waitpid(worker.process, 0 if is_late else os.WNOHANG)[0]
@@ -225,8 +234,8 @@ class StateWorkers:
             self.workers.remove(worker)
 
     def read_last(self, worker: Worker) -> None:
-        """Takes the outcomes that a process has written by now. Faults are passed over: one is
-        known already, or comes from the end itself."""
+        """Takes the outcomes that a process has written by now, without waiting. Faults are passed
+        over: one is known already, or the end itself is the cause."""
         os.set_blocking(worker.pipe, False)
         try:
             while self.read_outcomes(worker):
@@ -236,7 +245,8 @@ class StateWorkers:
 
 
 def fields_of_fault(fault: BaseException) -> Dict[str, Any]:
-    """A fault as JSON, for fault_of_fields in another process."""
+    """A fault as JSON, for fault_of_fields() in another process. Of types other than OSError,
+    ProgramFault and Refused only the text is kept."""
     if isinstance(fault, OSError) and fault.errno is not None:
         return {'fault': 'os', 'what': [fault.errno, fault.strerror, fault.filename]}
     if isinstance(fault, ProgramFault):
@@ -246,7 +256,8 @@ def fields_of_fault(fault: BaseException) -> Dict[str, Any]:
 
 
 def fault_of_fields(fields: Dict[str, Any]) -> Exception:
-    """The fault of another process; one of an unknown type is a RuntimeError."""
+    """The fault that another process reported, of the same type if that is OSError, ProgramFault or
+    Refused; else a RuntimeError."""
     what = fields['what']
     if fields['fault'] == 'os':
         return OSError(*what)

@@ -30,37 +30,39 @@ class AllSets(Protocol):
 
     @property
     def are_read(self) -> bool:
-        """Whether the second reading found them: ask after different_sets()."""
+        """Whether the second reading found them. This is known after different_sets()."""
 
     def count_sets(self) -> Optional[int]:
-        """How many they are; None if they are too many to count."""
+        """How many they are; None if they are too many to count. Call it after different_sets()."""
 
     def different_sets(self, most: int) -> Optional[List[int]]:
-        """The first set of each different state; None if there are more than `most` of these."""
+        """A set for each different state, the first of those that leave it; None if there are more
+        than `most` states."""
 
     def drawn_sets(self, count: int, seed: int) -> Optional[List[int]]:
-        """So many sets, drawn at random, the same ones for each seed; None if all are too many to
-        count."""
+        """`count` sets, drawn at random, each time from all: a set may come several times. The same
+        seed draws the same ones. None if the sets are too many to count."""
 
 
 def all_sets(program: Crashfs, environment: Dict[str, str], read: ReadSets) -> AllSets:
-    """The sets by the program, if it lists them in time, else by the second reading of the same
-    trace, which is `read`."""
+    """The sets of a trace: by the program if it lists them, and in time; else by the second reading
+    of the trace, which is `read`."""
     if program.unproved or not is_for_program(read.reading):
         return read
     return ProgramSets(program, environment, read)
 
 
 def is_for_program(reading: Reading) -> bool:
-    """Whether the program finds the sets that a check wants, and in time: the bytes with which
-    files are made are at most START_BYTES, and the version has ACKNOWLEDGED_FIRST."""
+    """Whether the program finds the sets that a check tries, and in time: the start tree's files
+    have at most START_BYTES together, and the version is at least ACKNOWLEDGED_FIRST."""
     is_small = sum(data.length for data in reading.made_data.values()) <= START_BYTES
     return is_small and reading.version >= ACKNOWLEDGED_FIRST
 
 
 class ProgramSets:
-    """By the program's `picks`. What it refuses as an unknown option is done by the second reading:
-    to ask for its options first would be one more start."""
+    """The sets by the program's `picks`. If the program doesn't know an option of it, the second
+    reading answers: to ask first which options it has would be one more start of it. A ProgramFault
+    of another kind is raised."""
 
     def __init__(self, program: Crashfs, environment: Dict[str, str], read: ReadSets) -> None:
         self.program = program
@@ -69,16 +71,16 @@ class ProgramSets:
         self.are_read = False
 
     def count_sets(self) -> Optional[int]:
-        """How many they are, by the program that listed them, or the second reading if it did; None
-        if they are too many to count."""
+        """How many sets the rules allow, by the program, or by the second reading if
+        different_sets() needed it. None if they are too many to count."""
         if self.are_read:
             return self.read.count_sets()
         lines = self.printed_lines(['--every', '--count'])
         return int(lines[0]) if lines and lines[0].strip().isdigit() else None
 
     def different_sets(self, most: int) -> Optional[List[int]]:
-        """The first set of each different state, by the program, or by the second reading if the
-        program has no such option; None if there are more than `most`."""
+        """Asks `picks --every --different`. If the program doesn't know these options, the second
+        reading answers, and are_read is True from then on."""
         try:
             return self.printed_sets(['--every', '--different', '--most', str(most)])
         except ProgramFault as fault:
@@ -88,8 +90,8 @@ class ProgramSets:
         return self.read.different_sets(most)
 
     def drawn_sets(self, count: int, seed: int) -> Optional[List[int]]:
-        """So many sets, drawn by the program, or by the second reading if the program has no such
-        option; None if all are too many to count."""
+        """Asks `picks --sample`, or the second reading if the program doesn't know that option:
+        are_read doesn't show this."""
         try:
             return self.printed_sets(['--sample', str(count), '--seed', str(seed)])
         except ProgramFault as fault:
@@ -98,14 +100,14 @@ class ProgramSets:
         return self.read.drawn_sets(count, seed)
 
     def printed_sets(self, options: List[str]) -> Optional[List[int]]:
-        """The sets that `picks` prints for some options; None if it says that they are too many.
-        PlanError for a line that is no set, and a ProgramFault as printed_lines raises it."""
+        """The sets that `picks` prints for some options; None if it reports that they are too many.
+        PlanError for a line that is no set, and a ProgramFault as printed_lines() raises it."""
         lines = self.printed_lines(options)
         return None if lines is None else [set_of_line(line) for line in lines]
 
     def printed_lines(self, options: List[str]) -> Optional[List[str]]:
-        """The lines that `picks` prints for some options; None if it says that the sets are too
-        many. ProgramFault if it fails otherwise, also if it doesn't know an option."""
+        """The lines that `picks` prints for some options; None if it reports that the sets are too
+        many. ProgramFault for any other fault, also an option that the program doesn't know."""
         words = ['picks', '--trace', self.read.trace, *options]
         try:
             return self.program.output_of(words, self.environment).splitlines()
@@ -125,8 +127,9 @@ def set_of_line(line: str) -> int:
 
 
 class ReadSets:
-    """By the second reading, in this process. Acknowledged lines come first in older traces too: a
-    program prints a line before it continues."""
+    """The sets by the second reading, in this process. In older traces too it finds no set that
+    lacks an acknowledged line and has something after it: a program prints a line before it
+    continues."""
 
     are_read = True
 
@@ -140,7 +143,8 @@ class ReadSets:
 
     @cached_property
     def orders(self) -> Dict[str, Order]:
-        """The order that a file system of each profile keeps, by the profile's name."""
+        """The order that a file system of each profile keeps, by the profile's name. In it
+        acknowledged lines come first, also in older traces."""
         from crashfs_tools.reading.order import orders_in
 
         orders = orders_in(self.reading)
@@ -150,8 +154,8 @@ class ReadSets:
 
     @cached_property
     def plan(self) -> StateList:
-        """The order and the trees of the trace, in a plan without states. Its order is the trace's
-        own, also where `orders` put acknowledged lines first."""
+        """The order and the trees of the trace, in a list without states. Its order is the trace's
+        own: in older traces acknowledged lines don't come first in it."""
         from crashfs_tools.reading import StateList
 
         return StateList(self.reading)
@@ -162,24 +166,25 @@ class ReadSets:
         return Needs([mask | 1 << place for place, mask in enumerate(self.plan.order.needs)])
 
     def has_pending(self, count: int) -> bool:
-        """Whether one of the first so many micro-operations isn't durable before the next one;
-        acknowledged lines needn't be."""
+        """Whether one of the first `count` micro-operations isn't durable yet when the next one
+        comes. Acknowledged lines don't count."""
         return self.plan.order.pending(count) & ~self.plan.trees.says != 0
 
     def profile_bits_of(self, sets: Iterable[int]) -> List[int]:
-        """For each set the profiles that allow it, as bits: bit k is the k-th name of `orders`."""
+        """For each set, in their order, the profiles that allow it, as bits: bit k is the k-th name
+        of `orders`."""
         from crashfs_tools.reading.order import Profiles
 
         profiles, names = Profiles(self.reading), list(self.orders)
         return [set_of(map(names.index, profiles.names(kept))) for kept in sets]
 
     def order(self, profile: str = '') -> Order:
-        """The order of a profile, or that of the trace's own profile; KeyError for a profile that
-        the trace hasn't."""
+        """The order of the profile of a name, or of the trace's own profile if that is empty;
+        KeyError for a profile that the trace doesn't have."""
         return self.orders[profile or self.reading.profile]
 
     def count_sets(self) -> Optional[int]:
-        """How many the trace's own profile allows; None if they are too many to count."""
+        """How many sets the trace's own profile allows; None if they are too many to count."""
         from crashfs_tools.reading.every import count_sets
         from crashfs_tools.reading.faults import ReadingFault
 
@@ -189,8 +194,8 @@ class ReadSets:
             return None
 
     def different_sets(self, most: int, profile: str = '') -> Optional[List[int]]:
-        """The first set of each different state of those that a profile allows, or the trace's own;
-        None if there are more than `most`."""
+        """As AllSets says, of the sets that the profile of a name allows, by default the trace's
+        own. KeyError for a profile that the trace doesn't have."""
         from crashfs_tools.reading.classes import Classes
 
         members = Classes(self.reading, self.order(profile)).different()
@@ -198,8 +203,7 @@ class ReadSets:
         return found if len(found) <= most else None
 
     def drawn_sets(self, count: int, seed: int) -> Optional[List[int]]:
-        """So many sets, drawn at random, the same ones for each seed; None if all are too many to
-        count."""
+        """Sets as AllSets says, drawn from those that the trace's own profile allows."""
         from crashfs_tools.reading.every import drawn_sets
         from crashfs_tools.reading.faults import ReadingFault
 

@@ -8,8 +8,9 @@ from .plan import Plan, State
 
 
 def joined_states(trace: str, plan: Plan) -> List[State]:
-    """The listed states of a plan in which `same` is the first equal state of all parts, found by
-    the second reading of the trace at a path."""
+    """The listed states of a plan, each with `same` as the first state with an equal tree in any
+    part. The second reading of the trace at a path compares the trees; ReadingFault if it refuses
+    the trace."""
     from crashfs_tools.reading import read
     from crashfs_tools.reading.states import Digest, States
 

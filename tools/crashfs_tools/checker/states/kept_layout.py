@@ -17,8 +17,8 @@ from .plan import Planned
 
 
 class KeptLayout(Archive):
-    """Each process that calls states() has one directory below the folder, `directory`, which is
-    None before."""
+    """Lays all states out in one directory of each process that calls states(). `directory` is None
+    before that call."""
 
     def __init__(
         self, program: Crashfs, planned: Planned, folder: str, environment: Dict[str, str]
@@ -31,8 +31,9 @@ class KeptLayout(Archive):
         self.directory: Optional[KeptTree] = None
 
     def states(self, wanted: Set[int]) -> Iterator[Tuple[int, str]]:
-        """Yields the same directory for each state, changed to its tree. In the end it is
-        removed."""
+        """Yields the path of the process's directory for each state, changed to its tree. The path
+        is the same each time, unless an earlier directory couldn't be removed. In the end, also
+        after an exception, the directory is removed."""
         own = self.directory = KeptTree(os.path.join(self.folder, f'kept-{os.getpid()}'))
         try:
             for number, tree in self.changed_trees(wanted):
@@ -43,15 +44,15 @@ class KeptLayout(Archive):
 
     @contextmanager
     def laid_out(self, number: int, directory: str) -> Iterator[None]:
-        """Notes that COMMAND may change the directory from here on. It stays: the next state
-        changes it."""
+        """Notes that COMMAND may change the directory from here on. The directory stays afterwards,
+        as COMMAND left it: the next state changes it. states() must have yielded."""
         assert self.directory is not None
         self.directory.note_start()
         yield
 
     def changed_trees(self, wanted: Set[int]) -> Iterator[Tuple[int, Entries]]:
-        """The trees of the wanted states, by their numbers, with their roots: the start tree with
-        what each changes. ProgramFault, at the end, if the program lacks one."""
+        """Yields the tree of each wanted state, with its number and its root: the start tree with
+        the state's changes. ProgramFault, at the end, if the program failed or lacks one."""
         left = set(wanted)
         for request in self.planned.requests(wanted):
             words = [*request.words, '--changes']

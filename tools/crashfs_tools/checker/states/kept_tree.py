@@ -39,7 +39,8 @@ RIGHTS = 5
 
 
 class Laid(NamedTuple):
-    """A file as it was written. attributes are the names of the extended ones of a large file."""
+    """A file as it was written. attributes are the names of its extended attributes; of a small
+    file, which is never changed in place, they aren't read."""
 
     entry: Entry
     signature: Signature
@@ -47,14 +48,17 @@ class Laid(NamedTuple):
 
 
 class Unchangeable(Exception):
-    """A directory has what no change can take from it: extended attributes, or a mount."""
+    """A directory can't be changed to a tree: it has extended attributes, a mount, or something
+    that can't be removed."""
 
 
 class KeptTree:
     """The directory of one process. Call change_to() for each tree, and note_start() before COMMAND
-    starts: files that are younger count as changed by COMMAND."""
+    starts: files that are as young as that count as changed by COMMAND. `directory` is another path
+    if an earlier one couldn't be removed."""
 
     def __init__(self, directory: str) -> None:
+        """Makes nothing yet. The first change_to() removes what is at the directory's path."""
         self.directory = directory
         self.mounts = MountTable()
         # Whether the directory has the last tree, but for what COMMAND changed.
@@ -73,7 +77,8 @@ class KeptTree:
 
     def change_to(self, tree: Mapping[str, Entry]) -> None:
         """Gives the directory a tree, whose paths are relative, the root's empty: by changes or, if
-        something can't be changed, from scratch in a new directory."""
+        something can't be changed, from scratch in a new directory. OSError if that can't be made
+        or filled; the next call begins from scratch then."""
         if self.is_whole:
             try:
                 self.change(tree)
@@ -90,19 +95,20 @@ class KeptTree:
         time.sleep(TICK_SECONDS)
 
     def note_start(self) -> None:
-        """Notes the time: COMMAND starts after this."""
+        """Notes the time at which COMMAND starts. What is written in this tick of the clock of
+        files, or later, counts as changed by it."""
         self.started = time.clock_gettime_ns(REALTIME_COARSE)
 
     def remove(self) -> None:
-        """Removes the directory. If some of it stays, the next tree gets a directory with another
-        path."""
+        """Removes the directory. If some of it can't be removed, the next tree gets a directory
+        with another path."""
         if not remove_tree(self.directory):
             self.directory = unused_path(self.directory)
         self.is_whole, self.files = False, {}
 
     def change(self, tree: Mapping[str, Entry]) -> None:
-        """Changes what differs from the tree. Unchangeable, or an OSError, if something can't be
-        changed: the directory is then in between."""
+        """Changes in the directory what differs from the tree. Unchangeable, or an OSError, if
+        something can't be changed: the directory then has neither the old tree nor the new one."""
         if self.mounts.below(self.directory):
             raise Unchangeable
         self.there, self.modes = {''}, {}
@@ -125,9 +131,10 @@ class KeptTree:
             os.umask(umask)
 
     def clear(self, at: int, path: str, tree: Mapping[str, Entry]) -> None:
-        """Removes what differs from the tree below a path, whose directory is open as `at`, and all
-        symbolic links. Files that stay are noted as there. Unchangeable if a directory has a mount
-        or extended attributes."""
+        """Removes below a path, whose directory is open as `at`, what the tree doesn't have or must
+        have made again, and all symbolic links. A large file may get its new bytes in place. What
+        stays is added to `there`. Unchangeable if something can't be removed, or if a directory has
+        other extended attributes than a new one."""
         if attributes_of(at) != self.attributes:
             raise Unchangeable
         with os.scandir(at) as entries:
@@ -153,8 +160,8 @@ class KeptTree:
     def clear_directory(
         self, at: int, name: str, path: str, status: os.stat_result, tree: Mapping[str, Entry]
     ) -> None:
-        """Clears a directory that the tree has, by its name below an open one; path is the whole
-        one."""
+        """Clears a directory that the tree has too, and adds it to `there`. name is its name below
+        the open directory `at`, path its whole path."""
         self.open_up(path, name, at, status)
         below = os.open(name, FOLDER, dir_fd=at)
         try:
@@ -164,8 +171,9 @@ class KeptTree:
         self.there.add(path)
 
     def open_up(self, path: str, name: str, at: Optional[int], status: os.stat_result) -> None:
-        """Gives a directory the rights that changes need, and notes its mode by its path; name is
-        that below `at`."""
+        """Gives a directory the rights that changes need, if it lacks them, and notes the mode that
+        it has then by its path. name is its name below the open directory `at`, or its path if that
+        is None."""
         mode = stat.S_IMODE(status.st_mode)
         if mode & FILLED_MODE != FILLED_MODE:
             set_folder_mode(name, FILLED_MODE, at)
@@ -173,21 +181,24 @@ class KeptTree:
         self.modes[path] = mode
 
     def has_file(self, at: int, path: str, wanted: Entry, status: os.stat_result) -> bool:
-        """Whether the file of a path is still as it was written, and is as wanted; `at` is its open
-        directory, status what lstat says of it."""
+        """Whether the file of a path is still as it was written, and as it is wanted. `at` is its
+        open directory, and status its own, by lstat. Its bytes are read only if the file system's
+        times don't show each store."""
         laid = self.files.get(path)
         if laid is None or laid.entry != wanted or not self.is_as_laid(laid, status):
             return False
         return self.has_times or bytes_of(at, path.rpartition('/')[2]) == wanted.data
 
     def is_as_laid(self, laid: Laid, status: os.stat_result) -> bool:
-        """Whether a file is as it was written, except for stores that its times don't show."""
+        """Whether a file has the status with which it was written, in a tick of the clock before
+        COMMAND started. On some file systems its bytes may differ nevertheless."""
         return laid.signature == signature_of(status) and status.st_ctime_ns < self.started
 
     def change_bytes(self, at: int, path: str, wanted: Entry, status: os.stat_result) -> bool:
         """Gives a large file its wanted bytes in place; `at` is its open directory. Returns False,
-        and changes nothing, if it must be made again: COMMAND replaced it, or changed more than its
-        bytes, or it is small."""
+        and changes nothing, if the file must be made again: COMMAND replaced it or changed more
+        than its bytes, its mode must change, it is small, or the file system's times don't show
+        each store."""
         laid = self.files.get(path)
         if (
             not self.has_times
@@ -212,8 +223,8 @@ class KeptTree:
         return True
 
     def make_entry(self, at: int, path: str, one: Entry) -> None:
-        """Makes the file or directory of a path below the open root, and notes what it made;
-        nothing for a symbolic link."""
+        """Makes the file or directory of a path below the open root, and notes what it made.
+        Nothing is made for a symbolic link. FileExistsError if something is there."""
         if one.data is None:
             if one.is_directory:
                 os.mkdir(path, FILLED_MODE, dir_fd=at)
@@ -228,27 +239,29 @@ class KeptTree:
             os.close(file)
 
     def set_modes(self, at: int, tree: Mapping[str, Entry]) -> None:
-        """Gives the directories their modes: inner ones before outer ones, since modes may forbid
-        what is done below."""
+        """Gives the directories the modes of the tree: inner ones before outer ones, since a mode
+        may forbid changes below."""
         changed = [path for path, mode in self.modes.items() if tree[path].mode != mode]
         for path in sorted(changed, reverse=True):
             set_folder_mode(path or '.', tree[path].mode, at)
 
 
 def links_of(tree: Mapping[str, Entry]) -> Iterator[Tuple[str, str]]:
-    """The symbolic links with their targets."""
+    """The path and the target of each symbolic link of a tree."""
     for path, one in tree.items():
         if one.link is not None:
             yield path, one.link
 
 
 def is_large(entry: Entry) -> bool:
-    """Whether a file is changed in place, not made again."""
+    """Whether a file has so many bytes that it is changed in place, not made again; never for a
+    directory or a link."""
     return len(entry.data or b'') >= LARGE_BYTES
 
 
 def signature_of(status: os.stat_result) -> Signature:
-    """What shows that a file was changed: first the RIGHTS numbers that its bytes don't change."""
+    """Numbers of a file's status that show a change of it. The first RIGHTS of them stay the same
+    if only its bytes are changed."""
     return (
         status.st_ino,
         status.st_mode,
@@ -262,8 +275,8 @@ def signature_of(status: os.stat_result) -> Signature:
 
 
 def bytes_of(at: int, name: str) -> Bytes:
-    """The bytes of the file of a name in an open directory, which isn't followed if it is a link
-    (OSError)."""
+    """The bytes of a file by its name in an open directory; OSError if it can't be read, or is a
+    symbolic link."""
     file = os.open(name, os.O_RDONLY | os.O_NOFOLLOW | os.O_CLOEXEC, dir_fd=at)
     try:
         return file_bytes(file)
@@ -273,7 +286,7 @@ def bytes_of(at: int, name: str) -> Bytes:
 
 def attributes_of(file: Union[str, int]) -> List[str]:
     """The names of the extended attributes of a file or directory, by its path or descriptor; none
-    if the file system has no such thing."""
+    if they can't be read, as on a file system that has none."""
     try:
         return os.listxattr(file)
     except OSError:
@@ -282,7 +295,7 @@ def attributes_of(file: Union[str, int]) -> List[str]:
 
 def file_system_of(path: str) -> str:
     """The type of the file system that has a path, as mountinfo names it; an empty text if it names
-    none."""
+    none. OSError if nothing is there."""
     device = os.stat(path).st_dev
     wanted = f'{os.major(device)}:{os.minor(device)}'
     try:

@@ -20,7 +20,7 @@ from typing import (
     TypeVar,
 )
 
-from crashfs_tools.common.archive import Member
+from crashfs_tools.common.archive import Member, number_of_state
 from crashfs_tools.common.entry import Entry
 from crashfs_tools.common.removal import FOLDER, remove_tree, set_folder_mode
 from crashfs_tools.common.program import Crashfs, ProgramFault, first_name
@@ -47,7 +47,8 @@ class Layout(ABC):
     @abstractmethod
     def states(self, wanted: Set[int]) -> Iterator[Tuple[int, str]]:
         """Yields each wanted state with the path of its directory, in ascending order. Within
-        laid_out() the directory has the tree. ProgramFault if the program lacks a state."""
+        laid_out() the directory has the tree. If the program lacks a state: a ProgramFault here, or
+        a Refused there."""
 
     @abstractmethod
     def laid_out(self, number: int, directory: str) -> ContextManager[None]:
@@ -75,13 +76,14 @@ class Archive(Layout):
 
     @contextmanager
     def laid_out(self, number: int, directory: str) -> Iterator[None]:
-        """The tree is there already: the directory is only removed."""
+        """Within this the directory, which has its tree already, stays as it is. Then it is
+        removed, but for what can't be; after an exception it stays."""
         yield
         remove_tree(directory)
 
     def states(self, wanted: Set[int]) -> Iterator[Tuple[int, str]]:
-        """Each directory has its tree already: an archive is read as fast as states are taken.
-        ProgramFault if the program lacks one."""
+        """Yields directories that have their trees already, each made when it is asked for.
+        ProgramFault, after the others, if the program lacks a state."""
         if self.kept is None:
             yield from read_trees(
                 self.program, self.planned, wanted, self.environment, self.make_directory
@@ -92,7 +94,8 @@ class Archive(Layout):
             yield number, self.make_directory(number, tree)
 
     def make_directory(self, number: int, tree: Iterable[Member]) -> str:
-        """Makes the directory of a state, with its tree, and returns its path."""
+        """Makes the directory of a state, with its tree, and returns its path: the number, with a
+        `+` at its end if something is there that wasn't removed."""
         directory = unused_path(os.path.join(self.folder, str(number)))
         lay_out(directory, tree)
         return directory
@@ -106,13 +109,14 @@ def read_trees(
     take: Callable[[int, Iterable[Member]], Taken],
 ) -> Iterator[Tuple[int, Taken]]:
     """Yields each wanted state of a plan, ascending, with what `take` returns for its number and
-    tree; `take` reads the tree to its end. Paths are below the state's directory. ProgramFault, at
-    the end of an archive, if the program failed or lacks a state."""
+    tree. `take` must read the tree to its end; the paths are relative, the root's is empty.
+    ProgramFault for an entry that is in no state, and, at the end of an archive, if the program
+    failed or lacks a state."""
     left = set(wanted)
     for request in planned.requests(wanted):
         with program.archive(request.words, environment) as members:
             for top, tree in groupby(members, first_name):
-                number = int(top) + request.lead
+                number = number_of_state(top) + request.lead
                 if number in left:
                     left.remove(number)
                     below = ((path[len(top) + 1 :], entry) for path, entry in tree)
@@ -122,15 +126,15 @@ def read_trees(
 
 
 def is_small(plan: Plan) -> bool:
-    """Whether a plan has at most MOST_TREES different trees."""
+    """Whether a plan has at most MOST_TREES different trees, so that they may be kept in memory."""
     return len({state.same for state in plan.listed}) <= MOST_TREES
 
 
 def trees_of_small_plan(
     program: Crashfs, planned: Planned, environment: Dict[str, str]
 ) -> Optional[TreesByState]:
-    """All trees of a plan; None if they are too many, or have too many bytes, to be kept.
-    ProgramFault if the program lacks one."""
+    """All trees of a plan, each by the first state that has it. None if they are too many, or have
+    too many bytes, to be kept. ProgramFault if the program lacks one."""
     if not is_small(planned.plan):
         return None
     trees: TreesByState = {}
@@ -154,8 +158,8 @@ def unused_path(path: str) -> str:
 def lay_out(directory: str, tree: Iterable[Member]) -> None:
     """Makes a directory with a tree. Paths are relative, the root's is empty, and a directory comes
     before what is in it. Symbolic links are made after all else, so that nothing is made through
-    one; directories get their modes last, inner ones first, since modes may forbid what is done
-    below."""
+    one; directories get their modes last, inner ones first, since modes may forbid changes below.
+    After an error what was made stays, and directories may have FILLED_MODE."""
     os.mkdir(directory, FILLED_MODE)
     umask = os.umask(0)
     try:
@@ -179,8 +183,8 @@ def lay_out(directory: str, tree: Iterable[Member]) -> None:
 
 
 def make_entry(path: str, entry: Entry, at: int) -> None:
-    """Makes a file or directory below an open directory; nothing for the root or a symbolic
-    link."""
+    """Makes a file or directory below an open directory, a directory with FILLED_MODE for now.
+    Nothing is made for the root or a symbolic link."""
     if entry.data is not None:
         write_file(path, entry.mode, entry.data, at)
     elif path and entry.is_directory:
@@ -195,8 +199,8 @@ def make_links(links: Iterable[Tuple[str, str]], at: int) -> None:
 
 
 def write_file(path: str, mode: int, data: Bytes, at: int) -> None:
-    """Makes a file of a path below an open directory, with its mode and bytes; FileExistsError if
-    something is there."""
+    """Makes a file of a path below an open directory, with its bytes, and its mode but for the bits
+    of the umask. FileExistsError if something is there, also a link."""
     file = os.open(path, NEW_FILE, mode, dir_fd=at)
     try:
         write_all(file, data)

@@ -18,12 +18,13 @@ SECONDS = 60
 
 
 class Mounts(Layout):
-    """Mounts each state in a run of its own, whose name no other check has."""
+    """Mounts each state below a folder, as a run of its own, whose name no other check has."""
 
     def __init__(
         self, address: Address, uname: str, folder: str, environment: Dict[str, str]
     ) -> None:
-        """uname is the user who attaches; Refused if it has a comma, or if the host isn't known."""
+        """uname is the user who attaches. Refused if it has a comma, or if the host isn't known.
+        The environment is that of the commands that mount."""
         if ',' in uname:
             raise Refused(f'--uname {uname}: no mount can have a name with a comma')
         self.address = address
@@ -34,14 +35,17 @@ class Mounts(Layout):
         self.run = f'check-{os.urandom(8).hex()}'
 
     def states(self, wanted: Set[int]) -> Iterator[Tuple[int, str]]:
-        """Yields paths below the folder at which nothing is yet: laid_out() makes them."""
+        """Yields a path below the folder for each wanted state, ascending: laid_out() makes it. The
+        server isn't asked here: if it lacks a state, laid_out() raises Refused."""
         os.makedirs(self.folder, exist_ok=True)
         for number in sorted(wanted):
             yield number, os.path.join(self.folder, str(number))
 
     @contextmanager
     def laid_out(self, number: int, directory: str) -> Iterator[None]:
-        """Within this a state's run is mounted at the directory."""
+        """Within this a state's run is mounted at the directory, which is made for it and removed
+        afterwards. Refused if it can't be mounted, or stays mounted; the directory stays then, as
+        after any exception."""
         os.mkdir(directory)
         self.mount(f'{number}/{self.run}', directory)
         try:
@@ -66,15 +70,15 @@ class Mounts(Layout):
         return ['mount', '-t', '9p', '-o', ','.join(options), self.host, directory]
 
     def mount(self, name: str, directory: str) -> None:
-        """Mounts the run of a name; Refused if that fails."""
+        """Mounts the run of a name at an empty directory; Refused if that fails."""
         fault = fault_of(self.mount_words(name, directory), directory, self.environment)
         if fault:
             raise Refused(f'no mount of {name} from {self.address}: {fault} ({NEEDS})')
 
     def unmount(self, directory: str) -> None:
-        """Unmounts a state: lazily if a process that COMMAND left behind is still in it. The
-        command doesn't have the check's environment, by which the guard finds processes to end: it
-        must run to its end also if the check is stopped. Refused if it stays mounted."""
+        """Unmounts a state, lazily if a process that COMMAND left behind still uses it; Refused if
+        it stays mounted. The command must run to its end also if the check is stopped: it doesn't
+        have the check's environment, by which the guard finds processes to end."""
         environment = dict(os.environ)
         fault = fault_of(['umount', directory], directory, environment)
         if fault and fault_of(['umount', '-l', directory], directory, environment):
@@ -84,7 +88,7 @@ class Mounts(Layout):
 def fault_of(words: List[str], directory: str, environment: Dict[str, str]) -> str:
     """Runs a command about a directory, in a session of its own, so that Ctrl-C doesn't end it
     half-way. Returns an empty text if it succeeds, else a line that says why not, without the
-    directory's name."""
+    directory's name: also if there is no such command, or after SECONDS, when it is killed."""
     try:
         ran = subprocess.run(
             words,

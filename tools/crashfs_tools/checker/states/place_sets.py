@@ -18,7 +18,7 @@ def set_of(places: Iterable[int]) -> int:
 
 
 def places_of(members: int) -> Iterator[int]:
-    """The places of a set, ascending."""
+    """The places of a set, ascending. The set must not be below 0."""
     while members:
         lowest = members & -members
         yield lowest.bit_length() - 1

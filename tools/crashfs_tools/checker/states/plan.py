@@ -17,8 +17,8 @@ class PlanError(Exception):
 
 
 class MicroOperation(NamedTuple):
-    """A micro-operation by its place in the session. path is that of its file or entry; rest has
-    its details as text, and line is that of the session's trace."""
+    """A micro-operation by its place in the session. path is that of its file or entry, empty if it
+    has none; rest has its details as text, and line is that of the session's trace."""
 
     place: int
     kind: str
@@ -58,9 +58,9 @@ class State(NamedTuple):
 
 
 class Offsets(NamedTuple):
-    """What of a session comes before a plan: so many states, micro-operations and acknowledged
-    lines. lines has the session's line of each line of the plan's trace, or is empty if they are
-    the same."""
+    """How many states, micro-operations and acknowledged lines of a session come before a plan.
+    lines has the session's line of each line of the plan's trace, or is empty if they are the
+    same."""
 
     states: int = 0
     operations: int = 0
@@ -68,11 +68,14 @@ class Offsets(NamedTuple):
     lines: Tuple[int, ...] = ()
 
     def session_line(self, number: int) -> int:
-        """The line of the session that is a line of the plan's trace."""
+        """The number of the session's line that a line of the plan's trace, by its number from 1,
+        comes from."""
         return self.lines[number - 1] if self.lines else number
 
     def by_own_lines(self, values: Dict[int, str]) -> Dict[int, str]:
-        """Values by the trace's own lines: by the last one for each line of the session."""
+        """Values that are by lines of the session, by lines of the plan's trace: of several that
+        come from one line of the session, by the last. Lines that the plan's trace doesn't have are
+        left out."""
         if not self.lines:
             return values
         own = {line: number for number, line in enumerate(self.lines, 1)}
@@ -80,10 +83,11 @@ class Offsets(NamedTuple):
 
 
 class AllStates(NamedTuple):
-    """What is known of all crash states of a trace: how many sets its rules allow, None if they are
-    too many to be counted; whether the plan has each different state, if these are at most `most`;
-    whether the second reading found the sets. The first states of the plan, so many, are families.
-    drawn are the states that were drawn at random, in their order."""
+    """What is known of all crash states of a trace. sets: how many sets its rules allow, None if
+    they are too many to be counted. are_listed: whether the plan has each different state; it has
+    them if these are at most `most`. are_read: whether the second reading found the sets. families:
+    so many of the plan's first states are those of families. drawn: the numbers of the states that
+    were drawn at random, in their order."""
 
     sets: Optional[int]
     are_listed: bool
@@ -107,7 +111,7 @@ class Needs:
         return by < len(self.masks) and bool(self.masks[by] >> earlier & 1)
 
     def set_needing(self, place: int) -> int:
-        """The set of the micro-operations that need one, itself among them."""
+        """The set of the micro-operations that need the one at a place, itself among them."""
         if place not in self._needing:
             later = range(place + 1, len(self.masks))
             self._needing[place] = set_of(
@@ -121,7 +125,8 @@ class Needs:
         return (1 << len(self.masks)) - 1
 
     def sets_without_lines(self, lines: Iterable[int]) -> List[int]:
-        """The largest allowed set that has nothing of each line, which `lines` has by places."""
+        """For each line the largest allowed set that has no micro-operation of it, in the order in
+        which the lines begin. `lines` has the line of each place."""
         lost: Dict[int, int] = {}
         for place, line in enumerate(lines):
             lost[line] = lost.get(line, 0) | self.set_needing(place)
@@ -134,7 +139,7 @@ class Needs:
         return sum(place + 1 - size_of(mask) for place, mask in enumerate(self.masks))
 
     def is_prefix_or_hole(self, kept: int) -> bool:
-        """Whether a set is that of a prefix or of a hole."""
+        """Whether an allowed set is what a prefix keeps, or what a hole of a plan does."""
         lacking = lacking_of(kept)
         first = next(places_of(lacking), None)
         return first is None or lacking == self.set_needing(first) & (1 << kept.bit_length()) - 1
@@ -157,8 +162,8 @@ class SetProfiles(NamedTuple):
 class Plan:
     """The micro-operations, the states of crashes, and what each state keeps. first is the number
     of the first listed state; the others follow it. kept has the set of each listed state, by its
-    number, and states those of the listed ones that may be tried. all_states is None if only
-    families of states were asked for."""
+    number. states are the listed ones that may be tried: a crash may leave them, also under the
+    profile that is wanted. all_states is None if only families of states were asked for."""
 
     def __init__(
         self,
@@ -169,6 +174,8 @@ class Plan:
         all_states: Optional[AllStates] = None,
         profiles: SetProfiles = SetProfiles(),
     ) -> None:
+        """The profiles are those of each listed state, or of none: then profile_names_of() names
+        none, and no profile may be wanted."""
         assert len(profiles.of_sets) in (0, len(listed))
         self.all_states = all_states
         self.profiles = profiles
@@ -187,26 +194,31 @@ class Plan:
         ]
 
     def profiles_of_trials(self) -> Dict[Trial, int]:
-        """For each trial, as bits, the profiles that allow one of the sets that leave it."""
+        """For each trial the profiles that allow it, as bits: it is enough if they allow one of the
+        listed sets that leave it. Empty if the profiles of the sets aren't known."""
         found: Dict[Trial, int] = {}
         for state, profiles in zip(self.listed, self.profiles.of_sets):
             found[state.trial] = found.get(state.trial, 0) | profiles
         return found
 
     def profile_names_of(self, state: State) -> List[str]:
-        """The names of the profiles under whose rules a crash may leave what a state leaves."""
+        """The names of the profiles under which a crash may leave the tree and the acknowledged
+        lines of a state, by its own set or by that of an equal listed state. No names if the
+        profiles aren't known."""
         bits = self._profiles.get(state.trial, 0)
         return [name for place, name in enumerate(self.profiles.names) if bits >> place & 1]
 
     def with_states(
         self, listed: List[State], all_states: Optional[AllStates], profiles: SetProfiles
     ) -> Plan:
-        """The same plan with these listed states, their profiles, and what is known of all."""
+        """A plan with the same micro-operations and the same first number, but these listed states,
+        the profiles of each of them in this order, and this knowledge of all crash states."""
         return Plan(self.operations, listed, self.needs, self.first, all_states, profiles)
 
     @property
     def families(self) -> List[State]:
-        """The first listed states; all if only families were asked for."""
+        """The listed states of families, which come first; all listed states if only families were
+        asked for."""
         return self.listed[: self.all_states.families] if self.all_states else self.listed
 
     @property
@@ -223,13 +235,13 @@ class Plan:
         return self.listed[number - self.first]
 
     def state_text(self, state: State) -> str:
-        """Which state it is, by the session's places of its numbers; those of a pick, of which
-        there may be hundreds, aren't shown."""
+        """A state in words, such as `hole 1 5`: its family, and its numbers as places in the
+        session. Of a pick, which may have hundreds, no number is shown."""
         shown = ' '.join(str(self.first_place + number) for number in state.numbers)
         return 'a pick' if state.family == 'pick' else f'{state.family} {shown}'
 
     def set_kept_by(self, state: State) -> int:
-        """The set of the micro-operations that a state has, by its family and numbers."""
+        """The set of the places of the plan that a state has, by its family and numbers."""
         if state.family == 'pick':
             return set_of(state.numbers)
         if state.family == 'prefix':
@@ -238,8 +250,9 @@ class Plan:
         return (1 << end) - 1 & ~self.needs.set_needing(lost)
 
     def may_be_left(self, kept: int) -> bool:
-        """Whether a crash may leave a set: no member comes after an acknowledged line that it
-        lacks. Traces of version 3 on have no other sets."""
+        """Whether no member of a set comes after an acknowledged line that it lacks: a program
+        prints a line before it continues. In traces of version 3 on no allowed set has such a
+        member."""
         lost_says = self.say_places & ~kept
         first_lost = lost_says & -lost_says
         return first_lost == 0 or kept < first_lost
@@ -280,19 +293,22 @@ class Planned:
     is_last: bool = True
 
     def part_text(self) -> str:
-        """Which part of the session it is, before a colon; an empty text if it is the whole."""
+        """Which micro-operations of the session it has, as the beginning of a line, with a colon;
+        an empty text if it has the whole session."""
         begin = self.offsets.operations
         if self.is_last and begin == 0:
             return ''
         return f'micro-operations {begin:,} to {begin + len(self.plan.operations) - 1:,}: '
 
     def files(self) -> List[str]:
-        """The files that it is made from: the trace, and the picks of its parts."""
+        """The paths of the files that it is made from: the trace, which is the user's own if the
+        session isn't in windows, and the picks of its parts."""
         pairs = (pair for part in self.parts for pair in zip(part.words, part.words[1:]))
         return [self.trace, *(path for option, path in pairs if option == '--picks')]
 
     def requests(self, numbers: Iterable[int]) -> Iterator[Request]:
-        """The options of `tar` for the states of these numbers, for each part that has some."""
+        """For each part that has some of the states of these numbers, the options with which `tar`
+        gives these. Numbers that the plan doesn't have are passed over."""
         wanted = set(numbers)
         for part in self.parts:
             own = {one for one in wanted if part.first <= one < part.end}
@@ -303,7 +319,8 @@ class Planned:
 
 
 def ranges_text(numbers: Iterable[int]) -> str:
-    """Different numbers as `tar --states` takes them: one by one and in ranges, ascending."""
+    """Different numbers as `tar --states` takes them: one by one and in ranges, ascending, such as
+    `1,4-6`. An empty text for none."""
     ranges: List[List[int]] = []
     for number in sorted(numbers):
         if ranges and ranges[-1][1] == number - 1:
@@ -315,8 +332,8 @@ def ranges_text(numbers: Iterable[int]) -> str:
 
 def read_plan(listed: str, offsets: Offsets = Offsets(), more: Sequence[str] = ()) -> Plan:
     """The plan that `list --json` printed, in numbers, places and lines of the session. more has
-    what it printed for further parts, of which only the picks are added. PlanError for a line that
-    it doesn't know."""
+    what it printed for further parts, of which only the picks are added; their `same` is known only
+    within their part. PlanError for a line of another form."""
     read = Listed(offsets)
     for part in (listed, *more):
         read.begin_part()
@@ -330,7 +347,8 @@ def read_plan(listed: str, offsets: Offsets = Offsets(), more: Sequence[str] = (
 
 
 class Listed:
-    """What `crashfs list` printed of the parts of a plan, taken line by line."""
+    """What `crashfs list` printed of the parts of a plan, taken line by line. Call begin_part()
+    before the lines of each part."""
 
     def __init__(self, offsets: Offsets) -> None:
         self.offsets = offsets
@@ -340,17 +358,21 @@ class Listed:
         self.allowed: List[List[str]] = []
 
     def profiles(self) -> SetProfiles:
-        """What it printed of profiles. The first state, which keeps nothing, is allowed by all."""
+        """The profiles of each state that was added, in order; none if the program prints no
+        profiles. Their names are those of the first state: it keeps nothing, which all profiles
+        allow."""
         names = tuple(self.allowed[0]) if self.allowed else ()
         return SetProfiles(names, tuple(set_of(map(names.index, one)) for one in self.allowed))
 
     def begin_part(self) -> None:
-        """Begins the next part, in which the program numbers the picks from the same number on."""
+        """Begins the next part. The picks of each part have the same first number in the program;
+        those of a further part are numbered on from the states so far."""
         self.is_first = not self.states
         self.lead = 0 if self.is_first else len(self.states) - len(self.operations) - 1
 
     def add_line(self, fields: Dict[str, Any]) -> None:
-        """Adds the operation or the state of a line. Each part has the same operations."""
+        """Adds the operation or the state of a line. Each part has the same operations: those of
+        the first part are taken. KeyError or another error for fields of another form."""
         if 'op' not in fields:
             self.add_state(fields)
         elif self.is_first:
@@ -358,7 +380,8 @@ class Listed:
             self.masks.append(set_of(fields['needs']))
 
     def add_state(self, fields: Dict[str, Any]) -> None:
-        """Adds the state of a line; of a further part only a pick, with a lead on its numbers."""
+        """Adds the state of a line, with a number that is unique among all parts, which `fields`
+        gets too. Of a further part only picks are added: it has the same prefixes."""
         if not self.is_first:
             if fields['kind'] != 'pick':
                 return
@@ -371,7 +394,8 @@ class Listed:
 
 
 def operation_of(fields: Dict[str, Any], offsets: Offsets) -> MicroOperation:
-    """The micro-operation of a line of `list --json`, in places and lines of the session."""
+    """The micro-operation of a line of `list --json`, in places and lines of the session; KeyError
+    if a field is missing."""
     rest = ' '.join(str(fields[key]) for key in DETAILS if key in fields)
     return MicroOperation(
         fields['op'] + offsets.operations,
@@ -383,8 +407,8 @@ def operation_of(fields: Dict[str, Any], offsets: Offsets) -> MicroOperation:
 
 
 def state_of(fields: Dict[str, Any], offsets: Offsets) -> State:
-    """The state of a line of `list --json`, in numbers of the session; KeyError for another
-    kind."""
+    """The state of a line of `list --json`, in numbers of the session; its own numbers, such as its
+    end, stay places of the plan. KeyError for another kind or a missing field."""
     kind = fields['kind']
     if kind == 'pick':
         numbers = tuple(fields['places'])

@@ -42,16 +42,20 @@ class Planner:
         self.guard = guard
 
     def plan(self, trace: str, offsets: Offsets = Offsets()) -> Planned:
-        """The plan of a trace with the families that are asked for and, if asked for, all crash
-        states or drawn ones. TooLarge if the trace is too long for one plan; Refused also if the
-        program and the second reading differ about what micro-operations need."""
+        """The plan of a trace, whose place in its session `offsets` says. It has the families that
+        the options ask for and, if they ask for all crash states, these, or drawn ones if they are
+        too many; of all these --in names those to try. TooLarge if the trace is too long for one
+        plan. Refused also for an unknown profile, or if the program and the second reading differ
+        about what micro-operations need."""
         options = self.options
-        if not (options.has_lost or options.has_files or options.has_every):
+        if not (options.has_lost or options.has_files or options.has_every or options.profile):
             return self.plan_of_picks(trace, offsets, [])
         read = self.read_sets(trace)
         families = self.family_sets(read)
         if not options.has_every:
             planned = self.plan_of_picks(trace, offsets, [families])
+            if options.profile:
+                planned.plan = self.with_profiles(planned.plan, read, None)
         else:
             lines = (one.line for one in read.reading.operations)
             without = read.needs.sets_without_lines(lines)
@@ -62,20 +66,22 @@ class Planner:
         return planned
 
     def for_copies(self, plan: Plan) -> Planner:
-        """The planner for copies of a plan's trace with other lines. Those of a small plan are
-        planned by the second reading, in less time than the program takes to start."""
+        """The planner for copies of the trace of a plan in which lines were added. If the plan is
+        small, it is the second reading's, which plans a copy in less time than the program takes to
+        start."""
         if not is_small(plan):
             return self
         return Planner(self.options, Crashfs(READING, unproved=True), self.guard)
 
     def has_few_states(self, trace: str) -> bool:
-        """Whether a trace has at most as many different crash states as are all tried."""
+        """Whether a trace has few enough different crash states, at most options.most_states, for
+        all of them to be tried. Refused for a trace with a fault."""
         sets = all_sets(self.program, self.guard.environment, self.read_sets(trace))
         return sets.different_sets(self.options.most_states) is not None
 
     def read_sets(self, trace: str) -> ReadSets:
-        """The sets of a trace by the second reading. Refused for a trace with a fault, in the
-        program's words if it has some."""
+        """The sets of a trace by the second reading. If it refuses the trace, so does this, in the
+        program's words if the program refuses it too: Refused or TooLarge."""
         from crashfs_tools.reading import ReadingFault
 
         try:
@@ -87,8 +93,9 @@ class Planner:
     def plan_of_all(
         self, trace: str, offsets: Offsets, read: ReadSets, families: List[int]
     ) -> Planned:
-        """The plan of some families, and of all crash states; if these are too many, of some that
-        are drawn at random. Its all_states says which."""
+        """The plan of some families, and of all crash states. If these are too many, it has sets
+        drawn at random in their place, or none if they can't even be counted. Its all_states says
+        so. families has the sets that aren't always listed, each once."""
         needs = read.needs
         sets = all_sets(self.program, self.guard.environment, read)
         found = sets_of_all_states(sets, read, self.options.most_states)
@@ -110,9 +117,10 @@ class Planner:
         planned.plan = self.with_profiles(plan, read, every)
         return planned
 
-    def with_profiles(self, plan: Plan, read: ReadSets, every: AllStates) -> Plan:
-        """The plan with the profiles of its sets: by the program if it has printed them. Refused if
-        the trace has no such profile as --in asks for."""
+    def with_profiles(self, plan: Plan, read: ReadSets, every: Optional[AllStates]) -> Plan:
+        """The plan with `every` as its all_states, and with the profiles of its sets: those that
+        the program printed, whose names must be in the order of the second reading's, or else those
+        by the second reading. Refused if the trace has no profile that --in names."""
         names, of_sets = tuple(read.orders), plan.profiles.of_sets
         if not of_sets:
             of_sets = tuple(read.profile_bits_of(plan.kept[one.number] for one in plan.listed))
@@ -123,17 +131,18 @@ class Planner:
         return plan.with_states(plan.listed, every, SetProfiles(names, of_sets, wanted))
 
     def room_for_picks(self, needs: Needs) -> int:
-        """How many picks the program takes besides the prefixes, and besides the holes if these are
-        listed; below 0 if it doesn't take all holes."""
+        """How many picks the first part of a plan can have, besides its prefixes and, if they are
+        listed, its holes. Below 0 if these are too many already."""
         holes = 0 if self.options.prefixes else needs.hole_count
         return limits.STATES - 1 - len(needs.masks) - holes
 
     def plan_of_picks(
         self, trace: str, offsets: Offsets, picks: Sequence[Sequence[int]]
     ) -> Planned:
-        """A plan in as many parts as there are lists of sets, of which the first has the holes too;
-        of one part if there is no set. Equal states of several parts are found by the second
-        reading."""
+        """A plan of the prefixes, the holes unless --prefixes leaves them out, and these sets. Each
+        list of sets becomes a part, with the prefixes too, but only the first one has the holes;
+        without any set there is one part. Equal states in different parts are found by the second
+        reading. Refused or TooLarge if the program refuses a part."""
         words = ['--trace', trace, *([] if self.options.prefixes else ['--holes'])]
         options_of_parts = [words] if not any(picks) else []
         for number, sets in enumerate(picks if any(picks) else []):
@@ -148,20 +157,23 @@ class Planner:
         return Planned(trace, parts, plan, offsets)
 
     def plan_of_sets(self, planned: Planned, sets: Iterable[int]) -> Planned:
-        """A plan of the same trace that has the prefixes and these sets as picks. Refused or
-        TooLarge if the program refuses it."""
+        """A plan of the same trace that has only the prefixes and these sets, each once, as picks.
+        Its states are numbered from the first number of `planned` on. The next such plan of the
+        trace replaces its file of picks: then it can't be tried any more. Refused or TooLarge if
+        the program refuses it."""
         path = self.write_picks(planned.trace, '.sets', dict.fromkeys(sets))
         words = ['--trace', planned.trace, '--picks', path]
         plan = read_plan(self.output_of(['list', *words, '--json']), planned.offsets)
         return Planned(planned.trace, parts_of(plan, [words], []), plan, planned.offsets)
 
     def prefix_plan(self, trace: str) -> Plan:
-        """The plan of the prefixes only: of any trace with no more micro-operations than the
-        program takes. Refused or TooLarge for another one."""
+        """The plan of only the prefixes of a trace, whatever the options ask for. TooLarge if the
+        trace has more micro-operations than the program takes; Refused for another fault."""
         return read_plan(self.output_of(['list', '--trace', trace, '--json']))
 
     def family_sets(self, read: ReadSets) -> List[int]:
-        """The sets of the families that are asked for and not always listed, each once."""
+        """The sets of --lost and --files, if the options ask for them, without those that are
+        always listed; each once."""
         from crashfs_tools.reading.plan import file_sets
 
         sets = list(read.needs.masks) if self.options.has_lost else []
@@ -169,31 +181,33 @@ class Planner:
         return [one for one in dict.fromkeys(sets) if not self.is_always_listed(read.needs, one)]
 
     def is_always_listed(self, needs: Needs, kept: int) -> bool:
-        """Whether a set is listed without being asked for: as a prefix, or as a hole. A server has
-        all families as picks."""
+        """Whether a set needs no pick because the plan has it as a prefix or hole. With --prefixes
+        each set of a family gets a pick, and with --serve, since the server's picks have all of
+        them."""
         if self.options.prefixes or self.options.serve is not None:
             return False
         return needs.is_prefix_or_hole(kept)
 
     def write_picks(self, trace: str, ending: str, sets: Iterable[int]) -> str:
-        """Writes a picks file, a set in each line, whose name is the trace's with an ending.
-        Returns its path."""
+        """Writes a picks file, with a line for each set, and returns its path: in the guard's
+        directory, with the trace's name and an ending. A file of this path is replaced."""
         path = os.path.join(self.guard.directory, os.path.basename(trace) + ending)
         with open(path, 'w', encoding='ascii') as file:
             file.writelines(f'{json.dumps(list(places_of(one)))}\n' for one in sets)
         return path
 
     def output_of(self, words: List[str]) -> str:
-        """What the program prints for a command. If it refuses, Refused in its words, or TooLarge
-        if the plan would be too large."""
+        """What the program prints for a command, of which words[0] is the name. If its status isn't
+        0: TooLarge if the plan would be too large, else Refused, as refusal_of() makes them."""
         try:
             return self.program.output_of(words, self.guard.environment)
         except ProgramFault as fault:
             raise self.refusal_of(words[0], fault) from fault
 
     def refusal_of(self, command: str, fault: ProgramFault) -> Refused:
-        """The Refused, or TooLarge, for a fault of a command of the program. An option that the
-        program doesn't know is reported as missing there."""
+        """Makes a TooLarge of a fault of the program that says that a plan would be too large, and
+        a Refused of any other. If the program doesn't know an option, the text says that it has no
+        `command` of the kind that these tools use."""
         if fault.is_unknown_option:
             need = {'list': '`list --json`', 'tar': '`tar --states`'}.get(command, f'`{command}`')
             return Refused(
@@ -206,8 +220,9 @@ class Planner:
 
 
 def sets_of_all_states(sets: AllSets, read: ReadSets, most: int) -> Optional[List[int]]:
-    """A set of each different state, and for profiles that don't allow all of these sets also one
-    that they allow; None if the states are more than `most`."""
+    """A set of each different state; None if they are more than `most`. For each profile that
+    doesn't allow all of these sets, one that it allows of each state that it allows is added,
+    unless these are more than `most`."""
     found = sets.different_sets(most)
     if found is None:
         return None
@@ -218,16 +233,18 @@ def sets_of_all_states(sets: AllSets, read: ReadSets, most: int) -> Optional[Lis
 
 
 def picks_in_parts(picks: List[int], room: int, operations: int) -> List[List[int]]:
-    """Picks for the parts of a plan of so many micro-operations: the first has so much room, each
-    other one that which the prefixes leave."""
+    """Divides picks into the parts of a plan that has `operations` micro-operations. The first part
+    gets at most `room` picks, none if that is 0 or less; each other part as many as fit after its
+    prefixes."""
     size = limits.STATES - 1 - operations
     first, rest = picks[: max(0, room)], picks[max(0, room) :]
     return [first, *(rest[at : at + size] for at in range(0, len(rest), size))]
 
 
 def parts_of(plan: Plan, options_of_parts: List[List[str]], sizes: List[int]) -> List[Part]:
-    """The parts of a plan, by their options. sizes has how many picks each part has; all other
-    states are in the first part."""
+    """The parts of a plan, each with its options and the range of its states. sizes has how many
+    picks each part has; the first part has all other states. Each further part has picks only:
+    their numbers there begin after the prefixes."""
     end = plan.first + len(plan.listed)
     firsts = [plan.first]
     firsts += [end - sum(sizes[number:]) for number in range(1, len(options_of_parts))]

@@ -12,8 +12,9 @@ Bytes = Union[bytes, bytearray, SparseBytes]
 
 
 def rewrite(file: int, before: Bytes, wanted: Bytes) -> None:
-    """Changes an open file, which has the bytes `before`, to the wanted bytes. Only pieces that
-    differ are written."""
+    """Changes an open file, which has the bytes `before`, to the wanted bytes: it writes only
+    pieces that differ. Zeros past the old end aren't written, so they become a hole. After an
+    OSError some pieces may be changed."""
     for at in piece_offsets(before, wanted):
         piece = wanted[at : at + PIECE_BYTES]
         if before[at : at + PIECE_BYTES] != piece and (at < len(before) or has_bytes(piece)):
@@ -23,7 +24,8 @@ def rewrite(file: int, before: Bytes, wanted: Bytes) -> None:
 
 
 def piece_offsets(before: Bytes, wanted: Bytes) -> Iterable[int]:
-    """Where the pieces of the wanted bytes begin that may differ, ascending."""
+    """The offsets, ascending, of the pieces of `wanted` that may differ from `before`: of all
+    pieces, or, if both are sparse, of those in which one of them has a page."""
     if isinstance(before, SparseBytes) and isinstance(wanted, SparseBytes):
         pages = before.pages.keys() | wanted.pages.keys()
         starts = {page * PAGE_BYTES // PIECE_BYTES * PIECE_BYTES for page in pages}
@@ -37,7 +39,8 @@ def has_bytes(piece: Union[bytes, bytearray]) -> bool:
 
 
 def write_at(file: int, at: int, data: Union[bytes, bytearray]) -> None:
-    """Writes all bytes at an offset of an open file."""
+    """Writes all bytes at an offset of an open file, in several writes if the system takes only
+    some at once."""
     while data:
         count = os.pwrite(file, data, at)
         at, data = at + count, data[count:]

@@ -18,8 +18,8 @@ PIECE_BLOCKS = 64
 
 @dataclass(frozen=True)
 class Step:
-    """An operation, or a part of a long write, with its line in the session; size is how many
-    micro-operations it is."""
+    """An operation, or a part of a long write, with its line in the session and the note of that
+    line (empty if it has none). size is how many micro-operations it is: 0 for a sync."""
 
     line: int
     operation: Operation
@@ -28,11 +28,13 @@ class Step:
 
 
 class Session:
-    """A trace, its steps, and before each step how many micro-operations there were: places has
-    one number more than there are steps."""
+    """A trace, and its operations as steps. places[k] is how many micro-operations come before step
+    k; its last number is that of all. end is the tree after all steps."""
 
     def __init__(self, name: str, text: str) -> None:
-        """Reads the text of a trace; Refused with its name if a line can't be done."""
+        """Reads the text of a trace. Refused, with `name` and the line, for the first operation
+        that the tree doesn't allow; TraceError, which is a Refused too, for a line that makes no
+        sense."""
         self.trace, numbers = read_numbered(text)
         self.steps: List[Step] = []
         self.places = [0]
@@ -50,7 +52,8 @@ class Session:
         self.end = tree
 
     def end_trace(self) -> str:
-        """The text of a trace of the tree at the session's end, in which nothing happens."""
+        """The text of a trace without operations that starts with the tree at the session's end. It
+        has the version, profile and block of the session."""
         return trace_text(
             Trace(
                 *start_lines(self.end.entries, self.end.files),
@@ -63,7 +66,8 @@ class Session:
 
 
 def start_tree(trace: Trace) -> Tree:
-    """The tree in which a trace begins, to which its operations can be applied."""
+    """The tree in which a trace begins, after its start lines. It has copies of their bytes:
+    operations can be applied to it."""
     tree = tree_of(trace)
     for entry in trace.start:
         tree.add_start(entry)
@@ -71,8 +75,10 @@ def start_tree(trace: Trace) -> Tree:
 
 
 def parts_of_operation(operation: Operation, tree: Tree) -> Iterator[Operation]:
-    """An operation; or a long write as what makes the same micro-operations: first its size, then
-    so many blocks at a time. tree is the one before it."""
+    """Yields an operation itself, or the parts of a write of more than PIECE_BLOCKS blocks:
+    truncates to its new sizes, then writes of up to so many blocks. They are the same
+    micro-operations. `tree` is the one before the operation; the caller may apply each part to it
+    as it comes."""
     if not isinstance(operation, Write) or len(operation.data) <= PIECE_BLOCKS * tree.block:
         yield operation
         return
@@ -88,8 +94,9 @@ def parts_of_operation(operation: Operation, tree: Tree) -> Iterator[Operation]:
 
 
 def lengths_before_write(tree: Tree, path: str, end: int) -> Iterator[int]:
-    """The sizes that a write up to the offset `end` gives a file before its blocks, in their order:
-    in version 4 first the end of its last page. None if the file doesn't grow."""
+    """The sizes, in order, that a write up to the offset `end` gives a file before it changes
+    blocks: in version 4 first the end of its last page, if the write grows it past that; then
+    `end`. No sizes if the file doesn't grow."""
     size = len(tree.entries[path].data or b'')
     if tree.version >= 4 and grows_past_page(size, end):
         yield page_end(size)
@@ -98,10 +105,12 @@ def lengths_before_write(tree: Tree, path: str, end: int) -> Iterator[int]:
 
 
 class Steps:
-    """The steps from a moment on. tree is the tree of this moment, as these tools follow it; start
-    is the same as the program gave it, but that it has no links."""
+    """The steps of a session from `begin` on; says counts the acknowledged lines before it. tree is
+    the tree there as these tools follow it. start has the same entries as the program gave them:
+    which paths are links to one file, only `tree` knows."""
 
     def __init__(self, session: Session) -> None:
+        """Begins at the first step, with the tree in which the trace begins."""
         self.session = session
         self.begin = 0
         self.says = 0
@@ -109,19 +118,20 @@ class Steps:
         self.start = self.tree.entries.copy()
 
     def end_within(self, size: int) -> int:
-        """The last step before which a part may end that has at most so many micro-operations; at
-        least the step after the first one, even if that is larger."""
+        """The last step that a part from `begin` on may end before, with at most `size`
+        micro-operations. The part has at least one step, even if that is larger, and the syncs
+        after its last micro-operation."""
         places = self.session.places
         end = bisect.bisect_right(places, places[self.begin] + size) - 1
         return min(max(end, self.begin + 1), len(self.session.steps))
 
     def size_until(self, end: int) -> int:
-        """How many micro-operations the part before a step has."""
+        """How many micro-operations the part from `begin` up to a step has, without that step."""
         return self.session.places[end] - self.session.places[self.begin]
 
     def go_to(self, step: int, start: Entries) -> None:
-        """Goes on to a later step, by applying the operations before it. start is the tree there as
-        the program gives it."""
+        """Moves on to a later step, by applying the operations before it to `tree`. `start` is the
+        tree there as the program gives it; it isn't compared with `tree`."""
         for one in self.session.steps[self.begin : step]:
             self.says += isinstance(one.operation, Say)
             self.tree.apply(one.operation)
@@ -129,8 +139,9 @@ class Steps:
         self.start = start
 
     def trace_until(self, end: int) -> Tuple[str, Tuple[int, ...]]:
-        """The text of the trace of the part before a step, and for each line of this text the
-        number of its line in the session: 0 for the header and the start lines."""
+        """The text of the trace of the part from `begin` up to a step, without that step. Then, for
+        each line of this text, the number of its line in the session: 0 for the header and the
+        start lines. The parts of a long write have the same number."""
         part = self.session.steps[self.begin : end]
         whole = self.session.trace
         header, start = start_lines(self.start, self.tree.files)
@@ -148,5 +159,5 @@ class Steps:
 
 
 def trace_text(trace: Trace) -> str:
-    """A trace as its file has it."""
+    """The text of a trace as its file has it: a line each, with a newline at its end."""
     return ''.join(line + '\n' for line in trace.lines())

@@ -1,10 +1,10 @@
 """Sessions of any length: each window is a trace that the program takes.
 
-A window ends where the program's limits would be passed. If more of its crash states differ than
-are all tried, it ends earlier, at the last moment at which nothing is pending and they are few
-enough; but no earlier than after a quarter of it. The next window begins at the first operation
-that is still pending at the end, but no earlier than half a window on, with the tree that the
-program gives of that moment. All before it counts as durable.
+A window ends before it passes the program's limits. If it has too many different crash states to
+try them all, it ends earlier: at the last moment at which nothing is pending and few enough states
+come before, but not in its first quarter. The next window begins at the first operation that is
+still pending at the end, but no earlier than half a window on, with the tree that the program gives
+of that moment. Everything before it counts as durable.
 """
 
 from __future__ import annotations
@@ -33,8 +33,8 @@ LEAST_PART = 4
 
 @dataclass(frozen=True)
 class CutOff:
-    """A line that was still pending where its last window ended: its loss was tried for so many
-    later micro-operations only."""
+    """A line that was still pending at the end of the last window that has it. Its loss was tried
+    with only the `tried` micro-operations after it."""
 
     line: int
     tried: int
@@ -42,9 +42,9 @@ class CutOff:
 
 @dataclass
 class PlannedWindow:
-    """A plan, the step that it ends before, and the places in it that no sync has made durable at
-    its end. needs has what each micro-operation needs, also of those after the end that were looked
-    at."""
+    """The plan of a window that ends before the step `end`. pending has the places in the plan that
+    no sync has made durable at the end; acknowledged lines aren't among them. needs has the set
+    that each micro-operation needs, also of those after the end that the first try had."""
 
     planned: Planned
     end: int
@@ -53,8 +53,8 @@ class PlannedWindow:
 
 
 class Windows:
-    """The windows of one session, of at most so many micro-operations each; cut_off grows as they
-    are made."""
+    """The windows of one session, each of at most `largest` micro-operations, which is never more
+    than LARGEST, or of one step that has more. cut_off grows while the windows are made."""
 
     def __init__(self, planner: Planner, session: Session, largest: int = LARGEST) -> None:
         self.planner = planner
@@ -63,14 +63,17 @@ class Windows:
         self.cut_off: List[CutOff] = []
 
     def write_end(self) -> str:
-        """Writes a trace of the tree at the session's end, and returns its path."""
+        """Writes a trace that has only the tree at the session's end to the guard's directory, and
+        returns its path. An earlier one is replaced."""
         path = os.path.join(self.planner.guard.directory, 'end.trace')
         write_text(path, self.session.end_trace())
         return path
 
     def all_planned(self) -> Iterator[Planned]:
-        """The plan of each window, one after the other. The files of a window are there only until
-        the next one is asked for."""
+        """Yields the plan of each window. States are numbered on from window to window;
+        micro-operations have their places in the session. The files of a window are removed when
+        the next plan is asked for; those of the last one stay. Refused for a trace with a fault, or
+        if go_to() refuses."""
         steps, states = Steps(self.session), 0
         window = self.longest_window(steps, states)
         while window.end < len(self.session.steps):
@@ -82,8 +85,10 @@ class Windows:
         yield window.planned
 
     def next_window(self, steps: Steps, last: PlannedWindow, states: int) -> PlannedWindow:
-        """The window after one, whose first state gets a number. It begins where next_begin says
-        or, if it wouldn't end later then, at the end of the last one. What is cut off is noted."""
+        """The window after `last`; its first state gets the number `states`. It begins at
+        next_begin() or, if it wouldn't end later than `last` then, at the end of `last`. Moves
+        `steps` to its begin, and adds to cut_off what is pending at the end of `last` and not in
+        it."""
         begin = self.next_begin(last)
         self.go_to(steps, last, begin)
         window = self.longest_window(steps, states)
@@ -95,8 +100,9 @@ class Windows:
         return window
 
     def longest_window(self, steps: Steps, states: int) -> PlannedWindow:
-        """The longest window that begins where `steps` is, whose first state gets a number; it
-        writes the window's files. Refused for a trace with a fault."""
+        """The longest window that begins where `steps` is and keeps to the limits of this module's
+        text; its first state gets the number `states`. Its trace and picks are written, over those
+        of longer tries. Refused for a trace with a fault; the files stay then."""
         path = os.path.join(self.planner.guard.directory, f'window-{states}.trace')
         end = steps.end_within(self.largest)
         longest: Sequence[int] = ()
@@ -132,8 +138,9 @@ class Windows:
             )
 
     def end_with_few_states(self, steps: Steps, end: int, planned: Planned) -> int:
-        """The last end up to that of a plan at which nothing is pending, if all crash states up to
-        there can be tried; the plan's own if they can be already, or if there is no such end."""
+        """The last step before `end`, where a plan ends, at which nothing is pending and few enough
+        crash states come before to try them all. `end` itself if the plan has all of its states, if
+        they aren't asked for, or if there is no such step."""
         every = planned.plan.all_states
         if every is None or every.are_listed:
             return end
@@ -148,33 +155,38 @@ class Windows:
         return ends[low - 1] if low else end
 
     def ends_without_pending(self, steps: Steps, end: int, read: ReadSets) -> List[int]:
-        """The steps before an end, ascending, at which nothing is pending, from a quarter of the
-        part on. Of several that have the same micro-operations before them, the last one: it has
-        the syncs."""
+        """The steps before `end`, ascending, at which nothing is pending and that have more than a
+        quarter of the part's micro-operations before them. Of several with the same
+        micro-operations before them only the last: it comes after their syncs."""
         sizes = {steps.size_until(one): one for one in range(steps.begin + 1, end)}
         least = steps.size_until(end) // LEAST_PART
         return [one for size, one in sizes.items() if size > least and not read.has_pending(size)]
 
     def has_few_states(self, steps: Steps, end: int) -> bool:
-        """Whether all crash states up to an end can be tried."""
+        """Whether the part up to a step has few enough different crash states for all of them to be
+        tried. The trace that is written for the question is removed, also if it is refused."""
         path = os.path.join(self.planner.guard.directory, 'shorter.trace')
         write_text(path, steps.trace_until(end)[0])
-        has_few = self.planner.has_few_states(path)
-        os.unlink(path)
-        return has_few
+        try:
+            return self.planner.has_few_states(path)
+        finally:
+            os.unlink(path)
 
     def needs_with_probe(self, path: str, text: str) -> Sequence[int]:
-        """What each micro-operation of a trace needs, and last what one more would that changes a
-        file of its own: that is all that is durable then. The file at `path` is made for the
-        question, and removed."""
+        """The set that each micro-operation of a trace needs, by the program, and last that of one
+        more at the end, which changes a file of its own: it needs what is durable then, and no
+        other change. The trace with it is written to `path`, and removed. Refused or TooLarge if
+        the program refuses it; it is removed then too."""
         write_text(path, with_probe(text))
-        needs = self.planner.prefix_plan(path).needs.masks
-        os.unlink(path)
-        return needs
+        try:
+            return self.planner.prefix_plan(path).needs.masks
+        finally:
+            os.unlink(path)
 
     def fitting_count(self, needs: Sequence[int]) -> int:
-        """How many of the first micro-operations, of which each needs so much, have no more states
-        than a plan takes: prefixes, holes, and a set of --lost for each."""
+        """How many of the first micro-operations fit in one plan, with their prefixes, their holes,
+        and a set of --lost for each. needs has the set that each one needs. The sets of --files
+        aren't counted."""
         options, states = self.planner.options, 1
         for place, mask in enumerate(needs):
             holes = 0 if options.prefixes else place + 1 - size_of(mask)
@@ -184,8 +196,9 @@ class Windows:
         return len(needs)
 
     def next_begin(self, last: PlannedWindow) -> int:
-        """The step at which the next window begins: that of the first pending micro-operation, but
-        no earlier than half a window on; the end of the last window if it wouldn't end later."""
+        """The step at which the next window begins: the one that has the first pending
+        micro-operation, but not before the middle of the last window. The end of the last window if
+        nothing is pending, or if a window from the step wouldn't end later."""
         places, plan = self.session.places, last.planned.plan
         begin = last.planned.offsets.operations
         half = begin + (len(plan.operations) + 1) // 2
@@ -196,8 +209,9 @@ class Windows:
         return step if self.would_end_later(last, step) else last.end
 
     def would_end_later(self, last: PlannedWindow, step: int) -> bool:
-        """Whether a window from a step would end after the last one. Its micro-operations need what
-        they need in that one, without what is durable at the step."""
+        """Whether a window that begins at `step` would end after the last one, as far as
+        fitting_count() says. Each micro-operation is taken to need what it needs in the last
+        window, without what comes before the step. False for the end of the last window."""
         places = self.session.places
         first = places[step] - last.planned.offsets.operations
         needs = [mask >> first for mask in last.needs[first:]]
@@ -207,8 +221,9 @@ class Windows:
         )
 
     def go_to(self, steps: Steps, last: PlannedWindow, step: int) -> None:
-        """Goes to a step, with the tree that the program gives of its moment. Refused if that isn't
-        the tree that these tools follow."""
+        """Moves `steps` to a later step, with the tree that the program gives of that moment.
+        Refused if these tools, which apply the operations themselves, have another tree there;
+        `steps` has moved then."""
         prefix = self.session.places[step] - last.planned.offsets.operations
         words = [*last.planned.parts[0].words, '--state', str(prefix)]
         start = self.planner.program.whole_tree(words, self.planner.guard.environment)
@@ -220,8 +235,9 @@ class Windows:
             )
 
     def note_cut_off(self, last: PlannedWindow, begin: int) -> None:
-        """Notes the lines that are pending at the end of a window, and aren't in the next one,
-        which begins at a place."""
+        """Adds to cut_off the lines of the micro-operations that are pending at the end of `last`
+        and come before the place `begin`, at which the next window begins. A line may be added
+        several times."""
         operations = last.planned.plan.operations
         for place in last.pending:
             if operations[place].place < begin:
@@ -230,19 +246,21 @@ class Windows:
 
 
 def windows_of(planner: Planner, options: Options, text: str) -> Windows:
-    """The windows of the session that a trace's text has; Refused if a line of it has a fault."""
+    """The windows of the session in a trace's text: of at most options.window micro-operations
+    each, or else LARGEST. Refused if a line of the trace has a fault."""
     return Windows(planner, Session(options.trace or '', text), options.window or LARGEST)
 
 
 def remove_files(planned: Planned) -> None:
-    """Removes the files of a window: its start tree may be large, and there may be many."""
+    """Removes the trace and the picks of a window: its start tree may be large, and there may be
+    many windows. FileNotFoundError if one is gone."""
     for path in planned.files():
         os.unlink(path)
 
 
 def with_probe(text: str) -> str:
-    """The text of a trace to which a file is added, and a last line that changes it. The file has a
-    name that the trace hasn't."""
+    """The text of a trace with one more file at the start, and a last line that changes its length.
+    No path of the trace has the file's name."""
     header, _, rest = text.partition('\n')
     name = '/probe'
     while f'"{name}' in rest:

@@ -1,4 +1,5 @@
-"""Calls that read, write and truncate. Each `on_NAME` translates a call NAME that has returned."""
+"""Calls that read, write and truncate. Each `on_NAME` translates a call NAME that has returned; one
+on a file that isn't followed changes nothing."""
 
 from __future__ import annotations
 
@@ -14,27 +15,28 @@ NOT_IN_LOG = 'its bytes are not in the log'
 
 
 def on_read(files: LiveFiles, process: Process, call: Call) -> None:
-    """Moves the offset of the open file past what was read."""
+    """read, readv: moves the offset of the open file past what was read."""
     file = process.descriptors.files.get(call.descriptor().number)
     if file is not None:
         file.position += call.result
 
 
 def on_preadv2(files: LiveFiles, process: Process, call: Call) -> None:
-    """Moves the file's own offset if it reads at that."""
+    """Moves the offset of the open file if it reads there (-1), not at an offset that it names."""
     if arguments.integer(call.argument(3)) == -1:
         on_read(files, process, call)
 
 
 def on_lseek(files: LiveFiles, process: Process, call: Call) -> None:
-    """Sets the offset of the open file."""
+    """Sets the offset of the open file to the one that the call returned."""
     file = process.descriptors.files.get(call.descriptor().number)
     if file is not None:
         file.position = call.result
 
 
 def on_llseek(files: LiveFiles, process: Process, call: Call) -> None:
-    """The lseek of 32-bit programs: strace shows the new offset in the first cell, `[42]`."""
+    """The lseek of 32-bit programs: strace shows the new offset in the first cell, `[42]`; the
+    result is only 0."""
     file = process.descriptors.files.get(call.descriptor().number)
     cells = [arguments.offset_in_cell(word) for word in call.arguments]
     found = [cell for cell in cells if cell is not None]
@@ -43,25 +45,26 @@ def on_llseek(files: LiveFiles, process: Process, call: Call) -> None:
 
 
 def on_write(files: LiveFiles, process: Process, call: Call) -> None:
-    """Writes at the offset of the open file."""
+    """Writes the bytes of a text at the offset of the open file, or to a stream."""
     write_to_descriptor(files, process, call, arguments.bytes_of_text(call.argument(1)))
 
 
 def on_pwrite(files: LiveFiles, process: Process, call: Call) -> None:
-    """Writes at an offset that the call names."""
+    """Writes at an offset that the call names; that of the open file stays."""
     data = arguments.bytes_of_text(call.argument(1))
     offset = arguments.integer(call.argument(3))
     write_to_descriptor(files, process, call, data, offset=offset)
 
 
 def on_writev(files: LiveFiles, process: Process, call: Call) -> None:
-    """Writes several pieces at the offset of the open file."""
+    """Writes several pieces at the offset of the open file, or to a stream. vmsplice has the same
+    arguments."""
     write_to_descriptor(files, process, call, arguments.bytes_of_vector(call.argument(1)))
 
 
 def on_pwritev(files: LiveFiles, process: Process, call: Call) -> None:
-    """Writes several pieces at an offset. pwritev2 has flags, too, and -1 means the offset of the
-    open file."""
+    """Writes several pieces at an offset that the call names. pwritev2 has flags, too, and -1 means
+    the offset of the open file."""
     offset = arguments.integer(call.argument(3))
     write_to_descriptor(
         files,
@@ -74,7 +77,8 @@ def on_pwritev(files: LiveFiles, process: Process, call: Call) -> None:
 
 
 def on_send(files: LiveFiles, process: Process, call: Call) -> None:
-    """Adds the bytes that are sent over a socket, or reports that the log lacks them."""
+    """Adds the bytes that are sent over a socket, if it is an output stream. If strace cut them,
+    that is reported."""
     word = call.argument(1)
     data = (
         arguments.bytes_of_vector(word) if call.name == 'sendmsg' else arguments.bytes_of_text(word)
@@ -90,7 +94,8 @@ def on_send(files: LiveFiles, process: Process, call: Call) -> None:
 
 
 def on_accept(files: LiveFiles, process: Process, call: Call) -> None:
-    """Adds a connection, over which something may be acknowledged."""
+    """Adds a connection to the streams, if --say-fd asks for connections. Its descriptor takes the
+    place of an older one with this number."""
     process.descriptors.set_file(call.result, None, 'SOCK_CLOEXEC' in call.argument(3))
     files.recording.streams.add_connection(call.made.text)
 
@@ -106,8 +111,10 @@ def write_to_descriptor(
     flags: str = '',
     missing: str = NOT_IN_LOG,
 ) -> None:
-    """Writes bytes to the descriptor that is the argument `target`: at an offset, or at that of the
-    open file (None). `missing` says why the bytes aren't known, if data is None."""
+    """Writes the bytes that the call wrote, as many as its result, to the descriptor that is the
+    argument `target`: at an offset, or at that of the open file (None). data is None if the bytes
+    aren't known, and `missing` says why: a stream that acknowledges something is reported then, and
+    a file's bytes aren't followed any more. Nothing if the descriptor isn't followed."""
     stream = files.stream_of(process, call, target)
     if stream is not None:
         if data is not None:
@@ -127,8 +134,9 @@ def write_to_descriptor(
 def write_to_file(
     files: LiveFiles, file: OpenFile, data: bytes, offset: Optional[int], flags: str
 ) -> None:
-    """Writes bytes to an open file (offset None: at its own offset, which it then moves), and adds
-    the sync that the file or the call asks for."""
+    """Writes bytes to an open file: at an offset, or at its own (None), which then moves. With
+    O_APPEND or RWF_APPEND they go to the end, whatever the offset. Adds the sync that the file or
+    the call asks for, of these bytes only."""
     node = file.node
     assert node is not None
     floats: object = file if offset is None else None
@@ -143,21 +151,23 @@ def write_to_file(
 
 
 def on_ftruncate(files: LiveFiles, process: Process, call: Call) -> None:
-    """Sets the length of an open file."""
+    """Sets the length of an open file; nothing if it isn't followed."""
     file = files.open_file(process, call)
     if file is not None and file.node is not None:
         files.set_length(file.node, arguments.integer(call.argument(1)))
 
 
 def on_truncate(files: LiveFiles, process: Process, call: Call) -> None:
-    """Sets the length of the file of a path."""
+    """Sets the length of the file of a path, through a symbolic link at its end."""
     node = files.node_argument(process, call, 0)
     if node is not None:
         files.set_length(node, arguments.integer(call.argument(1)))
 
 
 def on_fallocate(files: LiveFiles, process: Process, call: Call) -> None:
-    """Makes a file longer, or a range of it zeros. With other modes its bytes are dropped."""
+    """Makes a file longer, or with PUNCH_HOLE and ZERO_RANGE a range of it zeros; KEEP_SIZE keeps
+    the length. After COLLAPSE_RANGE and INSERT_RANGE its bytes aren't followed any more: that is
+    reported."""
     file = files.open_file(process, call)
     if file is None or file.node is None:
         return
@@ -183,8 +193,9 @@ def copy_between_descriptors(
     from_offset: Optional[int],
     to_offset: Optional[int],
 ) -> None:
-    """Copies bytes between the descriptors that are the arguments `source` and `target`, as the
-    kernel does without the program. An offset that is None is that of the open file."""
+    """Copies as many bytes as the call did between the descriptors that are the arguments `source`
+    and `target`: the log doesn't show them. An offset that is None is that of the open file, which
+    then moves. If the source's bytes aren't known, those of the target aren't either."""
     if call.result == 0:
         return
     data = None
@@ -207,7 +218,8 @@ def copy_between_descriptors(
 
 
 def on_sendfile(files: LiveFiles, process: Process, call: Call) -> None:
-    """Copies from a file to a descriptor: in the call the target comes first."""
+    """Copies from a file to a descriptor: in the call the target comes first. The offset is that of
+    the file."""
     offset = arguments.offset_in_cell(call.argument(2))
     copy_between_descriptors(
         files, process, call, source=1, target=0, from_offset=offset, to_offset=None
@@ -215,7 +227,8 @@ def on_sendfile(files: LiveFiles, process: Process, call: Call) -> None:
 
 
 def on_copy_file_range(files: LiveFiles, process: Process, call: Call) -> None:
-    """Copies between two descriptors, each at an offset of its own; splice does, too."""
+    """Copies between two descriptors, at the offsets that the call names, or at their own if it
+    names none. splice has the same arguments."""
     copy_between_descriptors(
         files,
         process,
@@ -228,20 +241,22 @@ def on_copy_file_range(files: LiveFiles, process: Process, call: Call) -> None:
 
 
 def on_tee(files: LiveFiles, process: Process, call: Call) -> None:
-    """Writes what was in a pipe: the log lacks these bytes."""
+    """Copies what is in a pipe to another one: the log lacks these bytes."""
     if call.result > 0:
         write_to_descriptor(files, process, call, None, target=1)
 
 
 def on_ioctl(files: LiveFiles, process: Process, call: Call) -> None:
-    """Drops the bytes of a file that shares those of another from now on (FICLONE)."""
+    """FICLONE lets a file share the bytes of another, which the log lacks: its bytes aren't
+    followed any more, and that is reported. Any other ioctl is left out."""
     file = process.descriptors.files.get(call.descriptor().number)
     if file is not None and file.node is not None and 'FICLONE' in call.argument(1):
         files.drop_bytes(file.node, f'ioctl {call.argument(1)}: {NOT_IN_LOG}')
 
 
 def on_io_uring(files: LiveFiles, process: Process, call: Call) -> None:
-    """Reports that what is done by io_uring, or by aio, is not in the log."""
+    """Reports, of the whole directory, that what is done by io_uring, or by aio, is not in the
+    log."""
     files.recording.report(f'{call.name}: what is done by it is not in the log', '/')
 
 

@@ -1,4 +1,5 @@
-"""Calls that change modes and owners. Each `on_NAME` translates a call NAME that has returned."""
+"""Calls that change modes and owners. Each `on_NAME` translates a call NAME that has returned; one
+on a file that isn't followed changes nothing."""
 
 from __future__ import annotations
 
@@ -23,20 +24,20 @@ def on_chmod(files: LiveFiles, process: Process, call: Call) -> None:
 
 
 def on_fchmod(files: LiveFiles, process: Process, call: Call) -> None:
-    """Sets the mode of an open file."""
+    """Sets the mode of an open file or directory."""
     file = files.open_file(process, call)
     set_mode(files, file.node if file else None, call.argument(1))
 
 
 def on_fchmodat(files: LiveFiles, process: Process, call: Call) -> None:
-    """Sets the mode of the file of a path relative to a directory."""
+    """Sets the mode of the file of a path that is relative to a directory."""
     set_mode(files, files.node_argument_at(process, call, 0), call.argument(2))
 
 
 def set_mode(files: LiveFiles, node: Optional[Node], word: str) -> None:
+    """Gives a file or directory the mode in an argument; in the trace too, if that has another one
+    there. Bits beyond 777 are only noted. Nothing for None, which isn't followed."""
     # Some programs pass the kind of the file too, which the kernel ignores.
-    """Gives a file or directory the mode that a call names, in the trace too, if it has another;
-    nothing for None."""
     mode = octal(word) & 0o7777
     if node is not None:
         node.mode = mode & PERMISSIONS
@@ -52,27 +53,30 @@ def set_mode(files: LiveFiles, node: Optional[Node], word: str) -> None:
 
 
 def on_chown(files: LiveFiles, process: Process, call: Call) -> None:
-    """Sets the owners of the file of a path; lchown those of a symbolic link itself."""
+    """Sets the owner and group of the file of a path; lchown those of a symbolic link itself."""
     node = files.node_argument(process, call, 0, not call.name.startswith('l'))
     set_owner(files, node, call.argument(1), call.argument(2))
 
 
 def on_fchown(files: LiveFiles, process: Process, call: Call) -> None:
-    """Sets the owners of an open file."""
+    """Sets the owner and group of an open file or directory."""
     file = files.open_file(process, call)
     set_owner(files, file.node if file else None, call.argument(1), call.argument(2))
 
 
 def on_fchownat(files: LiveFiles, process: Process, call: Call) -> None:
-    """Sets the owners of the file of a path relative to a directory."""
+    """Sets the owner and group of the file of a path that is relative to a directory; with
+    AT_SYMLINK_NOFOLLOW those of a symbolic link itself. An empty path is the descriptor's own
+    file."""
     follows = 'AT_SYMLINK_NOFOLLOW' not in call.argument(4)
     node = files.node_argument_at(process, call, 0, follows)
     set_owner(files, node, call.argument(2), call.argument(3))
 
 
 def set_owner(files: LiveFiles, node: Optional[Node], user: str, group: str) -> None:
-    """Gives a file or directory an owner and a group, in the trace too; each that the call leaves
-    unchanged stays. Nothing for None."""
+    """Gives a file or directory in the trace the owner and group of a call, if it has others there;
+    a number of -1 leaves what it has. Nothing for None, nor if the trace doesn't have it. The names
+    are those of the numbers on this system."""
     path = path_in_trace(node)
     if node is None or path is None:
         return
@@ -84,12 +88,14 @@ def set_owner(files: LiveFiles, node: Optional[Node], user: str, group: str) -> 
 
 
 def path_in_trace(node: Optional[Node]) -> Optional[str]:
-    """The path at which the trace has a file or directory, or None if it has no name."""
+    """The first path at which the trace has a file or directory. None if it has no name any more,
+    or the trace doesn't have it, and for None."""
     return node.traced_path if node is not None and node.names else None
 
 
 def on_attribute(files: LiveFiles, process: Process, call: Call) -> None:
-    """Notes extended attributes, which no trace has; but a list of rights is a mode, too."""
+    """Notes that extended attributes change, which no trace has. An access control list also sets
+    the mode: nothing is noted if it has no more than a mode has."""
     node = attribute_node(files, process, call)
     path = path_in_trace(node)
     if path is None:
@@ -104,8 +110,8 @@ def on_attribute(files: LiveFiles, process: Process, call: Call) -> None:
 
 
 def attribute_node(files: LiveFiles, process: Process, call: Call) -> Optional[Node]:
-    """The file whose extended attributes a call changes, by a path or a descriptor; None if it
-    isn't followed."""
+    """The file whose extended attributes a call changes, by a descriptor (fsetxattr) or a path;
+    lsetxattr and lremovexattr mean a symbolic link itself. None if it isn't followed."""
     if not call.name.startswith('f'):
         return files.node_argument(process, call, 0, not call.name.startswith('l'))
     file = files.open_file(process, call)

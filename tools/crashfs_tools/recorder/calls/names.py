@@ -1,5 +1,5 @@
 """Calls that make, rename and remove names. Each `on_NAME` translates a call NAME that has
-returned."""
+returned. Names outside the directory, and ignored ones, aren't followed."""
 
 from __future__ import annotations
 
@@ -18,7 +18,7 @@ from crashfs_tools.recorder.strace_log import Call
 
 
 def on_unlink(files: LiveFiles, process: Process, call: Call) -> None:
-    """Removes a name."""
+    """Removes a name of a file or symbolic link."""
     remove_name(files, files.path_argument(process, call, 0))
 
 
@@ -28,7 +28,7 @@ def on_rmdir(files: LiveFiles, process: Process, call: Call) -> None:
 
 
 def on_unlinkat(files: LiveFiles, process: Process, call: Call) -> None:
-    """Removes a name, or with AT_REMOVEDIR a directory."""
+    """Removes a name relative to a directory; with AT_REMOVEDIR it is that of a directory."""
     path = files.path_argument_at(process, call, 0)
     if 'AT_REMOVEDIR' in call.argument(2):
         remove_directory(files, path)
@@ -37,8 +37,9 @@ def on_unlinkat(files: LiveFiles, process: Process, call: Call) -> None:
 
 
 def remove_name(files: LiveFiles, path: Optional[str]) -> None:
-    """Removes a name, in the trace too. If the file keeps a name that the trace lacks, the trace
-    renames it to that."""
+    """Removes a name, in the trace too if that has it. If the file keeps only names that the trace
+    lacks, the trace renames it to the first of them. A name that the trace lacks is reported, if it
+    has the file by another. Nothing for None, and for a path at which nothing is known."""
     if path is None or path not in files.tree.nodes:
         return
     node = files.tree.remove_name(path)
@@ -54,7 +55,8 @@ def remove_name(files: LiveFiles, path: Optional[str]) -> None:
 
 
 def rename_traced(files: LiveFiles, node: Node, source: str, target: str) -> None:
-    """Renames a file in the trace, from source to target."""
+    """Renames a file in the trace, from source to target. If the trace can't have that, which is
+    reported, it has the file at neither."""
     node.traced_paths.discard(source)
     if files.recording.add_operation(Rename(source, target)):
         node.traced_paths.add(target)
@@ -62,7 +64,7 @@ def rename_traced(files: LiveFiles, node: Node, source: str, target: str) -> Non
 
 def remove_directory(files: LiveFiles, path: Optional[str]) -> None:
     """Removes an empty directory, from the trace too if that has it. Of the recorded directory
-    itself it is only reported."""
+    itself it is only reported. Nothing for None, and for a path at which nothing is known."""
     if path is None or path not in files.tree.nodes:
         return
     if path == '/':
@@ -80,26 +82,27 @@ def on_mkdir(files: LiveFiles, process: Process, call: Call) -> None:
 
 
 def on_mkdirat(files: LiveFiles, process: Process, call: Call) -> None:
-    """Makes a directory at a path relative to another one."""
+    """Makes a directory at a path that is relative to another one."""
     make_directory(files, process, files.path_argument_at(process, call, 0), call.argument(2))
 
 
 def make_directory(files: LiveFiles, process: Process, path: Optional[str], mode: str) -> None:
-    """Makes a directory with a mode, less the umask; nothing for one outside (None)."""
+    """Makes a directory with the mode in an argument, less the umask; nothing for one outside
+    (None)."""
     if path is not None:
         bits = octal(mode) & ~process.paths.umask & 0o777
         files.add_new(path, Node.directory(bits))
 
 
 def on_rename(files: LiveFiles, process: Process, call: Call) -> None:
-    """Renames; the call has no flags."""
+    """Renames a file or directory of a path; the call has no flags."""
     rename_path(
         files, files.path_argument(process, call, 0), files.path_argument(process, call, 1), ''
     )
 
 
 def on_renameat(files: LiveFiles, process: Process, call: Call) -> None:
-    """Renames between paths relative to directories; renameat2 has flags, too."""
+    """Renames between paths that are relative to directories; only renameat2 has flags."""
     source, target = files.path_argument_at(process, call, 0), files.path_argument_at(
         process, call, 2
     )
@@ -107,7 +110,10 @@ def on_renameat(files: LiveFiles, process: Process, call: Call) -> None:
 
 
 def rename_path(files: LiveFiles, source: Optional[str], target: Optional[str], flags: str) -> None:
-    """Renames a file or directory, also from and to the outside of the recorded directory."""
+    """Renames a file or directory. A path that is None is outside the directory, or ignored: what
+    comes from there isn't known, also in an exchange, and what goes there is removed. A rename of
+    the recorded directory itself, or onto it, is only reported. Between two names of one file
+    nothing happens."""
     if source is None and target is None:
         return
     if '/' in (source, target):
@@ -118,6 +124,8 @@ def rename_path(files: LiveFiles, source: Optional[str], target: Optional[str], 
         files.recording.report('RENAME_WHITEOUT left a device', source)
     if source is None or node is None:
         add_from_outside(files, target)
+    elif target is None and 'RENAME_EXCHANGE' in flags:
+        add_from_outside(files, source)
     elif target is None:
         move_outside(files, source, node)
     elif 'RENAME_EXCHANGE' in flags:
@@ -127,17 +135,20 @@ def rename_path(files: LiveFiles, source: Optional[str], target: Optional[str], 
 
 
 def add_from_outside(files: LiveFiles, target: Optional[str]) -> None:
-    """Adds a file from outside, or from an ignored name: its bytes aren't known."""
+    """Adds, in the place of what is at a path and below it, a file from outside, or from a name
+    that is ignored or not known, and reports it: its bytes aren't known, and the trace keeps what
+    it has there. Nothing for None."""
     if target is None:
         return
     files.recording.report('renamed to from outside the directory, or from an ignored name', target)
     if target in files.tree.nodes:
-        files.tree.remove_name(target)
+        forget_below(files, target)
     files.tree.add_name(target, Node.unknown())
 
 
 def move_outside(files: LiveFiles, source: str, node: Node) -> None:
-    """Removes what was renamed to the outside, or to an ignored name."""
+    """Removes what was renamed to the outside, or to an ignored name. A directory that has entries
+    is reported: the trace keeps it, and it isn't followed any more."""
     if node.is_directory and files.tree.paths_below(source):
         files.recording.report('a directory with entries was renamed out of the directory', source)
         forget_below(files, source)
@@ -148,13 +159,15 @@ def move_outside(files: LiveFiles, source: str, node: Node) -> None:
 
 
 def forget_below(files: LiveFiles, path: str) -> None:
-    """Forgets a path and what is below it. The trace keeps both."""
+    """Removes a path and what is below it from the live tree only; the trace keeps both."""
     for gone in [path] + files.tree.paths_below(path):
         files.tree.remove_name(gone).traced_paths.discard(gone)
 
 
 def exchange_names(files: LiveFiles, source: str, target: str) -> None:
-    """Exchanges two names. No trace has that: it is reported."""
+    """Exchanges two names. No trace has that: it is reported, both names may differ at the end, and
+    the trace keeps what it has at them. Files get each other's name in the live tree; a directory
+    is forgotten, with what is below it."""
     files.recording.report(f'exchanged with {target}, which no trace can say', source)
     files.recording.differing.add(target)
     for path in (source, target):
@@ -172,7 +185,8 @@ def exchange_names(files: LiveFiles, source: str, target: str) -> None:
 
 
 def rename_file(files: LiveFiles, source: str, target: str, node: Node) -> None:
-    """Renames a file or directory within the recorded directory; what has the name goes."""
+    """Moves a file or directory within the recorded directory, in the trace too if that has it.
+    What has the target's name is replaced. If the trace lacks the file, that is reported."""
     if target in files.tree.nodes:
         replace_name(files, files.tree.remove_name(target), target)
     files.tree.move_node(source, target)
@@ -186,7 +200,8 @@ def rename_file(files: LiveFiles, source: str, target: str, node: Node) -> None:
 
 
 def replace_name(files: LiveFiles, node: Node, path: str) -> None:
-    """Removes a path from a file, since another file is renamed to it."""
+    """Takes a path, to which another file is renamed, from the file that had it. If that keeps only
+    names that the trace lacks, it is reported."""
     if path in node.traced_paths:
         node.traced_paths.discard(path)
         if node.names and not node.traced_paths:
@@ -194,7 +209,9 @@ def replace_name(files: LiveFiles, node: Node, path: str) -> None:
 
 
 def rename_directory(files: LiveFiles, node: Node, source: str, target: str) -> None:
-    """Renames a directory in the trace, if its version may have that."""
+    """Renames in the trace a directory that was moved in the live tree already. If the trace lacks
+    it, or can't have that, it is reported, and what is done below the directory is left out from
+    then on."""
     if source in node.traced_paths and files.recording.raise_version_for(
         renamed_directory_reason(source)
     ):
@@ -212,19 +229,22 @@ def rename_directory(files: LiveFiles, node: Node, source: str, target: str) -> 
 
 
 def on_link(files: LiveFiles, process: Process, call: Call) -> None:
-    """Gives a file another name. A symbolic link is linked itself."""
+    """Gives a file another name. A symbolic link at the end of the old path is linked itself."""
     node = files.node_argument(process, call, 0, follows=False)
     add_link(files, node, files.path_argument(process, call, 1))
 
 
 def on_linkat(files: LiveFiles, process: Process, call: Call) -> None:
-    """Gives a file another name, by paths relative to directories."""
+    """Gives a file another name, by paths that are relative to directories; with AT_SYMLINK_FOLLOW
+    a symbolic link is followed. An empty old path is the descriptor's own file."""
     node = files.node_argument_at(process, call, 0, 'AT_SYMLINK_FOLLOW' in call.argument(4))
     add_link(files, node, files.path_argument_at(process, call, 2))
 
 
 def add_link(files: LiveFiles, node: Optional[Node], target: Optional[str]) -> None:
-    """Adds a second name, or the first one of a file of O_TMPFILE."""
+    """Gives a file another name, in the trace too if that has the file; to one of O_TMPFILE it may
+    be the first. A file that isn't known (None) is reported. Nothing for a target outside
+    (None)."""
     if target is None:
         return
     if node is None:
@@ -242,7 +262,8 @@ def add_link(files: LiveFiles, node: Optional[Node], target: Optional[str]) -> N
 
 
 def name_temporary_file(files: LiveFiles, node: Node, path: str) -> None:
-    """Gives a file of O_TMPFILE its first name: the trace makes it there, with all its bytes."""
+    """Gives a file of O_TMPFILE its first name: the trace makes it there, with all its bytes. If it
+    was synced before, the trace has a sync after the name, and that is reported."""
     files.add_new(path, node)
     if node.data and path in node.traced_paths:
         files.write_bytes(node, 0, bytes(node.data))
@@ -267,7 +288,7 @@ def on_symlinkat(files: LiveFiles, process: Process, call: Call) -> None:
 
 def make_symbolic_link(files: LiveFiles, path: Optional[str], word: str) -> None:
     """Makes a symbolic link; word is the argument that has its target. One that no trace may have
-    is reported."""
+    is reported, and not followed. Nothing for a path outside (None)."""
     target = arguments.path_of_text(word) or ''
     fault = target_fault(target)
     if fault:
@@ -282,12 +303,13 @@ def on_mknod(files: LiveFiles, process: Process, call: Call) -> None:
 
 
 def on_mknodat(files: LiveFiles, process: Process, call: Call) -> None:
-    """Makes a plain file at a path relative to a directory; reports a device or a pipe."""
+    """Makes a plain file at a path that is relative to a directory; reports a device or a pipe."""
     make_file(files, process, files.path_argument_at(process, call, 0), call.argument(2))
 
 
 def make_file(files: LiveFiles, process: Process, path: Optional[str], mode: str) -> None:
-    """Makes a plain file by mknod; another kind is reported."""
+    """Makes a plain file with the mode in an argument, less the umask; a device or a pipe is
+    reported. Nothing for a path outside (None)."""
     if path is None:
         return
     if 'S_IFREG' in mode or not mode.startswith('S_IF'):
@@ -298,7 +320,8 @@ def make_file(files: LiveFiles, process: Process, path: Optional[str], mode: str
 
 
 def on_bind(files: LiveFiles, process: Process, call: Call) -> None:
-    """Reports a socket that is bound to a path."""
+    """Reports a socket that is bound to a path; an abstract name, and another kind of address, has
+    none."""
     shown = call.argument(1).partition('sun_path=')[2].partition('}')[0]
     if shown.startswith('"'):
         path = files.join_path(process.paths.directory, shown)
@@ -306,7 +329,8 @@ def on_bind(files: LiveFiles, process: Process, call: Call) -> None:
 
 
 def add_untraceable(files: LiveFiles, path: Optional[str], what: str) -> None:
-    """Adds something that no trace can have, and reports it."""
+    """Adds to the live tree something that no trace can have, and reports it as `what`, if the
+    trace has its directory. Nothing for a path outside (None)."""
     if path is None:
         return
     parent = files.tree.node_at(parent_of(path))

@@ -1,4 +1,5 @@
-"""Calls that open, close and duplicate. Each `on_NAME` translates a call NAME that has returned."""
+"""Calls that open, close and duplicate. Each `on_NAME` translates a call NAME that has returned;
+descriptors of files elsewhere aren't followed."""
 
 from __future__ import annotations
 
@@ -15,21 +16,21 @@ CREAT_FLAGS = 'O_WRONLY|O_CREAT|O_TRUNC'
 
 
 def on_open(files: LiveFiles, process: Process, call: Call) -> None:
-    """Opens a path."""
+    """Opens a path, which may be relative to the working directory."""
     word, flags, mode = call.argument(0), call.argument(1), call.argument(2)
     path = files.path_argument(process, call, 0, follows_last_link(flags))
     open_path(files, process, call, word=word, path=path, flags=flags, mode=mode)
 
 
 def on_openat(files: LiveFiles, process: Process, call: Call) -> None:
-    """Opens a path relative to a directory."""
+    """Opens a path that may be relative to a directory's descriptor."""
     word, flags, mode = call.argument(1), call.argument(2), call.argument(3)
     path = files.path_argument_at(process, call, 0, follows_last_link(flags))
     open_path(files, process, call, word=word, path=path, flags=flags, mode=mode)
 
 
 def on_openat2(files: LiveFiles, process: Process, call: Call) -> None:
-    """Opens a path relative to a directory; flags and mode are fields of one argument."""
+    """Opens a path as openat does; flags and mode are fields of one argument, and no mode is 0."""
     word, how = call.argument(1), call.argument(2)
     found = re.search(r'mode=(0[0-7]*)', how)
     mode = found[1] if found else ''
@@ -38,14 +39,14 @@ def on_openat2(files: LiveFiles, process: Process, call: Call) -> None:
 
 
 def on_creat(files: LiveFiles, process: Process, call: Call) -> None:
-    """Opens a path to write it from its beginning."""
+    """Opens a path as open does with CREAT_FLAGS: makes the file, or truncates it."""
     word, mode = call.argument(0), call.argument(1)
     path = files.path_argument(process, call, 0, follows=True)
     open_path(files, process, call, word=word, path=path, flags=CREAT_FLAGS, mode=mode)
 
 
 def follows_last_link(flags: str) -> bool:
-    """Whether an open follows a symbolic link at its path's end."""
+    """Whether an open follows a symbolic link at its path's end: not with O_NOFOLLOW or O_EXCL."""
     return 'O_NOFOLLOW' not in flags and 'O_EXCL' not in flags
 
 
@@ -59,8 +60,10 @@ def open_path(
     flags: str,
     mode: str,
 ) -> None:
-    """Opens a path of the directory, or None for one elsewhere. `word` is the argument that has the
-    path; flags and mode are as the call has them."""
+    """Sets the file of the descriptor that an open returned: by the path that strace shows for it,
+    else by `path`, which is None for one elsewhere (not followed). `word` is the argument that has
+    the path: if it means an open file or stream, as /dev/stdout does, that is opened again. flags
+    and mode are as the call has them."""
     known = files.open_file_of_path(process, word)
     if known is not None and known.node is None:
         process.descriptors.set_file(
@@ -79,7 +82,8 @@ def open_path(
 
 
 def reopen_file(files: LiveFiles, known: OpenFile, flags: str) -> Optional[Node]:
-    """Opens a file again by its descriptor, also one that has no name any more."""
+    """The file of a descriptor that is opened again, truncated with O_TRUNC; it may have no name
+    any more."""
     node = known.node
     if node is not None and 'O_TRUNC' in flags and node.size:
         files.set_length(node, 0)
@@ -89,7 +93,9 @@ def reopen_file(files: LiveFiles, known: OpenFile, flags: str) -> Optional[Node]
 def node_to_open(
     files: LiveFiles, process: Process, path: Optional[str], flags: str, mode: str
 ) -> Optional[Node]:
-    """The file that an open returns, created or truncated as its flags say."""
+    """The file that an open returns, made or truncated as its flags say; with O_TMPFILE one without
+    a name. None if the path is elsewhere (None), or nothing is known there, which is reported
+    unless O_PATH is among the flags."""
     if path is None:
         return None
     if 'O_PATH' in flags:
@@ -98,6 +104,7 @@ def node_to_open(
     if 'O_TMPFILE' in flags:
         made = Node.file(bits)
         made.is_temporary = True
+        files.temporary.add(made)
         return made
     node = files.tree.node_at(path)
     if node is None and 'O_CREAT' in flags:
@@ -117,7 +124,8 @@ def on_close(files: LiveFiles, process: Process, call: Call) -> None:
 
 
 def on_close_range(files: LiveFiles, process: Process, call: Call) -> None:
-    """Closes a range of descriptors, or has exec close them, as its flags say."""
+    """Closes the followed descriptors of a range, or has exec close them (CLOEXEC). With UNSHARE
+    the process gets a table of its own first."""
     descriptors = process.descriptors
     if 'UNSHARE' in call.argument(2):
         descriptors = process.descriptors = descriptors.copy()
@@ -132,7 +140,9 @@ def on_close_range(files: LiveFiles, process: Process, call: Call) -> None:
 def duplicate_descriptor(
     files: LiveFiles, process: Process, call: Call, closed_by_exec: bool
 ) -> None:
-    """Duplicates a descriptor; of one that acknowledges something, both are one stream."""
+    """Makes the result a duplicate of the descriptor, for the same open file or stream; nothing if
+    both are one number. If --say-fd names one of the two, the stream acknowledges something by
+    both. If the descriptor isn't followed, neither is the result."""
     old, streams = call.descriptor(), files.recording.streams
     if old.number == call.result:
         return
@@ -146,12 +156,13 @@ def duplicate_descriptor(
 
 
 def on_dup(files: LiveFiles, process: Process, call: Call) -> None:
-    """Duplicates a descriptor; only dup3 has flags."""
+    """Duplicates a descriptor; only dup3 has flags, by which exec closes the duplicate."""
     duplicate_descriptor(files, process, call, 'O_CLOEXEC' in call.argument(2))
 
 
 def on_fcntl(files: LiveFiles, process: Process, call: Call) -> None:
-    """Duplicates a descriptor, or sets what exec and writes do with it."""
+    """Duplicates a descriptor, or sets whether exec closes it and whether its writes append. Other
+    commands change nothing here."""
     number, command = call.descriptor().number, call.argument(1)
     if command.startswith('F_DUPFD'):
         duplicate_descriptor(files, process, call, 'CLOEXEC' in command)

@@ -13,21 +13,23 @@ from crashfs_tools.recorder.strace_log import Call
 
 
 def on_clone(files: LiveFiles, process: Process, call: Call) -> None:
-    """Adds the process or thread that a fork makes, unless it has called already."""
+    """Adds the process or thread that a fork made, unless it has made a call already: then it is
+    known."""
     if call.result > 0 and call.result not in files.processes:
         files.processes[call.result] = process.forked_child(call)
 
 
 def on_execve(files: LiveFiles, process: Process, call: Call) -> None:
     """Starts another program in a process: some descriptors are closed, nothing is mapped any more,
-    and the working directory and the umask are no longer shared with threads."""
+    and nothing is shared with threads any more."""
     process.descriptors = process.descriptors.after_exec()
     process.paths = process.paths.copy()
     process.memory = Memory()
 
 
 def on_chdir(files: LiveFiles, process: Process, call: Call) -> None:
-    """Sets the working directory by a path."""
+    """Sets the working directory, for all threads that share it, by a path. A path that strace cut
+    leaves the old one."""
     path = arguments.path_of_text(call.argument(0))
     if path is not None:
         place = process.paths
@@ -36,7 +38,7 @@ def on_chdir(files: LiveFiles, process: Process, call: Call) -> None:
 
 
 def on_fchdir(files: LiveFiles, process: Process, call: Call) -> None:
-    """Sets the working directory by a descriptor."""
+    """Sets the working directory by a descriptor. It stays if strace shows no path of that."""
     process.paths.directory = call.descriptor().path or process.paths.directory
 
 
@@ -46,7 +48,8 @@ def on_umask(files: LiveFiles, process: Process, call: Call) -> None:
 
 
 def on_chroot(files: LiveFiles, process: Process, call: Call) -> None:
-    """Reports that paths of a process mean other files from here on."""
+    """Reports that paths of a process mean other files from here on; they are followed as
+    before."""
     path = arguments.path_of_text(call.argument(0)) or '/'
     files.recording.report('chroot: paths of that process mean other files from here on', path)
 

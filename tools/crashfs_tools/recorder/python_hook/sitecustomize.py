@@ -74,9 +74,10 @@ def mark_builtin_call(
     last: Any = threading.local(),
     access: Callable[[str, int], bool] = os.access,
 ) -> None:
-    """What Python calls at each call and return: for a call of a built-in function of WATCHED, from
-    another line than the last one, it calls `access` with the line. The last parameters are kept
-    from a program that changes os."""
+    """What Python calls at each call and return, in each thread. For a call of a built-in function
+    of WATCHED, from another line than that thread's last one, it calls `access` with the program's
+    lines. `last` and `access` are parameters so that a program which changes os doesn't change
+    them."""
     if event == 'c_call' and called.__name__ in WATCHED:
         place = frame.f_code, frame.f_lineno
         if getattr(last, 'place', None) != place:
@@ -85,8 +86,8 @@ def mark_builtin_call(
 
 
 def program_lines(innermost: FrameType) -> str:
-    """The program's own innermost frames, FRAMES at most, as `kv.py:85 main < ..`; those of the
-    standard library are left out."""
+    """The program's own innermost frames, FRAMES at most, as `kv.py:85 main < ..`. Those of the
+    standard library are left out; empty if there are no others."""
     found: List[str] = []
     frame: Optional[FrameType] = innermost
     while frame is not None and len(found) < FRAMES:
@@ -99,7 +100,8 @@ def program_lines(innermost: FrameType) -> str:
 
 
 def run_replaced_module() -> None:
-    """Runs the sitecustomize that this one took the place of."""
+    """Runs the sitecustomize that Python would have loaded without this one, if there is one. What
+    it raises is passed on."""
     here = os.path.dirname(os.path.abspath(__file__))
     path = [one for one in sys.path if os.path.abspath(one or '.') != here]
     spec = PathFinder.find_spec('sitecustomize', path)
