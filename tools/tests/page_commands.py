@@ -33,7 +33,7 @@ NOT_RUN = {
     'README.md': {
         'apt-get install git python3 strace': 'it needs root and a network',
         'tools/test': 'it runs these tests',
-        'tools/build': 'it needs the toolchain, and 150 minutes of processor time',
+        'tools/build': 'it needs the toolchain, and 200 minutes of processor time',
     },
     'docs/CONTRIBUTING.md': {
         'python3 -m unittest': 'they run tests, these too',

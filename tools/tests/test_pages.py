@@ -131,11 +131,11 @@ class Figures(unittest.TestCase):
 
     def test_the_times_of_builds_are_those_of_contributing(self) -> None:
         cell = rows_of('CONTRIBUTING.md')['a first build by `tools/build`'][0]
-        self.assertEqual(cell, '150 processor minutes, 40 or more on four cores; 10 GB')
+        self.assertEqual(cell, '200 processor minutes, about an hour on four cores; 10 GB')
         text = ' '.join(README.split())
         for words in (
-            '150 minutes of processor time',
-            'at least 40 minutes on four cores',
+            '200 minutes of processor time',
+            'about an hour on four cores',
             '10 GB',
         ):
             self.assertIn(words, text)
