@@ -167,10 +167,12 @@ class Results:
 
 @dataclass
 class AllResults:
-    """The results of a check that is over, window by window."""
+    """The results of a check that is over, window by window. further are those of the options
+    `--nested` and `--disks` of which the check's report has findings that no window has."""
 
     head: Head
     windows: List[Results]
+    further: Tuple[str, ...] = ()
 
 
 def known_states(before: Plan, plan: Plan) -> Dict[int, int]:
