@@ -137,6 +137,26 @@ class Reports(InFolder):
         merged = self.run_tool('crashfs-check', '--merge', *shards)
         self.assertIn('all 6 crash states under ordered: none fails', merged.stdout)
 
+    def test_shards_of_different_profiles_are_not_merged(self) -> None:
+        shards = [self.path(f'{part}.json') for part in (1, 2)]
+        self.check('--in', 'ordered', '--shard', '1/2', '--json', shards[0])
+        for words in ([], ['--in', 'blocks']):
+            self.check(*words, '--shard', '2/2', '--json', shards[1])
+            for given in (shards, shards[::-1]):
+                ran = self.run_tool('crashfs-check', '--merge', *given)
+                self.assertEqual(ran.returncode, 2, ran.stdout)
+                self.assertIn('the reports are not shards of one check', ran.stderr)
+
+    def test_a_check_of_another_profile_is_not_resumed(self) -> None:
+        path = self.path('r.json')
+        for first, second in [(['--in', 'ordered'], []), ([], ['--in', 'ordered'])]:
+            lines = self.check(*first, '--json', path)
+            self.assertEqual(self.check(*first, '--resume', path), lines)
+            words = *('--every', *second, '--resume', path, self.path('a.trace')), '--'
+            ran = self.run_tool('crashfs-check', '--crashfs', FAKE, *words, 'sh', '-c', WITHOUT_A)
+            self.assertEqual((ran.returncode, ran.stdout), (2, ''))
+            self.assertIn('--resume: that is a report of another check', ran.stderr)
+
     def test_of_families_too_only_the_states_of_a_profile_are_tried(self) -> None:
         for which, before, after in (
             ('--families', '8 states, 8 different: 2 fail', '6 states under ordered, 6 different'),
