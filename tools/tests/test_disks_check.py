@@ -24,6 +24,7 @@ from crashfs_tools.checker.findings.sightings import (
     sentence,
 )
 from crashfs_tools.checker.options import Options, Shard
+from crashfs_tools.checker.report.json_report import json_pieces
 from crashfs_tools.checker.report.junit import junit_lines
 from crashfs_tools.checker.report.page import page
 from crashfs_tools.checker.report.report import CheckReport
@@ -177,6 +178,19 @@ class Reports(unittest.TestCase):
 
 
 class Refusals(InStore):
+    def test_a_report_of_disks_is_not_merged(self) -> None:
+        """The merged report would lack the failures that only disks have."""
+        self.assertEqual(self.check('--json', 'r.json', self.good).returncode, 0)
+        self.assertEqual(self.run_tool('crashfs-check', '--merge', 'r.json').returncode, 0)
+        report = CheckReport(Head('t.trace', '', ['true']))
+        report.sightings = Sightings(['ext4'], {'ext4': 9}, {'ext4': 9}, {'ext4': 0}, {}, [])
+        seen = json.loads(''.join(json_pieces(report)))['disks']
+        fields = {**json.loads(self.read('r.json')), 'disks': seen}
+        self.write('r.json', json.dumps(fields))
+        ran = self.run_tool('crashfs-check', '--merge', 'r.json')
+        told = 'crashfs-check: r.json: it has findings of --disks, which --merge would drop\n'
+        self.assertEqual((ran.returncode, ran.stdout, ran.stderr), (2, '', told))
+
     def test_what_is_missing_is_named(self) -> None:
         for words, wanted in [
             (('--disks', 'ext4,zfs'), '--disks zfs: no such file system'),

@@ -10,7 +10,7 @@ from crashfs_tools.checker.report.json_report import group_fields
 from crashfs_tools.checker.report.text import WIDTH, ReportText
 from crashfs_tools.checker.running.results import Head, Results
 from crashfs_tools.checker.running.runner import BAD, GOOD, Outcome
-from crashfs_tools.checker.states.plan import read_plan
+from crashfs_tools.checker.states.read_plan import read_plan
 from crashfs_tools.common.trace_lines import TraceLine, read_text, with_syncs, without_numbers
 from crashfs_tools.reading import plan_of, read
 from crashfs_tools.reading.listing import json_listing

@@ -7,7 +7,8 @@ from types import SimpleNamespace
 from crashfs_tools.checker.findings.losses import RUNS, Searches, loss_search
 from crashfs_tools.checker.findings.pairs import Loss, Pair
 from crashfs_tools.checker.running.runner import BAD, GOOD, Outcome
-from crashfs_tools.checker.states.plan import State, read_plan
+from crashfs_tools.checker.states.plan import State
+from crashfs_tools.checker.states.read_plan import read_plan
 from crashfs_tools.reading import plan_of, read
 
 from .support import FAKE

@@ -69,6 +69,19 @@ class Recoveries(InRecoveries):
             f"--state {one['state']}/{one['groups'][0]['example']}", lines[2].partition('e.g. ')[2]
         )
 
+    def test_a_report_with_second_crashes_is_not_merged(self):
+        """The merged report would lack the failures of second crashes: none fails, status 0."""
+        self.assertEqual(self.nested('--nested', '2', '--json', 'r.json').returncode, 1)
+        ran = self.run_tool('crashfs-check', '--merge', 'r.json')
+        self.assertEqual(
+            (ran.returncode, ran.stdout, ran.stderr),
+            (
+                2,
+                '',
+                'crashfs-check: r.json: it has findings of --nested, which --merge would drop\n',
+            ),
+        )
+
     def test_the_first_failure_of_a_second_crash_ends_a_check_by_fail_fast(self):
         ran = self.nested('--nested', '4', '--fail-fast')
         self.assertEqual((ran.returncode, ran.stderr), (1, ''))

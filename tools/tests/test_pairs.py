@@ -17,7 +17,7 @@ from crashfs_tools.checker.states.plan import (
     State,
     Trial,
 )
-from crashfs_tools.checker.states.plan import read_plan as read_listed
+from crashfs_tools.checker.states.read_plan import read_plan as read_listed
 from crashfs_tools.common.trace_lines import TraceLine
 
 # The paths have a blank, and a text that lines of `list` have after a path.

@@ -3,6 +3,7 @@
 from __future__ import annotations
 
 import json
+import re
 import unittest
 from types import SimpleNamespace
 from typing import Any, Dict, List, Set, Tuple
@@ -15,7 +16,7 @@ from crashfs_tools.reading import StateList, read
 from crashfs_tools.reading.every import every_set
 from crashfs_tools.reading.order import orders_in
 
-from .support import FAKE, InFolder
+from .support import EXAMPLES, FAKE, InFolder
 from .test_all_states import OPTIONS, trace_texts
 from .test_windows import HEADER, Reader, creat, said, write
 
@@ -137,6 +138,26 @@ class Reports(InFolder):
         merged = self.run_tool('crashfs-check', '--merge', *shards)
         self.assertIn('all 6 crash states under ordered: none fails', merged.stdout)
 
+    def test_shards_of_different_profiles_are_not_merged(self) -> None:
+        shards = [self.path(f'{part}.json') for part in (1, 2)]
+        self.check('--in', 'ordered', '--shard', '1/2', '--json', shards[0])
+        for words in ([], ['--in', 'blocks']):
+            self.check(*words, '--shard', '2/2', '--json', shards[1])
+            for given in (shards, shards[::-1]):
+                ran = self.run_tool('crashfs-check', '--merge', *given)
+                self.assertEqual(ran.returncode, 2, ran.stdout)
+                self.assertIn('the reports are not shards of one check', ran.stderr)
+
+    def test_a_check_of_another_profile_is_not_resumed(self) -> None:
+        path = self.path('r.json')
+        for first, second in [(['--in', 'ordered'], []), ([], ['--in', 'ordered'])]:
+            lines = self.check(*first, '--json', path)
+            self.assertEqual(self.check(*first, '--resume', path), lines)
+            words = *('--every', *second, '--resume', path, self.path('a.trace')), '--'
+            ran = self.run_tool('crashfs-check', '--crashfs', FAKE, *words, 'sh', '-c', WITHOUT_A)
+            self.assertEqual((ran.returncode, ran.stdout), (2, ''))
+            self.assertIn('--resume: that is a report of another check', ran.stderr)
+
     def test_of_families_too_only_the_states_of_a_profile_are_tried(self) -> None:
         for which, before, after in (
             ('--families', '8 states, 8 different: 2 fail', '6 states under ordered, 6 different'),
@@ -169,10 +190,22 @@ class Reports(InFolder):
         self.assertIn('all 12 crash states (12 sets): 3 fail: 3 lost', found[''])
         self.assertIn('all 4 crash states under journal: 2 fail: 2 lost', found['--in journal'])
 
+    def test_an_entry_that_only_the_window_before_tried_names_no_profiles(self) -> None:
+        """States 15, 17 and 20 are equal to state 4 of the window before, and have another pair."""
+        script = 'case $CRASHFS_STATE in 4|15|17|20) echo lost a; exit 1; esac'
+        words = '--unproved', '--window', '6', '--json', 'r.json', str(EXAMPLES / 'store.trace')
+        ran = self.run_tool('crashfs-check', *words, '--', 'sh', '-c', script)
+        self.assertEqual((ran.returncode, ran.stderr), (1, ''))
+        self.assertEqual(ran.stdout.count('e.g.') + ran.stdout.count('1 state: '), 2)
+        self.assertEqual(re.findall('under .*', ran.stdout), ['under blocks and ordered'])
+        found = [group['under'] for group in json.loads(self.read('r.json'))['groups']]
+        self.assertEqual(found, [{'blocks': 1, 'ordered': 1}, {}])
+
     def test_the_text_counts_where_not_all_are_allowed(self) -> None:
         def text(are_all: bool = True, **under: int) -> str:
             sets = {name: frozenset((it,) for it in range(count)) for name, count in under.items()}
-            group = SimpleNamespace(under=sets, count=max(under.values()))
+            most = max(under.values())
+            group = SimpleNamespace(under=sets, tried=sets, count=most)
             found: Any = group
             return profiles_text(found, are_all)
 

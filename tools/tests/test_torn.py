@@ -3,7 +3,7 @@
 import unittest
 
 from crashfs_tools.checker.findings.torn import kept_part
-from crashfs_tools.checker.states.plan import read_plan
+from crashfs_tools.checker.states.read_plan import read_plan
 
 from .test_groups import THIRD, line, plan_text, write
 

@@ -10,8 +10,9 @@ from crashfs_tools.checker.report.report import CheckReport
 from crashfs_tools.checker.report.text import ReportText
 from crashfs_tools.checker.running.results import Head, Results, known_states
 from crashfs_tools.checker.states.place_sets import places_of
-from crashfs_tools.checker.states.plan import Offsets, Planned, read_plan
+from crashfs_tools.checker.states.plan import Offsets, Planned
 from crashfs_tools.checker.states.planning import Planner
+from crashfs_tools.checker.states.read_plan import read_plan
 from crashfs_tools.checker.states.steps import Session, Steps
 from crashfs_tools.checker.states.windows import Windows
 from crashfs_tools.common import limits

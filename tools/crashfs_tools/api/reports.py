@@ -8,6 +8,7 @@ from typing import Callable, Dict, Iterator, List, Optional, Union
 
 from crashfs_tools.checker.findings.groups import Group
 from crashfs_tools.checker.findings.accepted_failures import AcceptedFailure
+from crashfs_tools.checker.report.counts import counts_by_profile
 from crashfs_tools.checker.report.report import CheckReport
 from crashfs_tools.checker.report.text import ReportText
 from crashfs_tools.common.command import write_whole
@@ -25,8 +26,8 @@ class Entry:
     count is how many of them differ, and example is the number of the one that lacks the least.
     lost and kept are the two lines of the trace, each None if there is none. syncs has, by the
     number of a line, the path to sync after it. profiles has for each profile how many of the
-    different states it allows. accepted is the known failure that the entry is; None if it is no
-    known one."""
+    different states it allows; it is empty if all are equal to states of the window before.
+    accepted is the known failure that the entry is; None if it is no known one."""
 
     cause: str
     text: List[str]
@@ -156,6 +157,6 @@ class Report:
             group.lost,
             group.kept,
             dict(group.advice.syncs),
-            {name: len(states) for name, states in group.under.items()},
+            counts_by_profile(group),
             group.accepted,
         )

@@ -217,7 +217,7 @@ class Check:
     def take_earlier(self, earlier: AllResults, results: Results) -> None:
         """Adds to the results of a new window the outcomes that --resume has of it; none if the
         earlier check ended before it. Refused if the window there has other micro-operations,
-        states or needs: that was another check."""
+        states or needs, or another profile: that was another check."""
         place = self.report.counts.windows
         if place < len(earlier.windows):
             if earlier.windows[place].identity() != results.identity():

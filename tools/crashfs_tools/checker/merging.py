@@ -20,6 +20,7 @@ from .checking import new_report
 from .options import NAME, Options
 
 OTHER_TRACE = 'that is not the trace of the reports'
+OTHER_FINDINGS = 'it has findings of {}, which --merge would drop'
 OTHER_PLAN = (
     'the trace has other states than the reports: give the options that they were made with'
 )
@@ -27,9 +28,9 @@ OTHER_PLAN = (
 
 def merged_report(options: Options) -> CheckReport:
     """The report of the files of --merge. If TRACE is given, its states are made again to show how
-    files differ; otherwise no program runs. Refused if a file can't be read, if they aren't all
-    shards of one check, or not of TRACE."""
-    results = merged_shards([read_json(path) for path in options.merge or []])
+    files differ; otherwise no program runs. Refused if a file can't be read or has findings that a
+    merged report would lack, if they aren't all shards of one check, or not of TRACE."""
+    results = merged_shards([read_shard(path) for path in options.merge or []])
     if options.trace is None:
         return report_of(options, results)
     program = Crashfs.program_or_reading(options.crashfs, options.unproved)
@@ -38,6 +39,16 @@ def merged_report(options: Options) -> CheckReport:
         if trace.head().digest != results.head.digest:
             raise Refused(f'{options.trace}: {OTHER_TRACE}')
         return report_of(options, results, trace)
+
+
+def read_shard(path: str) -> AllResults:
+    """The results in one file of --merge. Refused as read_json() is, and if its report has findings
+    of second crashes or of disks: a merged report would lack them, and might report no failure."""
+    results = read_json(path)
+    if results.further:
+        options = ' and '.join(results.further)
+        raise Refused(f'{path}: {OTHER_FINDINGS.format(options)}')
+    return results
 
 
 def report_of(

@@ -6,7 +6,7 @@ from collections import Counter
 from dataclasses import dataclass, field
 from itertools import takewhile
 from typing import Counter as Counts
-from typing import FrozenSet, List, NamedTuple, Optional, Tuple
+from typing import Dict, FrozenSet, List, NamedTuple, Optional, Tuple
 
 from crashfs_tools.checker.findings.groups import Findings, Group
 from crashfs_tools.checker.running.results import Head
@@ -133,6 +133,13 @@ class StateCounts:
         """Whether the whole check has tried all states that it chose. False for a shard, even if
         none of its own states is left, and if the session goes on after the last window."""
         return head.shard.parts == 1 and not self.left and not head.has_rest
+
+
+def counts_by_profile(group: Group) -> Dict[str, int]:
+    """For each profile how many of a group's different states a crash may leave by its rules. Empty
+    if the profiles aren't known, or if the window before tried all of these states: the sets of
+    that window may leave them too, under other profiles."""
+    return {name: len(states) for name, states in group.under.items()} if group.tried else {}
 
 
 def states_of_accepted(groups: List[Group]) -> AcceptedStates:

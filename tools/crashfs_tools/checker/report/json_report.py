@@ -10,6 +10,7 @@ from crashfs_tools.checker.findings.groups import Group
 from crashfs_tools.checker.findings.second_crashes import Recovery
 from crashfs_tools.checker.running.results import Results
 
+from .counts import counts_by_profile
 from .json_text import COMPACT, as_json, unpacked
 from .report import CheckReport
 from .text import ReportText
@@ -73,7 +74,7 @@ def group_fields(report: CheckReport, group: Group) -> Dict[str, Any]:
         'cause': group.cause,
         'states': [state.number for state in group.states],
         'different': group.count,
-        'under': {name: len(states) for name, states in group.under.items()},
+        'under': counts_by_profile(group),
         'explained': len(group.explained),
         'covered': group.is_covered,
         'example': group.example.number,

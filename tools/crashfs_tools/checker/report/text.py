@@ -11,7 +11,7 @@ from crashfs_tools.common.printable import printable
 from crashfs_tools.common.program import can_be_built
 from crashfs_tools.common.trace_lines import TraceLine
 
-from .counts import states_of_accepted
+from .counts import counts_by_profile, states_of_accepted
 from .report import CheckReport
 from .summary import Summary, rest_lines
 
@@ -262,7 +262,7 @@ class ReportText:
             more = len(lost) - SHOWN_LINES
             also = f' and {number_of(more, "more line")}' if more > 0 else ''
             lines.append(f'state {group.example.number} also lacks {shown}{also}')
-        if group.under:
+        if counts_by_profile(group):
             lines.append(profiles_text(group, self.counts.has_every))
         if self.report.sightings is not None:
             lines.append(self.report.sightings.sentence([state.number for state in group.states]))
@@ -277,9 +277,9 @@ class ReportText:
 
 def profiles_text(group: Group, are_all: bool) -> str:
     """The profiles that allow states of an entry, with how many if they don't allow all, and those
-    that allow none. are_all says whether all sets that leave the states were looked at; if not, the
-    text says that too."""
-    counts = {name: len(states) for name, states in group.under.items()}
+    that allow none; counts_by_profile() must not be empty. are_all says whether all sets that leave
+    the states were looked at; if not, the text says that too."""
+    counts = counts_by_profile(group)
     is_same = all(count in (0, group.count) for count in counts.values())
     allow = [
         shown_profile(name) if is_same else f'{shown_profile(name)}: {count:,}'

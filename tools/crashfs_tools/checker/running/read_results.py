@@ -38,7 +38,7 @@ def read_json(path: str) -> AllResults:
         windows = [results_of(one) for one in fields['windows']]
         if not windows and not head.stopped:
             raise ValueError('no window')
-        return AllResults(head, windows)
+        return AllResults(head, windows, further_of(fields))
     except OSError as error:
         raise Refused(f'{path}: {error.strerror}') from error
     except (ValueError, KeyError, TypeError, AttributeError, RecursionError) as error:
@@ -69,6 +69,12 @@ def head_of(fields: Dict[str, Any]) -> Head:
         boolean(fields.get('has_rest', False)),
         integer(fields.get('refused_version', 0)),
     )
+
+
+def further_of(fields: Dict[str, Any]) -> Tuple[str, ...]:
+    """The options among `--nested` and `--disks` of which a whole report has findings."""
+    found = {'--nested': fields.get('recoveries'), '--disks': fields.get('disks')}
+    return tuple(option for option, findings in found.items() if findings)
 
 
 def results_of(fields: Dict[str, Any]) -> Results:

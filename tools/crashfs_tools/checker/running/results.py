@@ -143,8 +143,9 @@ class Results:
 
     def identity(self) -> Tuple[object, ...]:
         """What is equal for two results of one window of a trace: its micro-operations, states and
-        needs."""
-        return self.plan.operations, self.plan.listed, self.plan.needs.masks
+        needs, and the profile whose states are tried."""
+        plan = self.plan
+        return plan.operations, plan.listed, plan.needs.masks, plan.profiles.wanted
 
     def fields(self) -> Dict[str, Any]:
         """What a file of --json has of a window, by its keys: results_of() reads it. The seconds of
@@ -167,10 +168,12 @@ class Results:
 
 @dataclass
 class AllResults:
-    """The results of a check that is over, window by window."""
+    """The results of a check that is over, window by window. further are those of the options
+    `--nested` and `--disks` of which the check's report has findings that no window has."""
 
     head: Head
     windows: List[Results]
+    further: Tuple[str, ...] = ()
 
 
 def known_states(before: Plan, plan: Plan) -> Dict[int, int]:
@@ -235,7 +238,7 @@ def merged_shards(parts: List[AllResults]) -> AllResults:
 
 def refuse_other_check(first: AllResults, other: AllResults) -> None:
     """Refused unless two reports are shards of one check: equal traces, numbers of shards, and
-    plans of the windows that both have. `first` must have at least as many windows."""
+    plans and profiles of the windows that both have. `first` must have at least as many windows."""
     plans = [
         [window.identity() for window in one.windows[: len(other.windows)]]
         for one in (first, other)

@@ -18,7 +18,8 @@ from .all_sets import AllSets, ReadSets, all_sets
 from .joining import joined_states
 from .layout import is_small
 from .place_sets import places_of
-from .plan import AllStates, Needs, Offsets, Part, Plan, Planned, SetProfiles, read_plan
+from .plan import AllStates, Needs, Offsets, Part, Plan, Planned, SetProfiles
+from .read_plan import read_plan
 
 # Sets are drawn by the same seed each time.
 SEED = 1
