@@ -1,7 +1,6 @@
 //! The start tree of the worked examples in each kind of store, read and changed as any tree; and
 //! what a library says of scenes and their states that no command prints.
 
-mod archives;
 mod calls;
 mod changes;
 mod frozen;
