@@ -3,6 +3,7 @@
 //! within its bound.
 #![tactic(auto)]
 
+mod fourth;
 mod large;
 mod levels;
 mod ordinary;
@@ -13,6 +14,7 @@ mod subject;
 mod trees;
 mod works;
 
+use crate::fourth::fourth_version;
 use crate::large::large_files;
 use crate::levels::levels;
 use crate::reading::traces;
@@ -25,6 +27,7 @@ fn main(rt: HostRuntime) -> io::Result<()> {
     let timed = env::args(&rt)?.count() > 1;
     // first, so that the memory that the states take was never used before
     states(&rt, timed)?;
+    fourth_version(&rt, timed)?;
     traces(&rt, timed)?;
     trees(&rt, timed)?;
     levels(&rt, timed)?;

@@ -11,8 +11,8 @@ use std::rt::Clock;
 
 /// Reads the text as a trace, and counts its records and operations.
 #[derive(Drop)]
-struct AsTrace<'a> {
-    text: &'a str,
+pub struct AsTrace<'a> {
+    pub text: &'a str,
 }
 
 impl Work for AsTrace<'_> {

@@ -16,15 +16,15 @@ use std::rt::{Clock, Files};
 use std::sync::Arc;
 
 /// The scene of a trace, with holes if they are asked for.
-fn scene(alloc: Global, text: &str, holes: bool) -> Option<Scene> {
+pub fn scene(alloc: Global, text: &str, holes: bool) -> Option<Scene> {
     let trace = read_trace(alloc, text).ok()?;
     Scene::of(alloc, trace, holes, Vec::new(alloc)).ok()
 }
 
 /// Plans and lists the states of a trace, and counts them.
 #[derive(Drop)]
-struct Planning<'a> {
-    text: &'a str,
+pub struct Planning<'a> {
+    pub text: &'a str,
 }
 
 impl Work for Planning<'_> {
@@ -107,7 +107,7 @@ impl Work for AsPlain<'_> {
 }
 
 /// Times a work once, and prints the seconds.
-fn time_once<W: Work>(
+pub fn time_once<W: Work>(
     rt: &(impl Clock + Print + AllocGlobal),
     what: &str,
     work: &mut W,
@@ -132,7 +132,7 @@ fn time_with_memory<W: Work>(
 }
 
 /// Makes all states of a scene and keeps them, in at most `most` MB. Returns how long that takes.
-fn keep_states(
+pub fn keep_states(
     rt: &(impl Clock + Files + Print + AllocGlobal),
     what: &str,
     scene: Scene,
