@@ -1,4 +1,5 @@
-//! `crashfs`: serves the states in which a crash may leave an application's files, over 9P2000.
+//! The program `crashfs`: prints the states in which a crash may leave an application's files, and
+//! serves them over 9P2000. It passes files, options and streams to the five commands.
 #![tactic(auto)]
 
 use clap::Error;
@@ -8,8 +9,8 @@ use cs_files::{FAULT, InputFiles, Output, out_of_memory};
 use cs_inputs::Inputs;
 use cs_list::list_with;
 use cs_names::limits::WORKERS;
-use cs_options::{Ask, Job, PicksOptions, Serving};
-use cs_picks::{Family, PickSets, picks_of};
+use cs_options::{Ask, Job, PicksOptions, ProfileName, Serving};
+use cs_picks::{Family, PickSets, Profile, picks_of};
 use cs_reasons::explain;
 use cs_script::script_with;
 use cs_serve::{ReadsFiles, serve_of};
@@ -22,7 +23,7 @@ use std::sync::{Mutex, Wait};
 use std::thread;
 use std::thread::Threads;
 
-/// The status of a command line that is refused.
+/// The exit status of a command line that is refused.
 const REFUSED: u8 = 2;
 
 /// How many workers there are: `workers`, or if that is 0 one for each processor, at most WORKERS.
@@ -39,8 +40,17 @@ fn workers_of(rt: &impl Threads, workers: u32) -> u32 {
     }
 }
 
-/// The sets that the options of `picks` ask for. One of them is given: the command line is refused
-/// otherwise.
+/// The profile of cs_trace that has this name.
+fn profile_named(name: ProfileName) -> Profile {
+    match name {
+        ProfileName::Blocks => Profile::Blocks,
+        ProfileName::Ordered => Profile::Ordered,
+        ProfileName::Journal => Profile::Journal,
+    }
+}
+
+/// The sets that the options of `picks` ask for. At least one of `--lost`, `--files`, `--every` and
+/// `--sample` is given: the command line is refused otherwise.
 fn sets_of(options: PicksOptions) -> PickSets {
     if let Some(sample) = options.sample {
         return PickSets::Sample(sample.seed, sample.count);
@@ -48,11 +58,13 @@ fn sets_of(options: PicksOptions) -> PickSets {
     if options.count {
         return PickSets::Count;
     }
-    if options.different {
-        return PickSets::Different(options.most);
-    }
     if options.every {
-        return PickSets::Every(options.most);
+        return match (options.profile.map(profile_named), options.different) {
+            (Some(profile), true) => PickSets::DifferentUnder(profile, options.most),
+            (Some(profile), false) => PickSets::EveryUnder(profile, options.most),
+            (None, true) => PickSets::Different(options.most),
+            (None, false) => PickSets::Every(options.most),
+        };
     }
     match (options.lost, options.files) {
         (true, true) => PickSets::Of(Family::Both),
@@ -62,7 +74,7 @@ fn sets_of(options: PicksOptions) -> PickSets {
 }
 
 /// Runs the command `serve`, and returns its status. Its threads share a buffer that is written to
-/// `err`.
+/// `err`; if there is no memory for it, that is printed, and nothing is served.
 fn run_serve<R, W: Write, E: Write + Send>(
     rt: &R,
     inputs: &Inputs,
@@ -82,10 +94,10 @@ where
     serve_of(rt, rt.alloc(), inputs, serving, rt.reader(), out, &err)
 }
 
-/// Reads the files, does what is asked for, and returns the status. After a fault `err` also gets
-/// what more is known of it, but nothing if the reader of standard output has gone away. The error
-/// is the status if a file can't be read or memory runs out before the command begins; that was
-/// printed by then.
+/// Reads the files, does what is asked for, and returns the status. After a fault `err` gets what
+/// more is known of it, after the lines of the command. If the reader of standard output has gone
+/// away, `err` gets neither from `list`, `tar` and `picks`. The error is the status too: if a file
+/// can't be read or memory runs out before the command begins, which is printed already.
 fn run_job<R, E: Write + Send>(rt: &R, err: &mut E, on_terminal: bool, ask: &Ask) -> Result<u8, u8>
 where
     R: Files + ReadsFiles + Input + Print + Eprint + AllocGlobal + Clock + Threads + Wait + Sync,

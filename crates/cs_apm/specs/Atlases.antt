@@ -58,7 +58,7 @@ pub record AreChanged (ops : List MicroOp) (n : ℕ) (changed : List Bool) : Typ
   pub each : (file : ℕ) (flag : Bool) → slice_get changed file ≡ Some flag
       → flag ≡ list_any (changes_file file) ops
 
--- the atlas is of the trace, whose micro-operations these are
+-- the atlas is of the trace and of its micro-operations
 pub record IsAtlas (t : Trace) (m : Micros) (a : Atlas) : Type 0 where
   pub version : m.version ≡ t.version
   pub ascending : AreAscending a.entries
@@ -85,7 +85,7 @@ files_left trace ops places = (state_of (start_state trace) ops places).files
 unfoldable pub owners_left : Trace → List MicroOp → List ℕ → List Rights
 owners_left trace ops places = (state_of (start_state trace) ops places).owners
 
--- and of the directories
+-- owner, group and permissions of the directories after them
 unfoldable pub directories_left : Trace → List MicroOp → List ℕ → List Rights
 directories_left trace ops places = (state_of (start_state trace) ops places).directories
 

@@ -13,7 +13,7 @@ changes_file n (ChangeFileSize file size) = file == n
 changes_file n (WriteBlock file block start at bytes) = file == n
 changes_file n _ = false
 
--- what it does to a file, if it is the file's
+-- the content of a file after a micro-operation that is of this file
 abbrev pub content_after_op : Content → MicroOp → Content
 content_after_op content (ChangeFileSize file size) = content_with_size size content
 content_after_op content (WriteBlock file block start at bytes) =
@@ -27,7 +27,7 @@ content_after n content op = if changes_file n op then content_after_op content 
 unfoldable pub content_left : ℕ → Content → List MicroOp → List ℕ → Content
 content_left n content ops places = fold (content_after n) content (map (op_at ops) places)
 
--- a block's bytes lie within the largest file
+-- a write of a block ends within the largest file
 abbrev pub IsSmall : MicroOp → Type 0
 IsSmall (WriteBlock file block start at bytes) = start + at + length bytes ≤ LARGE_FILE_BYTES
 IsSmall _ = Unit {0}

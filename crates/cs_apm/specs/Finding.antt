@@ -18,7 +18,7 @@ abbrev pub is_by : Option ℕ → ℕ → Bool
 is_by None j = false
 is_by (Some at) j = nat_le at j
 
--- a place is before the one that was found, if one was
+-- a place is before the one that was found; true if none was found
 abbrev pub is_before : ℕ → Option ℕ → Bool
 is_before place None = true
 is_before place (Some at) = nat_lt place at
@@ -26,7 +26,7 @@ is_before place (Some at) = nat_lt place at
 abbrev pub is_parent_making : ParentMakings → ℕ → Bool
 is_parent_making parents i = is_at parents.first i || is_at parents.second i
 
--- for each of the first n micro-operations the first sync after it that covers it
+-- for each of the first n micro-operations the place of the first sync after it that covers it
 pub record AreSynced (ops : List MicroOp) (syncs : List SyncPoint) (n : ℕ)
     (found : List (Option ℕ)) : Type 0 where
   pub long : length found ≡ n
@@ -39,7 +39,8 @@ logged_at profiles.Blocks ops syncs = []
 logged_at profiles.Ordered ops syncs = []
 logged_at profiles.Journal ops syncs = log_forced_at ops 0 syncs
 
--- for each of the first n the first place behind it at which the log is forced
+-- for each of the first n micro-operations the first place after it at which the log is forced, if
+-- it touches an entry
 pub record AreLogged (ops : List MicroOp) (syncs : List SyncPoint) (profile : Profile) (n : ℕ)
     (found : List (Option ℕ)) : Type 0 where
   pub long : length found ≡ n

@@ -49,7 +49,7 @@ slot_in h e = joined (get h e)
 abbrev pub HoldsAll : Held → Table → Type 0
 HoldsAll h t = (e : Entry) → slot_in h e ≡ get t e
 
--- and the entries that the micro-operation touches
+-- the map has the entries that the micro-operation touches
 abbrev pub HasTouched : Held → MicroOp → Type 0
 HasTouched h op = All (λ e. has h e ≡ true) (entries_touched (entry_op op))
 

@@ -24,17 +24,17 @@ abbrev pub IsFile : ℕ → Node → Type 0
 IsFile n (File kind file) = file ≡ n
 IsFile n (Directory d) = ⊥
 
--- the place is noted, if the node is a file's
+-- the places with this one noted for the file, if the node is a file or a symbolic link
 abbrev pub with_file_noted : List ℕ → Node → ℕ → List ℕ
 with_file_noted starts (Directory d) place = starts
 with_file_noted starts (File kind file) place = slice_set starts file place
 
--- of the files, those among the first k nodes are found
+-- each file that is among the first k nodes has the place of one of its nodes
 abbrev pub FindsFiles : List Node → ℕ → List ℕ → Type 0
 FindsFiles ns k starts = (n i : ℕ) → n < length starts → i < k → IsFile n (node_at ns i)
     → (slice_index_or starts n 0 < k) × IsFile n (node_at ns (slice_index_or starts n 0))
 
--- the place is noted, if the node is a directory's
+-- the places with this one noted for the directory, if the node is one
 abbrev pub with_directory_noted : List ℕ → Node → ℕ → List ℕ
 with_directory_noted places (Directory d) place = slice_set places d place
 with_directory_noted places (File kind file) place = places
@@ -44,7 +44,7 @@ abbrev pub makes_file : MicroOp → Bool
 makes_file (CreateDirEntry e (File kind file) rights bytes) = true
 makes_file _ = false
 
--- the flag of the file that is changed is set
+-- the flags with that of the file set whose size or bytes the micro-operation changes
 abbrev pub with_file_marked : List Bool → MicroOp → List Bool
 with_file_marked changed (ChangeFileSize file size) = slice_set changed file true
 with_file_marked changed (WriteBlock file block start at bytes) = slice_set changed file true

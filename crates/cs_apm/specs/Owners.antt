@@ -7,16 +7,16 @@ use Rattle.cs_micro.specs.declared.micro_op.MicroOp.{MicroOp}
 use Rattle.cs_micro.specs.declared.micro_op.MicroOp.TheVariants.{CreateDirEntry, SetAttr}
 use Rattle.cs_apm.specs.Rules.{op_at}
 
--- those of the file of the number after it
+-- owner, group and permissions of file n after the micro-operation
 abbrev pub owner_after : ℕ → Rights → MicroOp → Rights
 owner_after n owner (SetAttr (targets.File file) rights) = if file == n then rights else owner
 owner_after n owner _ = owner
 
--- those after the members of a set
+-- owner, group and permissions of file n after the members of a set
 unfoldable pub owner_left : ℕ → Rights → List MicroOp → List ℕ → Rights
 owner_left n owner ops places = fold (owner_after n) owner (map (op_at ops) places)
 
--- ---- of the directory of the number
+-- ---- the same of directory n
 
 abbrev pub directory_after : ℕ → Rights → MicroOp → Rights
 directory_after n owner (CreateDirEntry e (Directory d) rights bytes) =

@@ -84,8 +84,8 @@ WritesBlock op file block =
 abbrev pub Writes : MicroOp → ℕ → Type 0
 Writes op file = (block : ℕ) × WritesBlock op file block
 
--- it writes into a block of the file, and its bytes all lie in the range of so many from the offset
--- on
+-- it writes into a block of the file, and all its bytes are in the range of `count` bytes from the
+-- offset on
 pub record WritesWithin (o : MicroOp) (file offset count : ℕ) : Type 0 where
   pub block : ℕ
   pub start : ℕ
@@ -128,7 +128,7 @@ pub record IsSyncedBetween (ops : List MicroOp) (syncs : List SyncPoint) (i j : 
 
 -- ---- what forces the log
 
--- what it moves, and what it replaces
+-- it moves the node, and replaces what `old` says
 abbrev pub MovesOnto : MicroOp → Node → Option Node → Type 0
 MovesOnto op node old =
     (a : DirEntry) × (b : DirEntry) × (op ≡ MoveDirEntry a b node old)
@@ -144,13 +144,14 @@ pub data Handles (o : MicroOp) (node : Node) : Type 0 where
   links_over : (e : DirEntry) (kind : FileKind) (file : ℕ) (half : Bool)
       → o ≡ LinkDirEntry e kind file (Some node) half → Handles o node
 
--- it changes the file of the number in any way
+-- it changes the file of the number in any way, or one of its entries
 abbrev pub AltersFile : MicroOp → ℕ → Type 0
 AltersFile op file =
     ((Writes op file ⊎ ChangesSize op file) ⊎ SetsFile op file)
     ⊎ ((kind : FileKind) × Handles op (File kind file))
 
--- it changes the directory of the number in any way
+-- it changes the directory of the number in any way: an entry in it, its own entry, or its owner,
+-- group and permissions
 abbrev pub AltersDirectory : MicroOp → ℕ → Type 0
 AltersDirectory op d = (TouchesEntryOf op d ⊎ SetsDirectory op d) ⊎ Handles op (Directory d)
 
@@ -158,8 +159,8 @@ AltersDirectory op d = (TouchesEntryOf op d ⊎ SetsDirectory op d) ⊎ Handles 
 abbrev pub ResizesOrMakes : MicroOp → ℕ → Type 0
 ResizesOrMakes op file = ChangesSize op file ⊎ ((kind : FileKind) × Creates op (File kind file))
 
--- a sync of what it changes has it to write to the log; one of data alone has only a new size, or a
--- new file
+-- a sync of what it changes has something to write to the log; a sync of data only if it changes
+-- the size, or makes the file
 abbrev pub HasToLog : Covers → MicroOp → Type 0
 HasToLog covers.All op = Unit {0}
 HasToLog (covers.File file) op = AltersFile op file
@@ -171,13 +172,13 @@ HasToLog (covers.Directory d path) op = AltersDirectory op d
 abbrev pub IsPointAt : List SyncPoint → ℕ → SyncPoint → Type 0
 IsPointAt syncs n point = slice_get syncs n ≡ Some point
 
--- the place behind which the next sync point looks for what it has to log: that of the sync point
--- before it, of whichever kind, or the start
+-- the place from which the n-th sync point looks for what it has to log: that of the sync point
+-- before it, of any kind, or 0 for the first
 abbrev pub IsBefore : List SyncPoint → ℕ → ℕ → Type 0
 IsBefore syncs zero from = from ≡ 0
 IsBefore syncs (suc n) from = (point : SyncPoint) × IsPointAt syncs n point × (from ≡ point.at)
 
--- the n-th sync point is fresh: it has something to log that lies between it and the one before it
+-- the n-th sync point is fresh: it has something to log between the sync point before it and itself
 pub record IsFresh (ops : List MicroOp) (syncs : List SyncPoint) (n : ℕ) (point : SyncPoint)
     : Type 0 where
   pub from : ℕ
@@ -187,7 +188,7 @@ pub record IsFresh (ops : List MicroOp) (syncs : List SyncPoint) (n : ℕ) (poin
   pub ahead : k < point.at
   pub logged : HasToLog point.covers (op_at ops k)
 
--- a sync, or a fresh sync point of a file or directory, lies between i and j
+-- a sync of everything, or a fresh sync point of a file or directory, is between i and j
 pub record IsLoggedBetween (ops : List MicroOp) (syncs : List SyncPoint) (i j : ℕ) : Type 0 where
   pub n : ℕ
   pub point : SyncPoint

@@ -27,7 +27,7 @@ use Rattle.cs_micro.specs.declared.sync_point.SyncPoint.{SyncPoint}
 abbrev pub op_at : List MicroOp → ℕ → MicroOp
 op_at ops place = slice_index_or ops place Say
 
--- and what it does to entries
+-- what the micro-operation at a place does to entries
 abbrev pub entry_op_at : List MicroOp → ℕ → EntryOp
 entry_op_at ops place = entry_op (op_at ops place)
 
@@ -93,14 +93,15 @@ makes_parent ops = makes_directory (entry_op_at ops)
 abbrev pub touches_removed_directory : MicroOp → MicroOp → Bool
 touches_removed_directory a b = empties (entry_op a) (entry_op b)
 
--- bytes from one place of a file to another lie in the range of so many bytes from an offset on
+-- the bytes of a file from `begin` on and before `end` are in the range of `count` bytes from an
+-- offset on
 abbrev pub lies_within : ℕ → ℕ → ℕ → ℕ → Bool
 lies_within offset count begin end = nat_le offset begin && nat_le end (offset + count)
 
 -- a sync of a file covers its blocks, its sizes and what sets its owner, group and permissions; one
--- of its data not the last of these; one of a range of it covers its sizes, and those of its
--- blocks' writes whose bytes all lie in the range; and one of a directory covers what touches an
--- entry of it and what sets its own
+-- of its data covers its blocks and its sizes; one of a range of it covers its sizes, and the
+-- writes of blocks whose bytes are all in the range; and one of a directory covers what touches an
+-- entry in it and what sets the directory's owner, group and permissions
 abbrev pub is_covered : Covers → MicroOp → Bool
 is_covered covers.All a = true
 is_covered (covers.File file) (WriteBlock other block start at bytes) = file == other
@@ -190,7 +191,7 @@ alters_inode n (ChangeFileSize file to) = file == n
 alters_inode n (SetAttr (targets.File file) rights) = file == n
 alters_inode n _ = false
 
--- it changes the file in any way, its entries with it
+-- it changes the file in any way, or one of its entries
 abbrev pub alters_file : ℕ → MicroOp → Bool
 alters_file n op = alters_inode n op || list_any (is_file_numbered n) (nodes_handled op)
 
@@ -207,8 +208,8 @@ resizes_or_makes n (ChangeFileSize file to) = file == n
 resizes_or_makes n (CreateDirEntry e node rights bytes) = is_file_numbered n node
 resizes_or_makes n _ = false
 
--- a sync of what the micro-operation changes has it to write to the log; one of data alone has only
--- a new size, or a new file
+-- a sync of what the micro-operation changes has something to write to the log; a sync of data only
+-- if it changes the size, or makes the file
 abbrev pub has_to_log : Covers → MicroOp → Bool
 has_to_log covers.All op = true
 has_to_log (covers.File file) op = alters_file file op
@@ -216,23 +217,23 @@ has_to_log (covers.Data file) op = resizes_or_makes file op
 has_to_log (covers.Range file offset count) op = resizes_or_makes file op
 has_to_log (covers.Directory d path) op = alters_directory d op
 
--- the places from one on and before another
+-- the places from `from` on and before `to`
 abbrev pub places_from : ℕ → ℕ → List ℕ
 places_from from to = range_with_len from (to - from)
 
--- a sync of everything forces the log, whatever lies before it
+-- a sync of everything forces the log, whatever comes before it
 abbrev pub is_of_all : Covers → Bool
 is_of_all covers.All = true
 is_of_all _ = false
 
--- another sync point does if something that it has to log lies between it and the sync point before
--- it, or the start: from that place on
+-- another sync point does if it has something to log: a micro-operation from place `from` on, that
+-- of the sync point before it (0 at the start), and before its own place
 abbrev pub forces_log : List MicroOp → ℕ → SyncPoint → Bool
 forces_log ops from s =
     is_of_all s.covers
     || list_any (λ k. has_to_log s.covers (op_at ops k)) (places_from from s.at)
 
--- where the log is forced, from that sync point on, before which one lies there
+-- the places at which these sync points force the log, if the sync point before them is at `from`
 abbrev pub log_forced_at : List MicroOp → ℕ → List SyncPoint → List ℕ
 log_forced_at ops from [] = []
 log_forced_at ops from (s ∷ syncs) =

@@ -69,7 +69,7 @@ slot_of [] slots e = None
 slot_of (f ∷ fs) [] e = None
 slot_of (f ∷ fs) (s ∷ ss) e = cond (entry_eq f e) s (slot_of fs ss e)
 
--- the slots have what each entry holds, and others hold nothing
+-- the slots have what each entry holds, and every other entry holds nothing
 abbrev pub Mirror : List Entry → List Slot → Table → Type 0
 Mirror entries slots t = (e : Entry) → get t e ≡ slot_of entries slots e
 
@@ -111,7 +111,7 @@ AreSteps entries _ _ = ⊥
 
 -- ---- what they refer to
 
--- the directory, or the file, of its number is there
+-- the number of the directory, or of the file, is below how many there are
 abbrev pub IsKnown : ℕ → ℕ → Slot → Type 0
 IsKnown directories files None = Unit {0}
 IsKnown directories files (Some (Directory d)) = d < directories

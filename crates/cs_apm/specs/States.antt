@@ -60,11 +60,11 @@ content_with_size size f =
 abbrev pub padded : ℕ → List ℕ → List ℕ
 padded end old = old ++ replicate (end - length old) 0
 
--- others over the bytes from an offset on
+-- the bytes `new` over `old` from an offset on
 abbrev pub bytes_over : ℕ → List ℕ → List ℕ → List ℕ
 bytes_over at new old = take at old ++ (new ++ drop (at + length new) old)
 
--- others placed at an offset, whatever the size; bytes that nothing wrote are zero
+-- the bytes `new` at an offset, whatever the size; bytes that nothing wrote are zero
 abbrev pub padded_bytes_over : ℕ → List ℕ → List ℕ → List ℕ
 padded_bytes_over at new old = bytes_over at new (padded (at + length new) old)
 
@@ -131,8 +131,8 @@ directories_made (CreateDirEntry e (Directory d) rights bytes ∷ ops) =
     rights ∷ directories_made ops
 directories_made (_ ∷ ops) = directories_made ops
 
--- all files, symbolic links and directories as they are made, those of the start first; no set is
--- without its number
+-- the start with all files, symbolic links and directories that the operations make, as they are
+-- made; so each has its number in every set, also in one that doesn't make it
 abbrev pub with_created : State → List MicroOp → State
 with_created start ops =
     record start {
@@ -141,7 +141,7 @@ with_created start ops =
       directories = start.directories ++ directories_made ops;
     }
 
--- the members of the set in the trace's order
+-- the state after the members of the set, in the trace's order
 unfoldable pub state_of : State → List MicroOp → List ℕ → State
 state_of start ops places = fold state_after (with_created start ops) (map (op_at ops) places)
 
@@ -154,7 +154,7 @@ permission_bits mode = mode % 512
 abbrev pub rights_of : Record → Rights
 rights_of r = record { owner = r.owner; group = r.group; permissions = permission_bits r.mode }
 
--- the same of the fields
+-- owner, group and permissions in these fields of a record
 abbrev pub rights_in : MetadataBuf → Rights
 rights_in m = record { owner = m.owner; group = m.group; permissions = permission_bits m.mode }
 
@@ -202,7 +202,8 @@ abbrev pub directory_owner : Trace → ℕ → Rights
 directory_owner trace n =
     rights_of (slice_index_or trace.records (directory_place trace.nodes n) no_record).1
 
--- those of each directory by its number as it is made: those of the start, and those that are made
+-- owner, group and permissions of each directory of the start by its number, and then of each
+-- making of a directory; in versions 1 to 3 a making may be of a directory with an earlier number
 abbrev pub directories_of : Trace → List MicroOp → List Rights
 directories_of trace ops =
     map (directory_owner trace) (range_with_len 0 (directory_count trace.nodes))
@@ -239,7 +240,7 @@ record_with rights bit content = record {
 abbrev pub bytes_left : List Content → ℕ → Option (List ℕ)
 bytes_left files file = Some (visible (slice_index_or files file no_content))
 
--- the bit of a mode for what is no directory
+-- the bit that a file of this kind has in its mode
 abbrev pub kind_bit : FileKind → ℕ
 kind_bit Regular = 0
 kind_bit Symlink = DMSYMLINK
@@ -261,6 +262,6 @@ records_of s = map_values (record_of s) (nodes_left s)
 abbrev pub tree_of_state : State → Tree
 tree_of_state state = fresh (records_of state)
 
--- the tree that a crash leaves of a trace, of which the set reached the disk
+-- the tree that a crash leaves of a trace if exactly this set is on the disk
 abbrev pub crash_state_of : Trace → Micros → List ℕ → Tree
 crash_state_of trace micros places = tree_of_state (state_of (start_state trace) micros.ops places)

@@ -1,5 +1,5 @@
-//! The content of a file of a crash state: its size, and its bytes. Bytes past the size are hidden.
-//! An error is that memory ran out; the content is then dropped.
+//! The content of a file or symbolic link of a crash state: its size, and its bytes. Bytes past the
+//! size are hidden.
 ghost use Rattle.std.specs.Prelude.{◌≡◌, ℕ, ◌+◌, ◌<◌, ◌≤◌, List, length, OnOk, IfOk};
 ghost use Rattle.std.specs.List.{All};
 ghost use Rattle.cs_apm.specs.Contents.{IsSmall, content_after_op, changes_file, content_after};
@@ -11,11 +11,14 @@ use cs_trace::LARGE_FILE_BYTES;
 use std::alloc::AllocError;
 use std::marker::Model;
 
-/// The content of a file. Contracts see its size, and its bytes from the first on; those past the
-/// size are hidden.
+/// The content of a file while the members of a set are applied. There may be fewer bytes than the
+/// size: the missing ones are zero. There may be more: those past the size are hidden, until a
+/// larger size shows them.
 #[derive(Debug, Drop)]
 pub struct FileContent {
+    /// How long the file is, in bytes.
     size: u64,
+    /// The bytes that were written, from offset 0 on, hidden ones too.
     bytes: Vec<u8>,
 }
 
@@ -40,8 +43,8 @@ impl FileContent {
         }
     }
 
-    /// Changes the size. A smaller size drops every byte past it, hidden ones too; a larger one
-    /// shows the hidden bytes that are before it; the same one changes nothing.
+    /// Changes the size. A smaller size drops every byte past it, hidden ones too. A larger one
+    /// shows the hidden bytes up to it. The same one changes nothing.
     fn resize(&mut self, size: u64)
         ensures { self.new ≡ content_with_size size self.old }
     {
@@ -51,7 +54,7 @@ impl FileContent {
         self.size = size;
     }
 
-    /// Writes the piece at the offset `at`. The size stays, so what is past it is hidden. If the
+    /// Writes the piece at the offset `at`. The size stays, so bytes past it are hidden. If the
     /// bytes end before `at`, those between are zero. After an error the content must not be used.
     fn overwrite(&mut self, at: usize, piece: &[u8]) -> Result<(), AllocError>
         requires { at + length piece.now ≤ LARGE_FILE_BYTES }
@@ -62,9 +65,10 @@ impl FileContent {
         Ok(())
     }
 
-    /// Applies a change of size or a write (as in `changes_file`) to this content, whichever file
-    /// it names; any other micro-operation changes nothing. After an error the content must not be
-    /// used. `apply_to_part` of cs_state does the same to a part.
+    /// Applies a change of size or a write of a block to this content, whichever file it names: the
+    /// caller has asked `changes_file`. Any other micro-operation changes nothing. After an error
+    /// the content must not be used. `apply_to_part` of cs_state does the same to a part of a file,
+    /// but only for writes and for changes that make the file shorter.
     fn apply(&mut self, op: &MicroOp) -> Result<(), AllocError>
         requires { IsSmall op.now }
         ensures { OnOk result (self.new ≡ content_after_op self.old op.now) }
@@ -82,9 +86,9 @@ impl FileContent {
         Ok(())
     }
 
-    /// Applies those members of a set that change the file of this number, in their order. The
-    /// members are the micro-operations of `ops` at these places. After an error the content must
-    /// not be used.
+    /// Applies those members of a set that change the file of this number, in the order of the
+    /// places. The members are the micro-operations of `ops` at these places. After an error the
+    /// content must not be used: some members may have been applied.
     pub fn apply_members(
         &mut self,
         file: u32,
@@ -104,7 +108,8 @@ impl FileContent {
         Ok(())
     }
 
-    /// The bytes that show: as many as the size says, with zeros for those that nothing wrote.
+    /// The bytes that a reader of the file gets: as many as its size, with zeros for those that
+    /// nothing wrote. Hidden bytes are dropped.
     pub fn into_visible(self) -> Result<Vec<u8>, AllocError>
         ensures { IfOk result (λ bytes. bytes.items ≡ visible self) }
     {
@@ -115,7 +120,8 @@ impl FileContent {
     }
 }
 
-/// Appends zeros until there are `end` bytes; nothing if there are as many or more already.
+/// Appends zeros until there are `end` bytes; nothing if there are as many or more already. If it
+/// is out of memory, the bytes are as they were.
 fn pad(bytes: &mut Vec<u8>, end: usize) -> Result<(), AllocError>
     ensures { OnOk result (bytes.new.items ≡ padded end bytes.old.items) }
 {
@@ -125,7 +131,9 @@ fn pad(bytes: &mut Vec<u8>, end: usize) -> Result<(), AllocError>
     Ok(())
 }
 
-/// Overwrites the bytes from the offset `at` on by the piece, which must not reach past their end.
+/// Overwrites the bytes from the offset `at` on by the piece, which must not reach past their end:
+/// `pad` them first. cs_state uses it for parts of files. (`overwrite` of cs_tree and
+/// `overwrite_bytes` of cs_overlay do the same.)
 pub fn put_at(bytes: &mut [u8], at: usize, piece: &[u8])
     requires { at + length piece.now ≤ length bytes.old }
     ensures { bytes.new ≡ bytes_over at piece.now bytes.old }
@@ -133,8 +141,10 @@ pub fn put_at(bytes: &mut [u8], at: usize, piece: &[u8])
     bytes[at..at + piece.len()].copy_from_slice(piece);
 }
 
-/// Whether the micro-operation changes the size or the bytes of the file of this number. `apply`
-/// and `mark_changed` have the same two kinds, and `writes_or_resizes` of cs_state.
+/// Whether the micro-operation changes the size or the bytes of the file of this number. The same
+/// two kinds are in `FileContent::apply`, in `mark_changed` of `flags`, in `is_of_data` of `rules`,
+/// in `writes_or_resizes`, `reaches` and `apply_to_part` of cs_state, and in `apply_to_window` of
+/// cs_same_states: change all of them together.
 pub fn changes_file(file: u32, op: &MicroOp) -> bool
     ensures { result ≡ changes_file file op.now }
 {

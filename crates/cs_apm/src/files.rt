@@ -1,4 +1,5 @@
-//! The bytes of the files of a crash state. Their owners are in `owners`.
+//! The bytes of the files and symbolic links of a crash state. A symbolic link's bytes are its
+//! target. Their owners are in `owners`.
 ghost use Rattle.std.specs.Prelude.{◌≡◌, ◌<◌, [], length, unwrap_or, IfOk, slice_index_or};
 ghost use Rattle.std.specs.List.{All};
 ghost use Rattle.cs_apm.specs.Atlases.{AreChanged, AreMakings, AreStarts, content_before};
@@ -13,7 +14,7 @@ use cs_trace::Trace;
 use cs_tree_model::Content;
 use std::alloc::{AllocError, Global};
 
-/// A copy of the bytes of a file with this content; empty if it is a directory's.
+/// A copy of the bytes of this content; empty if it is a directory's, which has none.
 fn copy_bytes(alloc: Global, content: &Content) -> Result<Vec<u8>, AllocError>
     ensures { IfOk result (λ bytes. bytes.items ≡ unwrap_or content.now []) }
 {
@@ -23,8 +24,9 @@ fn copy_bytes(alloc: Global, content: &Content) -> Result<Vec<u8>, AllocError>
     }
 }
 
-/// The bytes that the micro-operation makes a file or a symbolic link with; none if it makes
-/// neither.
+/// The bytes with which the micro-operation makes a symbolic link: its target. Empty if it makes
+/// anything else, or nothing: a new file has no bytes. (`bytes_made` of cs_state has the same
+/// body.)
 fn bytes_made(op: &MicroOp) -> &[u8]
     ensures { content_of_bytes result.now ≡ content_made op.now }
 {
@@ -34,8 +36,8 @@ fn bytes_made(op: &MicroOp) -> &[u8]
     }
 }
 
-/// The content of a file after the start's as it is made: of the one of this number after them. It
-/// is empty if no micro-operation makes the file.
+/// The content, as it is made, of a file or symbolic link that isn't there at the start. `number`
+/// counts only such files, from 0. It is empty if no micro-operation makes the file.
 fn file_made(
     alloc: Global,
     ops: &[MicroOp],
@@ -55,10 +57,9 @@ fn file_made(
     }
 }
 
-/// The content of the file before any micro-operation: that at the start, or that with which a
-/// micro-operation makes the file. `starts` has the place of the record of each file at the start,
-/// and `makings` that of the making of each further file. `start_bytes` of cs_state lends the same
-/// bytes.
+/// The content of the file before any micro-operation changes it: that at the start, or that with
+/// which it is made. `starts` and `makings` are those of `Tables`. It is empty if the file is
+/// neither there at the start nor made. `start_bytes` of cs_state borrows the same bytes.
 fn file_before(
     alloc: Global,
     trace: &Trace,
@@ -81,8 +82,8 @@ fn file_before(
 }
 
 /// The content of the file after the members of a set, which are at these places. `starts`,
-/// `makings` and `changed` are those of `Tables`; a file that no micro-operation changes is only
-/// copied.
+/// `makings` and `changed` are those of `Tables`. If no micro-operation of the trace changes the
+/// file, its content is only copied, without a look at the members.
 fn file_left(
     alloc: Global,
     trace: &Trace,
@@ -109,8 +110,9 @@ fn file_left(
     Ok(content)
 }
 
-/// The bytes that the file shows after the members of a set, which are at these places. `starts`,
-/// `makings` and `changed` are those of `Tables`.
+/// The bytes that a reader of the file gets after the members of a set, which are at these places;
+/// hidden ones are left out. `starts`, `makings` and `changed` are those of `Tables`, and `file` is
+/// a file or a symbolic link of the trace.
 pub fn bytes_left(
     alloc: Global,
     trace: &Trace,

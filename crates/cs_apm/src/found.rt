@@ -1,6 +1,8 @@
 //! What is found once for each micro-operation: the latest makings of the directories in which it
-//! touches an entry, and the first sync after it that covers it. The place of a sync point is how
-//! many micro-operations come before it.
+//! touches an entry (for P3), and the first sync point after it that covers it (for P5). A making
+//! is the micro-operation that makes a directory; in versions 1 to 3 of the trace, where a
+//! directory is its path, there may be several. The place of a sync point is how many
+//! micro-operations come before it.
 ghost use Rattle.std.specs.Prelude.{◌≡◌, ◌<◌, ◌≤◌, ℕ, length, IfOk};
 ghost use Rattle.cs_entries.specs.Rules.{is_latest};
 ghost use Rattle.cs_apm.specs.Finding.{AreSynced, is_at, is_before, is_by, is_parent_making};
@@ -11,14 +13,15 @@ use crate::touching::makes;
 use cs_micro::{MicroOp, SyncPoint};
 use std::alloc::{AllocError, Global};
 
-/// The latest makings of the directories in which a micro-operation touches an entry. There are at
-/// most two.
+/// The places of the latest makings of the directories in which a micro-operation touches an entry.
+/// There are at most two.
 #[derive(Clone, Copy, Debug)]
 pub struct ParentMakings {
-    /// That of the directory of the entry, or of the one that a move is from; None if there is
-    /// none.
+    /// For the directory of the entry, or the one that a move is from. None if it was there at the
+    /// start, or the micro-operation touches no entry.
     first: Option<usize>,
-    /// That of the directory that a move is to; None if there is none, and if it is no move.
+    /// For the directory that a move is to. None if it was there at the start, or the
+    /// micro-operation is no move.
     second: Option<usize>,
 }
 
@@ -39,8 +42,8 @@ fn latest_making(ops: &[MicroOp], j: usize, directory: u32) -> Option<usize>
 }
 
 impl ParentMakings {
-    /// The latest makings, before micro-operation `j`, of the directories in which it touches an
-    /// entry; none if it touches none.
+    /// The latest makings, before the micro-operation at place `j`, of the directories in which it
+    /// touches an entry; none if it touches none.
     pub fn of(ops: &[MicroOp], j: usize) -> ParentMakings
         requires { j < length ops.now }
         ensures { (i : ℕ) → i < j → is_parent_making result i ≡ rules.makes_parent ops.now i j }
@@ -73,7 +76,7 @@ impl ParentMakings {
     }
 }
 
-/// Whether a place was found, and this is the place.
+/// Whether a place was found, and is `place`; false if none was found.
 fn is_at(found: Option<usize>, place: usize) -> bool
     ensures { result ≡ is_at found place }
 {
@@ -84,7 +87,7 @@ fn is_at(found: Option<usize>, place: usize) -> bool
 }
 
 /// The place of the first sync point that is after `op`, which is at place `i`, and covers it. None
-/// if no sync point does.
+/// if no sync point does. The sync points may be in any order.
 fn first_sync(syncs: &[SyncPoint], i: usize, op: &MicroOp) -> Option<usize>
     ensures { (j : ℕ) → is_by result j ≡ rules.is_synced syncs.now i j op.now }
 {
@@ -97,7 +100,7 @@ fn first_sync(syncs: &[SyncPoint], i: usize, op: &MicroOp) -> Option<usize>
     first
 }
 
-/// Whether the place is before the one that was found; true if none was found.
+/// Whether the place is before the one that was found. True if none was found.
 pub fn is_before(place: usize, found: Option<usize>) -> bool
     ensures { result ≡ is_before place found }
 {
@@ -107,7 +110,8 @@ pub fn is_before(place: usize, found: Option<usize>) -> bool
     }
 }
 
-/// Whether a place was found, and it is `j` or before `j`.
+/// Whether a place was found, and is `j` or before `j`; false if none was found. Of the place of a
+/// sync point: the sync point is before micro-operation `j`.
 pub fn is_by(found: Option<usize>, j: usize) -> bool
     ensures { result ≡ is_by found j }
 {

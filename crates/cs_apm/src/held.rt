@@ -1,4 +1,6 @@
-//! Every entry that the start has or a micro-operation touches, with what it holds at the start.
+//! Every entry that the start has or a micro-operation touches, with what it holds at the start:
+//! None if it holds nothing. If memory runs out while entries are added to a map, some may have
+//! been added; `held_entries` then drops the map.
 ghost use Rattle.std.specs.Prelude.{◌≡◌, ◌≤◌, ◌+◌, ◌*◌, length, map, true, IfOk, OnOk, Some};
 ghost use Rattle.std.specs.FinMap.{from_entries, insert, len};
 ghost use Rattle.std.specs.List.Sorted.{IsStrictlySortedBy};
@@ -15,7 +17,8 @@ use cs_trace::Start;
 use std::alloc::{AllocError, Global};
 use std::collections::BTreeMap;
 
-/// Notes what the entry holds at the start, in place of what was noted of it.
+/// Notes in the map that the entry holds the node at the start, in place of what was noted of the
+/// entry.
 fn hold(
     held: &mut BTreeMap<Entry, Option<Node>>,
     entry: Entry,
@@ -27,7 +30,8 @@ fn hold(
     Ok(())
 }
 
-/// Adds an entry that is touched: it holds nothing at the start, unless it is there already.
+/// Adds an entry that is touched to the map, as one that holds nothing at the start. If the map has
+/// the entry, nothing changes.
 fn add_touched(
     alloc: Global,
     held: &mut BTreeMap<Entry, Option<Node>>,
@@ -48,8 +52,8 @@ fn add_touched(
     Ok(())
 }
 
-/// Adds the entries that a micro-operation touches: two of a move, one of another change of an
-/// entry, and otherwise none.
+/// Adds the entries that a micro-operation touches to the map: two of a move, one of another entry
+/// operation, and none of any other.
 fn add_all_touched(
     alloc: Global,
     held: &mut BTreeMap<Entry, Option<Node>>,
@@ -78,7 +82,7 @@ fn add_all_touched(
     Ok(())
 }
 
-/// What each entry holds by these pairs; of two with one entry, the first counts.
+/// What each entry holds by these pairs. If two pairs have the same entry, the first counts.
 fn held_by_pairs(
     alloc: Global,
     pairs: Vec<(Entry, Node)>,
@@ -96,7 +100,7 @@ fn held_by_pairs(
 }
 
 /// Every entry that the start has or one of the micro-operations touches, with what it holds at the
-/// start.
+/// start: None if it holds nothing. `nodes` has what is at the path of each record.
 pub fn held_entries(
     alloc: Global,
     records: &Start,

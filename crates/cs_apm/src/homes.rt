@@ -1,4 +1,5 @@
-//! The entries of the records at the start, each with what it holds there.
+//! The entries of the records at the start, each with what it holds there. The nodes are those of
+//! the records, in their order: what is at each path.
 ghost use Rattle.std.specs.Prelude.{◌≡◌, ◌≤◌, ◌<◌, ◌++◌, [], Some, length, map, IfOk, OnOk};
 ghost use Rattle.std.specs.Prelude.{slice_index_or};
 ghost use Rattle.std.specs.FinMap.{entries, get};
@@ -15,7 +16,7 @@ use cs_names::{Names, Path};
 use cs_trace::Start;
 use std::alloc::{AllocError, Global};
 
-/// The path of each record, in their order.
+/// The path of each record, in the order of the records.
 fn paths_of(alloc: Global, records: &Start) -> Result<Vec<Path>, AllocError>
     ensures { IfOk result (λ paths. paths.items ≡ map (λ e. e.0) records.now) }
 {
@@ -26,7 +27,8 @@ fn paths_of(alloc: Global, records: &Start) -> Result<Vec<Path>, AllocError>
     Ok(paths)
 }
 
-/// The number of the directory; 0 for a file, which isn't one.
+/// The number of the directory; 0 for a file or a symbolic link, which has no number of a
+/// directory. In the tree of a trace none of them has an entry in it.
 fn directory_number(node: Node) -> u32
     ensures { result ≡ directory_number (Some node) }
 {
@@ -36,8 +38,9 @@ fn directory_number(node: Node) -> u32
     }
 }
 
-/// The number of the directory at the path, whose names these are, among paths in their order with
-/// what is there; 0 if no directory is there.
+/// The number of the directory whose path has these names. `paths` are in ascending order, and
+/// `nodes` has what is at each. 0, the number of the root, if no directory is at the path; in the
+/// tree of a trace there is one above each path.
 fn number_at(
     alloc: Global,
     paths: &[Path],
@@ -56,7 +59,8 @@ fn number_at(
     }
 }
 
-/// The entry of the path with what it holds, as a pair; none for the root.
+/// Appends the entry of the path at `place`, with what it holds; nothing for the root, which has no
+/// entry. If it is out of memory, nothing is appended.
 fn push_pair(
     alloc: Global,
     pairs: &mut Vec<(Entry, Node)>,
@@ -80,8 +84,8 @@ fn push_pair(
     Ok(())
 }
 
-/// The entry of each record at the start with what it holds, in the order of the records; the root
-/// has none.
+/// The entry of each record at the start with what it holds, in the order of the records. The root
+/// has none, so there is one entry less than there are records.
 pub fn start_pairs(
     alloc: Global,
     records: &Start,

@@ -17,9 +17,9 @@ use cs_names::laws::know;
 use cs_sets::Order;
 use cs_trace::Trace;
 
-/// The rules as tests, the rules as sentences, and the order of a trace agree on what needs what on
-/// a file system of each profile, and so on which sets are allowed. What a micro-operation needs is
-/// before it.
+/// The rules as tests (`specs/Rules`), the rules as sentences (`specs/Reasons`), and the order of a
+/// trace agree on what needs what on a file system of each profile, and so on which sets are
+/// allowed. What a micro-operation needs is before it.
 pub fn rules_are_sentences(micros: &Micros)
     ensures sentences { (profile : Profile) (i j : ℕ) → (needs_by micros.now profile i j ≡ true)
         ↔ Needs micros.now.ops micros.now.syncs micros.now.version profile i j }
@@ -33,8 +33,9 @@ pub fn rules_are_sentences(micros: &Micros)
         ↔ IsAllowed (needs_by micros.now profile) (length micros.now.ops) places }
 {}
 
-/// In the first three versions, what needs what by any chain is what it was before version 4, by
-/// the definitions of then, and each allowed set leaves the tree that it left.
+/// For a trace of versions 1 to 3, the definitions of today (`specs`) and those from before version
+/// 4 (`specs/Earlier`) agree: on what needs what by any chain, and on the tree that each allowed
+/// set leaves.
 pub fn earlier_versions_keep_their_states(trace: &Trace)
     requires { IsOfEarlierVersion trace.now }
     ensures { IsAsBefore trace.now }
@@ -49,8 +50,8 @@ pub fn earlier_versions_keep_their_states(trace: &Trace)
     earlier_versions_break_up_as_before(trace);
 }
 
-/// A micro-operation `j` needs another, `i`, by any chain exactly if there is a chain from `i` to
-/// `j`, of which each needs the one before it.
+/// An order says that place `j` needs place `i` by a chain exactly if there is a chain of places
+/// from `i` to `j`, of which each needs the one before it.
 pub fn chains_are_chains(order: &Order)
     ensures { (i j : ℕ) → (by_chain (needs_in order.now) i j ≡ true)
         ↔ ((n : ℕ) × Chain (needs_in order.now) n i j) }
@@ -60,7 +61,7 @@ pub fn chains_are_chains(order: &Order)
 }
 
 /// The state of every allowed set of a trace's micro-operations is a tree, whichever profile allows
-/// it.
+/// it: each path is reached from the root, and no directory is below itself.
 pub fn states_are_trees(trace: &Trace, micros: &Micros)
     requires version { micros.now.version ≡ trace.now.version }
     requires legal { AreLegalFromStart trace.now micros.now }

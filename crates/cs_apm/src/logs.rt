@@ -1,5 +1,7 @@
-//! What forces the log of a file system with a journal: a sync of everything, and a sync point of a
-//! file or a directory that was changed since the sync point before it.
+//! P11 of docs/MODEL.md: which sync points write the log of a file system with a journal, and so
+//! make all earlier entry operations durable, whatever they cover. These are each sync of
+//! everything, and each sync point of a file or a directory that is fresh: some micro-operation
+//! changed that file or directory since the sync point before it. To force the log is to write it.
 ghost use Rattle.std.specs.Prelude.{◌≡◌, ◌&&◌, ℕ, length, IfOk};
 ghost use Rattle.std.specs.List.{list_any};
 ghost use Rattle.cs_apm.specs.Finding.{AreLogged, is_by, logged_at};
@@ -13,7 +15,7 @@ use cs_micro::{MicroOp, SyncPoint};
 use cs_trace::{Covers, Profile, Target};
 use std::alloc::{AllocError, Global};
 
-/// Whether it is the file or the symbolic link of the number.
+/// Whether the node is the file or the symbolic link with this number.
 fn is_file_numbered(file: u32, node: Node) -> bool
     ensures { result ≡ rules.is_file_numbered file node }
 {
@@ -23,7 +25,7 @@ fn is_file_numbered(file: u32, node: Node) -> bool
     }
 }
 
-/// Whether it is the directory of the number.
+/// Whether the node is the directory with this number.
 fn is_directory_numbered(directory: u32, node: Node) -> bool
     ensures { result ≡ rules.is_directory_numbered directory node }
 {
@@ -33,7 +35,8 @@ fn is_directory_numbered(directory: u32, node: Node) -> bool
     }
 }
 
-/// Whether the micro-operation makes, links, moves, removes or replaces the file.
+/// Whether the micro-operation makes, links, moves or replaces the file or symbolic link, or
+/// removes one of its entries.
 fn handles_file(file: u32, op: &MicroOp) -> bool
     ensures { result ≡ list_any (rules.is_file_numbered file) (rules.nodes_handled op.now) }
 {
@@ -59,7 +62,8 @@ fn handles_file(file: u32, op: &MicroOp) -> bool
     }
 }
 
-/// Whether the micro-operation makes, moves, removes or replaces the directory.
+/// Whether the micro-operation makes, moves, removes or replaces the directory. What it does to
+/// entries in the directory doesn't count.
 fn handles_directory(directory: u32, op: &MicroOp) -> bool
     ensures { result
         ≡ list_any (rules.is_directory_numbered directory) (rules.nodes_handled op.now) }
@@ -85,7 +89,7 @@ fn handles_directory(directory: u32, op: &MicroOp) -> bool
 }
 
 /// Whether the micro-operation writes to the file, changes its size, or sets its owner, group and
-/// permissions.
+/// permissions; what it does to the file's entries doesn't count.
 fn alters_inode(file: u32, op: &MicroOp) -> bool
     ensures { result ≡ rules.alters_inode file op.now }
 {
@@ -100,15 +104,16 @@ fn alters_inode(file: u32, op: &MicroOp) -> bool
     }
 }
 
-/// Whether the micro-operation changes the file in any way, or one of its entries.
+/// Whether the micro-operation makes a later fsync of the file fresh: it changes the file in any
+/// way, or makes, moves, removes or replaces one of its entries.
 fn alters_file(file: u32, op: &MicroOp) -> bool
     ensures { result ≡ rules.alters_file file op.now }
 {
     alters_inode(file, op) || handles_file(file, op)
 }
 
-/// Whether the micro-operation changes the directory in any way: an entry in it, its own entry, or
-/// its owner, group and permissions.
+/// Whether the micro-operation makes a later fsync of the directory fresh: it changes an entry in
+/// the directory, the directory's own entry, or its owner, group and permissions.
 fn alters_directory(directory: u32, op: &MicroOp) -> bool
     ensures { result ≡ rules.alters_directory directory op.now }
 {
@@ -117,7 +122,8 @@ fn alters_directory(directory: u32, op: &MicroOp) -> bool
         || handles_directory(directory, op)
 }
 
-/// Whether the micro-operation changes the size of the file, or makes it.
+/// Whether the micro-operation makes a later fdatasync or fsync_range of the file fresh: it changes
+/// the size of the file, or makes it.
 fn resizes_or_makes(file: u32, op: &MicroOp) -> bool
     ensures { result ≡ rules.resizes_or_makes file op.now }
 {
@@ -128,7 +134,8 @@ fn resizes_or_makes(file: u32, op: &MicroOp) -> bool
     }
 }
 
-/// Whether a sync of this has the micro-operation to write to the log.
+/// Whether the micro-operation makes a later sync that covers this (`covers`) fresh, so that it
+/// writes the log, if no other sync point is between them. Any makes a sync of everything fresh.
 fn has_to_log(covers: &Covers, op: &MicroOp) -> bool
     ensures { result ≡ rules.has_to_log covers.now op.now }
 {
@@ -141,7 +148,7 @@ fn has_to_log(covers: &Covers, op: &MicroOp) -> bool
     }
 }
 
-/// Whether it is a sync of everything.
+/// Whether a sync that covers this is one of everything, which always writes the log.
 fn is_of_all(covers: &Covers) -> bool
     ensures { result ≡ rules.is_of_all covers.now }
 {
@@ -151,14 +158,15 @@ fn is_of_all(covers: &Covers) -> bool
     }
 }
 
-/// Whether the sync point forces the log: `from` is the place of the sync point before it, or 0.
+/// Whether the sync point writes the log. `from` is the place of the sync point before it, or 0 if
+/// it is the first: only what comes after that makes it fresh.
 fn forces_log(ops: &[MicroOp], from: usize, sync: &SyncPoint) -> bool
     ensures { result ≡ rules.forces_log ops.now from sync.now }
 {
     if is_of_all(&sync.covers) {
         return true;
     }
-    // Behind the last micro-operation there is nothing to log.
+    // After the last micro-operation there is nothing to log.
     for place in from..sync.at.min(ops.len()) {
         if has_to_log(&sync.covers, op_at(ops, place)) {
             return true;
@@ -167,7 +175,8 @@ fn forces_log(ops: &[MicroOp], from: usize, sync: &SyncPoint) -> bool
     false
 }
 
-/// The places at which sync points force the log, in the order of the sync points.
+/// The places of the sync points that write the log of a file system with a journal, in the order
+/// of the sync points. A place may be there twice, if two sync points at it write the log.
 fn places_forced(
     alloc: Global,
     ops: &[MicroOp],
@@ -186,7 +195,8 @@ fn places_forced(
     Ok(forced)
 }
 
-/// The same on a file system of the profile: none if it has no journal.
+/// The places of the sync points that write the log on a file system of the profile, in the order
+/// of the sync points: none if it has no journal.
 fn places_logged(
     alloc: Global,
     ops: &[MicroOp],
@@ -202,7 +212,8 @@ fn places_logged(
     }
 }
 
-/// The first of these places that is behind place `i`. None if none is.
+/// The first of these places that is after place `i`. None if none is. The places may be in any
+/// order.
 fn first_behind(forced: &[usize], i: usize) -> Option<usize>
     ensures { (j : ℕ) → is_by result j ≡ rules.is_forced_between forced.now i j }
 {
@@ -215,8 +226,8 @@ fn first_behind(forced: &[usize], i: usize) -> Option<usize>
     first
 }
 
-/// The first of these places that is behind place `i`, if the micro-operation there touches an
-/// entry. None if none is, or if it touches none.
+/// The first of the places `forced` that is after place `i`, if `op`, which is at place `i`,
+/// touches an entry. None if no place is after it, or if `op` touches no entry.
 fn first_log(forced: &[usize], i: usize, op: &MicroOp) -> Option<usize>
     ensures { (j : ℕ) → is_by result j
         ≡ (rules.is_entry_operation op.now && rules.is_forced_between forced.now i j) }
@@ -227,9 +238,9 @@ fn first_log(forced: &[usize], i: usize, op: &MicroOp) -> Option<usize>
     first_behind(forced, i)
 }
 
-/// For each micro-operation, the first place behind it at which the log is forced, so that it is on
-/// the disk whatever the sync point there covers. None if it touches no entry, if no sync point
-/// forces the log, or if the profile has no journal.
+/// For each micro-operation, the first place after it at which a sync point writes the log: after
+/// that sync point it is durable, whatever the sync point covers. None if it touches no entry, if
+/// no sync point after it writes the log, or if the profile has no journal.
 pub fn first_logs(
     alloc: Global,
     ops: &[MicroOp],

@@ -1,4 +1,4 @@
-//! A plain store of a state, made from what is in the slots of its entries.
+//! A plain store of a state, made from what the slots of its entries hold.
 ghost use Rattle.std.specs.Prelude.{◌≡◌, ◌<◌, ◌≤◌, Some, length, IfOk};
 ghost use Rattle.std.specs.List.{All};
 ghost use Rattle.cs_tree_model.specs.Fresh.{IsNested, fresh_record, with_numbers_from};
@@ -23,10 +23,10 @@ use cs_tree_model::{Content, DMDIR, DMSYMLINK, Record};
 use std::alloc::{AllocError, Global};
 use std::collections::BTreeMap;
 
-/// A record that was never changed: version and times are 0, and the owner is also the user who
-/// changed it last. `bit` is DMDIR for a directory, DMSYMLINK for a symbolic link, 0 for a file; of
-/// the permissions, the lowest nine bits count. `unchanged_metadata` of cs_state is the metadata of
-/// such a record.
+/// A record that no client has changed: version and times are 0, and the user who changed it last
+/// (muid) is the owner. `bit` is DMDIR for a directory, DMSYMLINK for a symbolic link, and 0 for a
+/// file. Of the permissions, the lowest nine bits count. `unchanged_metadata` of cs_state gives the
+/// same fields.
 fn record_with(
     number: u64,
     rights: &Rights,
@@ -50,7 +50,8 @@ fn record_with(
     })
 }
 
-/// The bit of the mode of a file of this kind.
+/// The bit that a file of this kind has in its mode above the permissions: DMSYMLINK of 9P2000.u
+/// for a symbolic link, 0 for a regular file. (`kind_bit` of cs_state has the same body.)
 fn kind_bit(kind: FileKind) -> u32
     ensures { result ≡ kind_bit kind }
 {
@@ -60,8 +61,8 @@ fn kind_bit(kind: FileKind) -> u32
     }
 }
 
-/// The record, with this number, of what an entry holds after the members of a set, which are at
-/// these places.
+/// The record of the file, symbolic link or directory `node` after the members of a set, which are
+/// at these places. `number` is the record's number in the tree, not the node's.
 fn record_at(
     alloc: Global,
     number: u64,
@@ -102,8 +103,9 @@ fn record_at(
     }
 }
 
-/// The records of what is at the paths after the members of a set, which are at these places. They
-/// are in the order of paths and numbered from 0.
+/// The records of what is at these paths, after the members of a set, which are at these places.
+/// They are in the order of paths and numbered from 0: a file with several paths has a record for
+/// each.
 fn records_of_nodes(
     alloc: Global,
     trace: &Trace,
@@ -131,9 +133,10 @@ fn records_of_nodes(
     Ok(records)
 }
 
-/// The store of what is in the slots, one for each entry, after the members of a set, which are at
-/// these places. The caller has made the members' steps in the slots; files get their bytes, and
-/// all their owners here.
+/// The store of the state of a set, whose members are at these places. The caller has made the
+/// members' steps in the slots; here each path gets its record, with the bytes and the owner that
+/// the members leave. The slots aren't changed. That the entries are a tree (`nested`) is a law of
+/// allowed sets, `states_are_trees`.
 pub fn store_of(
     alloc: Global,
     trace: &Trace,
@@ -159,6 +162,7 @@ pub fn store_of(
     ensures { IfOk result (λ tree. tree
         ≡ tree_of_state (state_of (start_state trace.now) ops.now places.now)) }
 {
+    // No directory is below itself, so no path has more names.
     let deep = tables.directories.len() + 1;
     let nodes = nodes_at_paths(alloc, &tables.entries, slots, deep)?;
     // By the contract of `len`, the map's paths ascend.

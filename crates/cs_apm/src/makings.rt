@@ -1,4 +1,4 @@
-//! Which micro-operations make the files and symbolic links after the start's.
+//! Which micro-operations make the files and symbolic links that aren't there at the start.
 ghost use Rattle.std.specs.Prelude.{◌≡◌, ◌≤◌, ◌^◌, length, IfOk};
 ghost use Rattle.cs_apm.specs.Atlases.{AreMakings};
 ghost use Rattle.cs_apm.specs.Making.{makes_file};
@@ -7,7 +7,8 @@ use cs_entries::Node;
 use cs_micro::MicroOp;
 use std::alloc::{AllocError, Global};
 
-/// Whether the micro-operation makes a file or a symbolic link.
+/// Whether the micro-operation makes a file or a symbolic link. False for a directory, and for
+/// another entry of a file that is there.
 fn makes_file(op: &MicroOp) -> bool
     ensures { result ≡ makes_file op.now }
 {
@@ -20,8 +21,9 @@ fn makes_file(op: &MicroOp) -> bool
     }
 }
 
-/// The place of the micro-operation that makes each file or symbolic link after the start's, in the
-/// order of their numbers.
+/// The place of the micro-operation that makes each file or symbolic link that isn't there at the
+/// start, in the order of their numbers. The first of these numbers is how many files and symbolic
+/// links there are at the start.
 pub fn makings_of(alloc: Global, ops: &[MicroOp]) -> Result<Vec<u32>, AllocError>
     requires { length ops.now ≤ 2 ^ 32 }
     ensures { IfOk result (λ makings. AreMakings ops.now makings.items) }

@@ -1,5 +1,5 @@
-//! Owner, group and permissions of the files and directories of a crash state. `owner` is all three
-//! here.
+//! Owner, group and permissions of the files and directories of a crash state. In the names of this
+//! module, `owner` means all three. A file is a symbolic link, too.
 ghost use Rattle.std.specs.Prelude.{◌≡◌, ◌<◌, length, slice_index_or};
 ghost use Rattle.std.specs.List.{All};
 ghost use Rattle.cs_apm.specs.Owners.{directory_after, directory_left, owner_after, owner_left};
@@ -9,8 +9,8 @@ use cs_entries::Node;
 use cs_micro::MicroOp;
 use cs_trace::{Rights, Target};
 
-/// Owner, group and permissions of the file after the micro-operation: those that it sets, if it
-/// sets this file's; if not, `owner`, those before it.
+/// Owner, group and permissions of the file after the micro-operation: those that it sets for this
+/// file. If it sets none for it, they are `owner`, as before it. What makes the file sets none.
 pub fn owner_after<'a>(file: u32, owner: &'a Rights, op: &'a MicroOp) -> &'a Rights
     ensures { result.now ≡ owner_after file owner.now op.now }
 {
@@ -24,8 +24,8 @@ pub fn owner_after<'a>(file: u32, owner: &'a Rights, op: &'a MicroOp) -> &'a Rig
 }
 
 /// Owner, group and permissions of the file after the members of a set, which are at these places.
-/// `owners` has those of each file as it is made, by its number. `owner_after_members` of cs_state
-/// gives the same by a search.
+/// `owners` has those of each file as it is made, by its number: if no member sets others, these
+/// stay. `owner_after_members` of cs_state finds the same without looking at each member.
 pub fn owner_left<'a>(
     owners: &'a [Rights],
     ops: &'a [MicroOp],
@@ -44,8 +44,9 @@ pub fn owner_left<'a>(
     owner
 }
 
-/// Owner, group and permissions of the directory after the micro-operation: those that it makes it
-/// with or sets, if it does so; if not, `owner`, those before it.
+/// Owner, group and permissions of the directory after the micro-operation: those of the
+/// micro-operation, if it makes this directory or sets them for it. If not, they are `owner`, as
+/// before it.
 pub fn directory_after<'a>(directory: u32, owner: &'a Rights, op: &'a MicroOp) -> &'a Rights
     ensures { result.now ≡ directory_after directory owner.now op.now }
 {
@@ -64,7 +65,8 @@ pub fn directory_after<'a>(directory: u32, owner: &'a Rights, op: &'a MicroOp) -
 }
 
 /// Owner, group and permissions of the directory after the members of a set, which are at these
-/// places. `directories` has those of each directory as it is made, by its number.
+/// places. `directories` is as `directories_of` returns it. If a member makes the directory or sets
+/// them, those of the last such member count.
 pub fn directory_left<'a>(
     directories: &'a [Rights],
     ops: &'a [MicroOp],

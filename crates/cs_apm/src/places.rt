@@ -1,4 +1,4 @@
-//! The places of entries among those that ever hold something.
+//! The places of entries among those that have a slot.
 ghost use Rattle.std.specs.Prelude.{◌≡◌, IfOk, length, map};
 ghost use Rattle.std.specs.FinMap.{entries};
 ghost use Rattle.std.specs.List.{Contains};
@@ -10,7 +10,8 @@ use cs_entries::{DirEntry, Entry, Node};
 use std::alloc::{AllocError, Global};
 use std::collections::BTreeMap;
 
-/// The entries of a map in their order, and what each holds there, in the same order.
+/// The entries of a map in their order (by directory, then by name), and what each holds there, in
+/// the same order.
 pub fn lists_of(
     alloc: Global,
     held: BTreeMap<Entry, Option<Node>>,
@@ -29,7 +30,8 @@ pub fn lists_of(
     Ok((entries, slots))
 }
 
-/// The place, from 0, of the entry among these entries, which must have it.
+/// The place, from 0, of the entry among these entries, which must ascend and have it. The only
+/// error is that memory ran out for a copy of the name.
 pub fn place_of_entry(alloc: Global, entries: &[Entry], at: &DirEntry) -> Result<usize, AllocError>
     requires ascending { AreAscending entries.now }
     requires there { Contains entries.now (entry_of at.now) }

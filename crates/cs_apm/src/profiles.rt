@@ -1,4 +1,4 @@
-//! On which file systems a set of micro-operations may be left.
+//! On file systems of which profiles a crash may leave a set of micro-operations.
 ghost use Rattle.std.specs.Prelude.{◌≡◌, ◌↔◌, ◌+◌, ◌<◌, ℕ, IsTrue, length, slice_index};
 ghost use Rattle.cs_apm.specs.Orders.{order_by};
 ghost use Rattle.cs_apm.specs.Profiles.{HasBothHalves, MayBeLeft};
@@ -8,7 +8,8 @@ use cs_micro::{MicroOp, Micros};
 use cs_sets::Order;
 use cs_trace::Profile;
 
-/// Whether the next of these places is the one behind that at `index`.
+/// Whether these places have, right after the one at `index`, the next higher number. False at the
+/// last index.
 fn is_followed(places: &[u32], index: usize) -> bool
     requires { index < length places.now }
     ensures { IsTrue result ↔ ((index + 1 < length places.now)
@@ -17,8 +18,9 @@ fn is_followed(places: &[u32], index: usize) -> bool
     index + 1 < places.len() && places[index + 1] as usize == places[index] as usize + 1
 }
 
-/// Whether the set has with each first half of a rename the second half, which is the
-/// micro-operation behind it. The places ascend.
+/// Whether the set, which is given by its places in ascending order, has the second half of each
+/// rename of which it has the first. The second half is the next micro-operation. True if it has no
+/// first half.
 fn has_both_halves(ops: &[MicroOp], places: &[u32]) -> bool
     requires ascending { (a b : ℕ) → a < b → b < length places.now
         → slice_index places.now a < slice_index places.now b }
@@ -34,9 +36,10 @@ fn has_both_halves(ops: &[MicroOp], places: &[u32]) -> bool
     true
 }
 
-/// Whether a file system of the profile, whose order this is, may leave exactly the
-/// micro-operations at these places: they are allowed by its order, and only one that keeps no
-/// order may leave the first half of a rename without the second.
+/// Whether a crash may leave exactly the micro-operations at these places on a file system of the
+/// profile, whose order (as of `order_by`) this is. The order must allow the set; and only a file
+/// system that keeps no order may leave the first half of a rename without the second. False also
+/// for places that don't ascend or aren't in range.
 pub fn may_be_left(micros: &Micros, profile: Profile, order: &Order, places: &[u32]) -> bool
     requires { order.now ≡ order_by micros.now profile }
     ensures { IsTrue result ↔ MayBeLeft micros.now profile places.now }

@@ -1,5 +1,6 @@
 //! Owner, group and permissions of the files and directories as they are made. Here `rights` means
-//! all three. An error is that memory ran out; then the tables are dropped.
+//! all three. If memory runs out while rights are appended to a table, some may have been appended;
+//! the callers here then drop the table.
 ghost use Rattle.std.specs.Prelude.{◌≡◌, [], ◌∷◌, ◌<◌, ◌++◌, length, map, IfOk, OnOk};
 ghost use Rattle.std.specs.Prelude.{slice_index_or};
 ghost use Rattle.std.specs.List.{All};
@@ -13,7 +14,7 @@ use cs_trace::{Rights, Start};
 use cs_tree_model::Metadata;
 use std::alloc::{AllocError, Global};
 
-/// The rights of a record at the start, copied. The permissions are the lowest nine bits of its
+/// A copy of the rights of a record at the start. The permissions are the lowest nine bits of its
 /// mode.
 fn rights_of(start: &Metadata<'_>) -> Result<Rights, AllocError>
     ensures { IfOk result (λ rights. rights ≡ rights_in (metadata_of_ref start.now)) }
@@ -25,7 +26,7 @@ fn rights_of(start: &Metadata<'_>) -> Result<Rights, AllocError>
     })
 }
 
-/// Appends the rights of the records at these places, in their order.
+/// Appends the rights of the records at these places, in the order of the places.
 fn push_starts(table: &mut Vec<Rights>, records: &Start, places: &[u32]) -> Result<(), AllocError>
     requires { All (λ place. place < length records.now) places.now }
     ensures { OnOk result (table.new.items ≡ table.old.items
@@ -54,8 +55,8 @@ fn push_made_rights(table: &mut Vec<Rights>, op: &MicroOp) -> Result<(), AllocEr
     Ok(())
 }
 
-/// The rights of each file as it is made, by its number: first of the files at the start, whose
-/// records are at these places, and then of those that micro-operations make.
+/// The rights of each file and symbolic link as it is made, by its number: first of those at the
+/// start, whose records are at these places, and then of those that micro-operations make.
 pub fn owners_of(
     alloc: Global,
     records: &Start,
@@ -75,7 +76,7 @@ pub fn owners_of(
     Ok(owners)
 }
 
-/// Appends the rights with which the micro-operation makes a directory; nothing if it makes none.
+/// Appends the rights of the directory that the micro-operation makes; nothing if it makes none.
 fn push_directory_rights(table: &mut Vec<Rights>, op: &MicroOp) -> Result<(), AllocError>
     ensures { OnOk result (table.new.items
         ≡ table.old.items ++ directories_made (op.now ∷ [])) }
@@ -91,8 +92,10 @@ fn push_directory_rights(table: &mut Vec<Rights>, op: &MicroOp) -> Result<(), Al
     Ok(())
 }
 
-/// The rights of each directory at the start, whose records are at these places, and then one for
-/// each making of a directory.
+/// The rights of each directory at the start by its number, whose records are at these places, and
+/// then those of each making of a directory. In version 4 of the trace these are by number, too.
+/// Before, a directory that is made again keeps its number, so a number's rights may be another
+/// directory's: `directory_left` replaces them by those of the making.
 pub fn directories_of(
     alloc: Global,
     records: &Start,

@@ -1,4 +1,5 @@
-//! What each micro-operation needs, as rows of bits.
+//! What each micro-operation needs, as rows of bits. `i` and `j` are places in the trace, `i` that
+//! of the earlier micro-operation.
 ghost use Rattle.std.specs.Prelude.{◌≡◌, ℕ, ◌<◌, ◌≤◌, length, IfOk};
 ghost use Rattle.cs_apm.specs.Finding.{AreLogged, AreSynced, is_parent_making};
 ghost use Rattle.cs_apm.specs.Rows.{AreRows, IsRow};
@@ -13,8 +14,8 @@ use cs_sets::Row;
 use cs_trace::{Profile, Version};
 use std::alloc::{AllocError, Global};
 
-/// Whether a sync point after micro-operation `i` and before `j` covers `i`. `found` is what
-/// `first_syncs` found for `_ops` and `_syncs`, which are for the contract only.
+/// Whether a sync point after micro-operation `i` and before `j` covers `i` (P5). `found` is what
+/// `first_syncs` returned for `_ops` and `_syncs`, which are for the contract only.
 fn is_synced(
     _ops: &[MicroOp],
     _syncs: &[SyncPoint],
@@ -29,9 +30,9 @@ fn is_synced(
     is_by(found[i], j)
 }
 
-/// Whether the log was forced between micro-operation `i`, which touches an entry, and `j`, on a
-/// file system with a journal. `found` is what `first_logs` found for the other arguments, which
-/// are for the contract only.
+/// Whether micro-operation `i` touches an entry, and a sync point between `i` and `j` writes the
+/// log of a file system with a journal (P11). False for the other profiles. `found` is what
+/// `first_logs` returned for `_ops`, `_syncs` and `_profile`, which are for the contract only.
 fn is_journaled(
     _ops: &[MicroOp],
     _syncs: &[SyncPoint],
@@ -47,7 +48,8 @@ fn is_journaled(
     is_by(found[i], j)
 }
 
-/// Whether the two are the halves of one rename.
+/// Whether `i` and `j` are the halves of one rename (P13): `i` the first, and `j` the next
+/// micro-operation.
 fn are_halves(ops: &[MicroOp], i: usize, j: usize) -> bool
     requires { i < length ops.now }
     ensures { result ≡ rules.are_halves ops.now i j }
@@ -55,17 +57,20 @@ fn are_halves(ops: &[MicroOp], i: usize, j: usize) -> bool
     is_first_half(op_at(ops, i)) && j == i + 1
 }
 
-/// What is found once for all pairs of micro-operations.
+/// What is found once for all pairs of micro-operations, so that no pair needs a search.
 #[derive(Debug, Drop)]
 struct Found {
-    /// What `first_syncs` found.
+    /// For each micro-operation, the place of the first sync point that covers it: see
+    /// `first_syncs`.
     syncs: Vec<Option<usize>>,
-    /// What `first_logs` found.
+    /// For each micro-operation, the first place after it at which a journal is written: see
+    /// `first_logs`.
     logs: Vec<Option<usize>>,
 }
 
-/// Whether micro-operation `j` needs `i`, which is before it. `parents` has the latest makings that
-/// `j` needs.
+/// Whether micro-operation `j` needs `i`, which is before it, by one of the rules P1 to P13; not by
+/// a chain of others. `found` is of these micro-operations, sync points and profile, and `parents`
+/// of `j`.
 #[tactic(auto, unfolding(crate::specs::Rules::needs))]
 fn needs_earlier(
     ops: &[MicroOp],
@@ -92,7 +97,8 @@ fn needs_earlier(
         || are_halves(ops, i, j)
 }
 
-/// What micro-operation `j` needs, as a row.
+/// The places of what micro-operation `j` needs by one of the rules, as a row; all are before `j`.
+/// `found` is of these micro-operations, sync points and profile.
 fn row_of(
     ops: &[MicroOp],
     syncs: &[SyncPoint],
@@ -117,7 +123,9 @@ fn row_of(
     row
 }
 
-/// For each micro-operation, a row of what it needs on a file system of the profile.
+/// For each micro-operation, a row of what it needs by the rules of the version, on a file system
+/// of the profile; not of what it needs only by a chain. There may be at most MICRO_OPERATIONS of
+/// them, as many as a row has bits.
 pub fn rows_of(
     alloc: Global,
     ops: &[MicroOp],

@@ -1,6 +1,7 @@
-//! The rules by which one micro-operation needs another, as tests of the two: `a` is the first in
-//! the trace, and `b` the second, which may need it. What a single micro-operation does to entries
-//! and directories is in `touching`, and the searches of the other rules are in `found`.
+//! The rules of docs/MODEL.md (P1 to P13) that look only at two micro-operations: `a` is the
+//! earlier one in the trace, and `b` the later one, which may need it. What a single
+//! micro-operation does to entries and directories is in `touching`. The searches for P3 and P5 are
+//! in `found`, those for P11 in `logs`; P13 is in `rows`.
 ghost use Rattle.std.specs.Prelude.{◌≡◌, ◌<◌, length};
 ghost use Rattle.std.specs.List.{list_any};
 ghost use Rattle.cs_entries.specs.Rules.{shares_entry};
@@ -14,7 +15,8 @@ use cs_entries::Node;
 use cs_micro::MicroOp;
 use cs_trace::{Covers, Profile, Target, Version};
 
-/// Whether both write the same block of the same file, or both change the size of the same file.
+/// P1: whether both write the same block of the same file, or both change the size of the same
+/// file.
 fn same_block_or_size(a: &MicroOp, b: &MicroOp) -> bool
     ensures { result ≡ rules.same_block_or_size a.now b.now }
 {
@@ -35,7 +37,7 @@ fn same_block_or_size(a: &MicroOp, b: &MicroOp) -> bool
     }
 }
 
-/// Whether there is an entry that both touch.
+/// The first case of P2: whether there is an entry that both touch.
 fn shares_entry(a: &MicroOp, b: &MicroOp) -> bool
     ensures { result ≡ shares_entry (entry_op a.now) (entry_op b.now) }
 {
@@ -51,7 +53,8 @@ fn shares_entry(a: &MicroOp, b: &MicroOp) -> bool
     }
 }
 
-/// Whether there is a directory that both make, remove, or set owner, group and permissions of.
+/// The second case of P2: whether there is a directory that each of them makes or removes (also by
+/// a move that replaces it), or sets the owner, group and permissions of.
 fn shares_directory(a: &MicroOp, b: &MicroOp) -> bool
     ensures { result ≡ list_any (rules.settles a.now) (rules.directories_settled b.now) }
 {
@@ -76,7 +79,8 @@ fn shares_directory(a: &MicroOp, b: &MicroOp) -> bool
     }
 }
 
-/// Whether the second removes a directory, and the first touches an entry in it.
+/// P4: whether the second removes a directory, also by a move that replaces it, and the first
+/// touches an entry in it.
 fn touches_removed_directory(a: &MicroOp, b: &MicroOp) -> bool
     ensures { result ≡ rules.touches_removed_directory a.now b.now }
 {
@@ -94,7 +98,7 @@ fn touches_removed_directory(a: &MicroOp, b: &MicroOp) -> bool
     }
 }
 
-/// Whether both are acknowledged lines.
+/// P6: whether both are acknowledged lines.
 fn both_say(a: &MicroOp, b: &MicroOp) -> bool
     ensures { result ≡ rules.both_say a.now b.now }
 {
@@ -107,7 +111,8 @@ fn both_say(a: &MicroOp, b: &MicroOp) -> bool
     }
 }
 
-/// Whether both set owner, group and permissions of the same file.
+/// P7: whether both set owner, group and permissions of the same file or symbolic link. (Those of a
+/// directory are in P2.)
 fn sets_same_file(a: &MicroOp, b: &MicroOp) -> bool
     ensures { result ≡ rules.sets_same_file a.now b.now }
 {
@@ -126,7 +131,7 @@ fn sets_same_file(a: &MicroOp, b: &MicroOp) -> bool
     }
 }
 
-/// Whether the micro-operation makes, deletes, moves or links an entry.
+/// Whether the micro-operation makes, deletes, moves or links an entry, and so touches one.
 pub fn is_entry_operation(op: &MicroOp) -> bool
     ensures { result ≡ rules.is_entry_operation op.now }
 {
@@ -142,7 +147,7 @@ pub fn is_entry_operation(op: &MicroOp) -> bool
     }
 }
 
-/// Whether both make, delete, move or link entries, and the file system keeps such
+/// P8: whether both make, delete, move or link entries, and a file system of the profile keeps such
 /// micro-operations in order.
 fn keeps_order(profile: Profile, a: &MicroOp, b: &MicroOp) -> bool
     ensures { result ≡ rules.keeps_order profile a.now b.now }
@@ -154,8 +159,8 @@ fn keeps_order(profile: Profile, a: &MicroOp, b: &MicroOp) -> bool
     }
 }
 
-/// Whether the micro-operation is an acknowledged line, in a version in which such a line is on the
-/// disk before all that follows it.
+/// P9: whether the first is an acknowledged line, in a version (3 or later) in which all that
+/// follows such a line needs it.
 fn says_before(version: Version, a: &MicroOp) -> bool
     ensures { result ≡ rules.says_before version a.now }
 {
@@ -165,7 +170,8 @@ fn says_before(version: Version, a: &MicroOp) -> bool
     }
 }
 
-/// Whether the first makes the file or the symbolic link that the second links.
+/// P10: whether the first makes the file or the symbolic link that the second links, also as the
+/// first half of a rename.
 fn creates_linked(a: &MicroOp, b: &MicroOp) -> bool
     ensures { result ≡ rules.creates_linked a.now b.now }
 {
@@ -181,23 +187,24 @@ fn creates_linked(a: &MicroOp, b: &MicroOp) -> bool
     }
 }
 
-/// Whether both move directories.
+/// P12: whether both move directories. Only traces of version 4 have such moves, so the version
+/// isn't asked.
 fn both_move_directories(a: &MicroOp, b: &MicroOp) -> bool
     ensures { result ≡ rules.both_move_directories a.now b.now }
 {
     moves_directory(a) && moves_directory(b)
 }
 
-/// Whether the second needs the first by a rule that looks at the entries and directories of these
-/// two only.
+/// P2: whether both touch the same entry, or each of them makes, removes, or sets the owner, group
+/// and permissions of the same directory. (In versions 1 to 3: both name the same path.)
 fn shares_name(a: &MicroOp, b: &MicroOp) -> bool
     ensures { result ≡ rules.shares_name a.now b.now }
 {
     shares_entry(a, b) || shares_directory(a, b)
 }
 
-/// Whether the second needs the first by a rule that the version has and that looks at these two
-/// only, on a file system of the profile.
+/// Whether the second needs the first by a rule that looks only at these two, if the trace has the
+/// version, on a file system of the profile: P1, P2, P4, P6 to P10, or P12.
 pub fn pair_needs(version: Version, profile: Profile, a: &MicroOp, b: &MicroOp) -> bool
     ensures { result ≡ rules.pair_needs version profile a.now b.now }
 {
@@ -212,8 +219,8 @@ pub fn pair_needs(version: Version, profile: Profile, a: &MicroOp, b: &MicroOp) 
         || both_move_directories(a, b)
 }
 
-/// Whether the micro-operation is the first half of a rename into another directory. The second is
-/// the one behind it.
+/// Whether the micro-operation is the first half of a rename into another directory: a
+/// `link_dir_entry` that a rename became, not a link. The second half is the next micro-operation.
 pub fn is_first_half(op: &MicroOp) -> bool
     ensures { result ≡ rules.is_first_half op.now }
 {
@@ -223,18 +230,18 @@ pub fn is_first_half(op: &MicroOp) -> bool
     }
 }
 
-/// Whether the bytes of a file from `begin` up to `end`, which isn't one of them, are all in the
-/// range of `count` bytes from `offset` on. The range may end above 2^64. If both are equal, there
-/// are no bytes; then `begin` must be in the range or at its end.
+/// Whether the bytes of a file from `begin` on and before `end` are all in the range of `count`
+/// bytes from `offset` on. The range may end above 2^64. If `begin` is `end`, there are no bytes;
+/// then `begin` must be in the range or at its end.
 fn lies_within(offset: u64, count: u64, begin: u128, end: u128) -> bool
     ensures { result ≡ rules.lies_within offset count begin end }
 {
     u128::from(offset) <= begin && end <= u128::from(offset) + u128::from(count)
 }
 
-/// Whether a sync of `count` bytes of the file from `offset` on waits for the micro-operation: for
-/// a write into the file only if all its bytes are in this range, for each change of the file's
-/// size, and for nothing else.
+/// Whether an fsync_range of `count` bytes of the file from `offset` on covers the micro-operation.
+/// It covers a write into the file if all its bytes are in this range, each change of the file's
+/// size, and nothing else.
 fn is_in_range(file: u32, offset: u64, count: u64, op: &MicroOp) -> bool
     ensures { result ≡ rules.is_covered (Covers.Range file offset count) op.now }
 {
@@ -255,7 +262,8 @@ fn is_in_range(file: u32, offset: u64, count: u64, op: &MicroOp) -> bool
     }
 }
 
-/// Whether the micro-operation writes to the file, or changes its size.
+/// Whether an fdatasync of the file covers the micro-operation: it writes to the file, or changes
+/// its size. (`changes_file` of `content` has the same body.)
 fn is_of_data(file: u32, op: &MicroOp) -> bool
     ensures { result ≡ rules.is_covered (Covers.Data file) op.now }
 {
@@ -266,9 +274,10 @@ fn is_of_data(file: u32, op: &MicroOp) -> bool
     }
 }
 
-/// Whether a sync waits for the micro-operation. `covers` is what it syncs: everything, a file (its
-/// bytes, size and rights), the data of a file, a range of it, or the entries of a directory and
-/// its rights.
+/// Whether a sync that covers this (`covers`) covers the micro-operation, if that comes before it.
+/// One of a file covers its bytes, its sizes, and its owner, group and mode, but none of its
+/// entries; one of a directory covers what touches an entry in it (of a move, either end), and the
+/// directory's own owner, group and mode. The table is in docs/MODEL.md, "What a sync covers".
 pub fn is_covered(covers: &Covers, op: &MicroOp) -> bool
     ensures { result ≡ rules.is_covered covers.now op.now }
 {
@@ -295,7 +304,7 @@ pub fn is_covered(covers: &Covers, op: &MicroOp) -> bool
     }
 }
 
-/// The micro-operation at a place.
+/// The micro-operation at a place, from 0.
 pub fn op_at(ops: &[MicroOp], place: usize) -> &MicroOp
     requires { place < length ops.now }
     ensures { result.now ≡ rules.op_at ops.now place }

@@ -7,7 +7,7 @@ ghost use Rattle.cs_apm.specs.States.{directory_place};
 use cs_entries::Node;
 use std::alloc::{AllocError, Global};
 
-/// Whether it is a directory.
+/// Whether the node is a directory; false for a file or a symbolic link.
 fn is_directory(node: Node) -> bool
     ensures { result ≡ is_directory node }
 {
@@ -17,15 +17,16 @@ fn is_directory(node: Node) -> bool
     }
 }
 
-/// How many of the nodes are directories.
+/// How many of the nodes are directories. In the nodes of a trace these are the directories at the
+/// start, with the numbers from 0.
 pub fn count_directories(nodes: &[Node]) -> usize
     ensures { result ≡ directory_count nodes.now }
 {
     nodes.iter().filter(|node| is_directory(**node)).count()
 }
 
-/// Notes the place as that of the node's record, if the node is a file with a number in range. If
-/// not, nothing changes.
+/// Notes `place` in `starts` as the place of a record of this file or symbolic link, in place of an
+/// earlier note. If the node is a directory, or `starts` lacks the file's number, nothing changes.
 fn note_start(starts: &mut [u32], node: Node, place: u32)
     ensures { starts.new ≡ with_file_noted starts.old node place }
 {
@@ -36,9 +37,10 @@ fn note_start(starts: &mut [u32], node: Node, place: u32)
     }
 }
 
-/// The places of the records of the first `count` files, by the files' numbers; 0 for a file that
-/// has no record (each file at the start of a trace has one). A file may have several records,
-/// which differ only in their paths and numbers; then the place is that of one of them.
+/// The places of the records of the first `count` files and symbolic links, by their numbers. The
+/// nodes are those of the records, in their order. 0 for a file that has no record (each file at
+/// the start of a trace has one). A file with several paths has several records, which differ only
+/// in their paths and numbers; then the place is that of one of them.
 pub fn starts_of(alloc: Global, nodes: &[Node], count: usize) -> Result<Vec<u32>, AllocError>
     requires { length nodes.now ≤ 2 ^ 32 }
     ensures long { IfOk result (λ starts. length starts.items ≡ count) }
@@ -51,8 +53,8 @@ pub fn starts_of(alloc: Global, nodes: &[Node], count: usize) -> Result<Vec<u32>
     Ok(starts)
 }
 
-/// Notes the place as that of the node's record, if the node is a directory with a number in range.
-/// If not, nothing changes.
+/// Notes `place` in `places` as the place of the record of this directory, in place of an earlier
+/// note. If the node is a file, or `places` lacks the directory's number, nothing changes.
 fn note_directory(places: &mut [u32], node: Node, place: u32)
     ensures { places.new ≡ with_directory_noted places.old node place }
 {
@@ -63,8 +65,9 @@ fn note_directory(places: &mut [u32], node: Node, place: u32)
     }
 }
 
-/// The places of the records of the first `count` directories, by the directories' numbers; 0, that
-/// of the root, for a number that no directory has.
+/// The places of the records of the first `count` directories, by the directories' numbers. The
+/// nodes are those of the records, in their order. 0, the place of the root, for a number that no
+/// directory has.
 pub fn directory_places(alloc: Global, nodes: &[Node], count: usize) -> Result<Vec<u32>, AllocError>
     requires { length nodes.now ≤ 2 ^ 32 }
     ensures long { IfOk result (λ places. length places.items ≡ count) }
@@ -72,7 +75,7 @@ pub fn directory_places(alloc: Global, nodes: &[Node], count: usize) -> Result<V
         → slice_index_or places.items d 0 ≡ directory_place nodes.now d) }
 {
     let mut places = vec![in alloc; 0; count]?;
-    // From the last record on: of two of one directory, the first counts.
+    // From the last record to the first: if two have the number, the place is the first's.
     for k in (0..nodes.len()).rev() {
         note_directory(&mut places, nodes[k], k as u32);
     }

@@ -1,4 +1,4 @@
-//! The state of a set as a plain store, built from the tables of its trace.
+//! The state of an allowed set as a plain store, built from the tables of its trace.
 ghost use Rattle.std.specs.Prelude.{◌≡◌, ◌<◌, length, map, fold, IfOk};
 ghost use Rattle.std.specs.List.{All};
 ghost use Rattle.cs_tree_model.specs.Tree.{IsTree};
@@ -18,7 +18,8 @@ use cs_trace::Trace;
 use cs_tree::PlainTree;
 use std::alloc::{AllocError, Global};
 
-/// What is in each slot after the steps of the members of a set, which are at these places.
+/// What the slots hold, in the order of `tables.entries`, after the steps of the members of a set.
+/// The members are at these places. The tables aren't changed.
 pub fn slots_of_set(
     alloc: Global,
     tables: &Tables,
@@ -35,8 +36,9 @@ pub fn slots_of_set(
     Ok(left)
 }
 
-/// The store of the state of an allowed set. The members' steps are made in the slots, and then a
-/// tree of what the slots have.
+/// The state of an allowed set as a plain store. The members are at these places, and the tables
+/// are those of the trace and its micro-operations. First the members' steps are made in a copy of
+/// the slots, then the store is made of what these hold.
 pub fn state_of(
     alloc: Global,
     trace: &Trace,
@@ -53,8 +55,10 @@ pub fn state_of(
     store_of(alloc, trace, micros.ops(), tables, places, &slots)
 }
 
-/// The state of one allowed set as a plain store, which shares nothing. `cs_state` makes states of
-/// one trace that share what is unchanged.
+/// The state of one allowed set as a plain store, which shares nothing. The micro-operations must
+/// be those that `break_up` returns for the trace, and the members are at these places. It computes
+/// all tables of the trace each time: for many states, `cs_state` computes them once and shares
+/// what is unchanged. Tests and benchmarks call it, no command does.
 pub fn build(
     alloc: Global,
     micros: &Micros,

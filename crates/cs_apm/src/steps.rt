@@ -9,7 +9,8 @@ use cs_entries::{Entry, Node};
 use cs_micro::MicroOp;
 use std::alloc::{AllocError, Global};
 
-/// The step of the micro-operation: what it does to the slots of the entries that it touches.
+/// The step of the micro-operation: what it does to the slots of the entries that it touches. The
+/// entries ascend and have these; their places fit in 32 bits.
 fn step_of(alloc: Global, entries: &[Entry], op: &MicroOp) -> Result<Step, AllocError>
     requires short { length entries.now ≤ 2 ^ 32 }
     requires ascending { AreAscending entries.now }
@@ -46,7 +47,8 @@ fn step_of(alloc: Global, entries: &[Entry], op: &MicroOp) -> Result<Step, Alloc
     }
 }
 
-/// The step of each micro-operation, in their order.
+/// The step of each micro-operation, in their order. The entries ascend and have every entry that
+/// one of them touches; their places fit in 32 bits.
 pub fn steps_of(alloc: Global, entries: &[Entry], ops: &[MicroOp]) -> Result<Vec<Step>, AllocError>
     requires short { length entries.now ≤ 2 ^ 32 }
     requires ascending { AreAscending entries.now }

@@ -1,4 +1,4 @@
-//! What is computed once from a trace, for the states of all its sets.
+//! What is computed once from a trace, for the states of all its sets. The specs call it an atlas.
 ghost use Rattle.std.specs.Prelude.{◌≡◌, IfOk};
 ghost use Rattle.cs_micro.specs.Micros.{AreLegalFromStart, micros_in};
 
@@ -16,32 +16,40 @@ use cs_names::laws::know;
 use cs_trace::{Rights, Trace};
 use std::alloc::{AllocError, Global};
 
-/// What is computed once from a trace.
+/// What is computed once from a trace and its micro-operations. Nothing changes it afterwards. The
+/// fields are consistent only as `Tables::of` returns them: functions that take tables ask in
+/// `requires` that they are of the same trace.
 #[derive(Debug, Drop)]
 pub struct Tables {
-    /// Every entry that the start has or a micro-operation touches, in order.
+    /// Every entry that the start has or a micro-operation touches, in ascending order: by the
+    /// number of the directory, then by name.
     pub entries: Vec<Entry>,
-    /// What each of them holds at the start.
+    /// What each entry of `entries` holds at the start; None if it holds nothing.
     pub slots: Vec<Option<Node>>,
-    /// What each micro-operation does to them.
+    /// What each micro-operation does to the slots.
     pub steps: Vec<Step>,
     /// Owner, group and permissions of the files and symbolic links as they are made, by their
     /// numbers.
     pub owners: Vec<Rights>,
-    /// The same of the directories, by theirs.
+    /// Owner, group and permissions of the directories as they are made: those at the start by
+    /// their numbers, then one for each making. See `directories_of`.
     pub directories: Vec<Rights>,
-    /// For each file at the start, by its number, the place of its record among the trace's.
+    /// For each file and symbolic link at the start, by its number, the place of its record among
+    /// the trace's; of one of its records, if it has several.
     pub starts: Vec<u32>,
-    /// For each file after those, the place of the micro-operation that makes it.
+    /// For each file and symbolic link that isn't there at the start, in the order of the numbers,
+    /// the place of the micro-operation that makes it.
     pub makings: Vec<u32>,
-    /// For each file, by its number, whether some micro-operation changes its size or bytes.
+    /// For each file and symbolic link, by its number, whether some micro-operation changes its
+    /// size or bytes.
     pub changed: Vec<bool>,
 }
 
 impl Tables {
     ghost use Rattle.cs_apm.specs.Atlases.{IsAtlas, atlas_in};
 
-    /// Computes the tables of a trace. The micro-operations must be those that `break_up` returns.
+    /// Computes the tables of a trace. The micro-operations must be those that `break_up` returns
+    /// for it. The only error is that memory ran out; nothing is left then.
     pub fn of(alloc: Global, trace: &Trace, micros: &Micros) -> Result<Tables, AllocError>
         requires broken { micros.now ≡ micros_in trace.now }
         requires legal { AreLegalFromStart trace.now micros.now }

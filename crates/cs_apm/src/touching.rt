@@ -1,4 +1,5 @@
-//! What a single micro-operation does to entries and directories, as tests.
+//! What a single micro-operation does to entries and directories, as tests. It touches an entry if
+//! it makes, deletes or links it, or moves something from or to it.
 ghost use Rattle.std.specs.Prelude.{◌≡◌};
 ghost use Rattle.cs_entries.specs.DirEntries.{entry_of};
 ghost use Rattle.cs_entries.specs.Entries.{touches};
@@ -10,7 +11,8 @@ use cs_entries::{DirEntry, Node};
 use cs_micro::MicroOp;
 use cs_trace::Target;
 
-/// Whether the micro-operation makes, deletes or links the entry, or moves something from or to it.
+/// Whether the micro-operation touches the entry: makes, deletes or links it, or moves something
+/// from or to it. A change of what the entry holds (its bytes, its owner) doesn't touch it.
 pub fn touches(op: &MicroOp, at: &DirEntry) -> bool
     ensures { result ≡ touches (entry_op op.now) (entry_of at.now) }
 {
@@ -26,7 +28,8 @@ pub fn touches(op: &MicroOp, at: &DirEntry) -> bool
     }
 }
 
-/// Whether the micro-operation touches (as in `touches`) an entry of the directory.
+/// Whether the micro-operation touches, as `touches` says, an entry in the directory with this
+/// number. The directory's own entry is in its parent, and doesn't count.
 pub fn touches_entry_of(op: &MicroOp, directory: u32) -> bool
     ensures { result ≡ rules.touches_entry_of op.now directory }
 {
@@ -44,7 +47,7 @@ pub fn touches_entry_of(op: &MicroOp, directory: u32) -> bool
     }
 }
 
-/// Whether the micro-operation makes the directory.
+/// Whether the micro-operation makes the directory with this number. A move of it doesn't make it.
 pub fn makes(op: &MicroOp, directory: u32) -> bool
     ensures { result ≡ makes (entry_op op.now) directory }
 {
@@ -57,7 +60,7 @@ pub fn makes(op: &MicroOp, directory: u32) -> bool
     }
 }
 
-/// Whether the micro-operation removes the directory, or replaces it.
+/// Whether the micro-operation removes the directory with this number, or replaces it by a move.
 pub fn removes(op: &MicroOp, directory: u32) -> bool
     ensures { result ≡ removes (entry_op op.now) directory }
 {
@@ -74,7 +77,8 @@ pub fn removes(op: &MicroOp, directory: u32) -> bool
     }
 }
 
-/// Whether the micro-operation sets owner, group and permissions of the directory.
+/// Whether the micro-operation sets owner, group and permissions of the directory with this number,
+/// which is there already: a `set_attr`.
 pub fn sets_directory(op: &MicroOp, directory: u32) -> bool
     ensures { result ≡ rules.sets_directory op.now directory }
 {
@@ -87,15 +91,16 @@ pub fn sets_directory(op: &MicroOp, directory: u32) -> bool
     }
 }
 
-/// Whether the micro-operation makes or removes the directory, or sets its owner, group and
-/// permissions.
+/// Whether the micro-operation makes or removes the directory with this number (also by a move that
+/// replaces it), or sets its owner, group and permissions. Two of these are in order, by P2. The
+/// last of them settles whether the directory is there, and with which rights.
 pub fn settles(op: &MicroOp, directory: u32) -> bool
     ensures { result ≡ rules.settles op.now directory }
 {
     makes(op, directory) || removes(op, directory) || sets_directory(op, directory)
 }
 
-/// Whether the micro-operation moves a directory.
+/// Whether the micro-operation moves a directory. Only traces of version 4 have such moves.
 pub fn moves_directory(op: &MicroOp) -> bool
     ensures { result ≡ moves_directory (entry_op op.now) }
 {

@@ -1,4 +1,5 @@
-//! What is at each path, by what is in the slots.
+//! What is at each path of a state, found by a walk from the root through the slots. The entries
+//! are in ascending order, so those of a directory are next to one another.
 ghost use Rattle.std.specs.Prelude.{◌≡◌, ◌≢◌, ◌≤◌, ◌++◌, ◌+◌, length, IfOk, OnOk};
 ghost use Rattle.std.specs.List.{AllWithin};
 ghost use Rattle.cs_entries.specs.Tables.{below, paths_in};
@@ -10,8 +11,8 @@ use cs_names::Path;
 use std::alloc::{AllocError, Global};
 use std::collections::BTreeMap;
 
-/// The places from which on and before which the entries of the directory are; twice the same place
-/// if it has none.
+/// The range of the places of the directory's entries: the first place, and the one after the last.
+/// Both are the same if it has none.
 pub fn range_of(entries: &[Entry], directory: u32) -> (usize, usize)
     requires { AreAscending entries.now }
     ensures order { result.0 ≤ result.1 }
@@ -26,8 +27,9 @@ pub fn range_of(entries: &[Entry], directory: u32) -> (usize, usize)
     (first, end)
 }
 
-/// Appends what is below the directory, so many names down: each path with what is there. `path`
-/// is the directory's.
+/// Appends what is below the directory with this number: each path with what is there, at most
+/// `deep` names below it. `path` is the directory's. If memory runs out, some may have been
+/// appended.
 fn push_below(
     alloc: Global,
     found: &mut Vec<(Path, Node)>,
@@ -59,7 +61,7 @@ fn push_below(
     Ok(())
 }
 
-/// The pairs as a map; of two with one path, the first counts.
+/// The pairs as a map. If two have the same path, the first counts.
 fn map_of_pairs(alloc: Global, pairs: Vec<(Path, Node)>) -> Result<BTreeMap<Path, Node>, AllocError>
     ensures { IfOk result (λ nodes. nodes_of nodes ≡ pairs_in pairs.items) }
 {
@@ -72,7 +74,8 @@ fn map_of_pairs(alloc: Global, pairs: Vec<(Path, Node)>) -> Result<BTreeMap<Path
     Ok(nodes)
 }
 
-/// What is at each path that is reached from the root, so many names down.
+/// What is at each path that is reached from the root, the root too. Paths of more than `deep`
+/// names are left out: with one more than there are directories, no path of a tree is.
 pub fn nodes_at_paths(
     alloc: Global,
     entries: &[Entry],

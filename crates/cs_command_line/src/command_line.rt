@@ -1,10 +1,12 @@
-//! Reading the command line. The commands and options that it may have are in `commands`.
+//! Reading the command line. The commands and options that it may have are in `commands`. The
+//! functions below are given what clap made of the words. Their only error is out of memory, except
+//! that of `ask_of`.
 use crate::commands::{command, tar_command};
 use clap::error::ErrorKind;
 use clap::{ArgMatches, Error};
 use cs_options::{
-    Ask, Client, Job, ListOptions, PicksOptions, Sample, Serving, StateRange, States, TarOptions,
-    Wanted,
+    Ask, Client, Job, ListOptions, PicksOptions, ProfileName, Sample, Serving, StateRange, States,
+    TarOptions, Wanted,
 };
 use std::alloc::{AllocError, Global};
 
@@ -23,7 +25,8 @@ fn path_of_trace<'a>(matches: &ArgMatches<'a>) -> &'a str {
     }
 }
 
-/// The trace, and which of its states the command is about.
+/// The trace, and which of its states the command is about. `picks` has neither option, so no holes
+/// and no picks.
 fn wanted_of<'a>(matches: &ArgMatches<'a>) -> Wanted<'a> {
     Wanted {
         trace: path_of_trace(matches),
@@ -43,8 +46,8 @@ fn options_of(matches: &ArgMatches) -> ListOptions {
     }
 }
 
-/// The range that a text `N` or `A-B` means. None if the text is neither, if a number is greater
-/// than 4,294,967,295, or if A is greater than B.
+/// The range that a text `N` or `A-B` means, with both ends. None if the text is neither, if a
+/// number is greater than 4,294,967,295, or if A is greater than B.
 fn range_of(text: &str) -> Option<StateRange> {
     let (first, last) = text.split_once('-').unwrap_or((text, text));
     let first = first.parse().ok()?;
@@ -94,6 +97,17 @@ fn states_of(alloc: Global, matches: &ArgMatches) -> Result<Option<States>, Allo
     Ok(Some(States::Changes(ranges)))
 }
 
+/// The profile that `--profile` names; None without it. Clap refuses other names.
+fn profile_of(matches: &ArgMatches) -> Option<ProfileName> {
+    match matches.get_str("profile") {
+        Some("blocks") => Some(ProfileName::Blocks),
+        Some("ordered") => Some(ProfileName::Ordered),
+        // no other name is taken
+        Some(_) => Some(ProfileName::Journal),
+        None => None,
+    }
+}
+
 /// What `picks` prints. One of the options that say so is given, and `--sample` and `--seed` go
 /// together: the command line is refused otherwise.
 fn picks_of(matches: &ArgMatches) -> PicksOptions {
@@ -102,6 +116,7 @@ fn picks_of(matches: &ArgMatches) -> PicksOptions {
         lost: matches.get_flag("lost"),
         files: matches.get_flag("files"),
         every: matches.get_flag("every"),
+        profile: profile_of(matches),
         different: matches.get_flag("different"),
         count: matches.get_flag("count"),
         most: matches.get_one("most").unwrap_or(MOST_SETS),
@@ -116,8 +131,8 @@ fn picks_of(matches: &ArgMatches) -> PicksOptions {
 }
 
 /// What `serve` serves, and how. `--listen` is given: the command line is refused otherwise.
-/// Without `--workers` there are 0 workers, which `workers_of` replaces; whether progress is
-/// printed isn't known here.
+/// Without `--workers` there are 0 workers, which the program's `workers_of` replaces; it also
+/// decides whether progress is printed.
 fn serving_of<'a>(matches: &ArgMatches<'a>) -> Serving<'a> {
     Serving {
         listen: matches.get_str("listen").unwrap_or(""),
@@ -141,7 +156,7 @@ fn serving_of<'a>(matches: &ArgMatches<'a>) -> Serving<'a> {
 }
 
 /// What the command of this name does; a name that is none of the four others is `serve`. None if
-/// the value of `--states` isn't a list of ranges.
+/// the value of `--states` isn't a list of ranges; only `tar` has one.
 fn job_of<'a>(
     alloc: Global,
     name: &str,
@@ -162,7 +177,8 @@ fn job_of<'a>(
     })
 }
 
-/// The refusal of a value of `--states` that isn't a list of ranges, as clap prints refusals.
+/// The refusal of a value of `--states` that isn't a list of ranges, in the form in which clap
+/// refuses values. `text` is the value.
 fn refusal_of_list(alloc: Global, text: &str) -> Result<Error, AllocError> {
     let text = format!(in alloc;
         "invalid value '{text}' for '--states <LIST>': numbers N and ranges A-B, with commas"
@@ -173,7 +189,7 @@ fn refusal_of_list(alloc: Global, text: &str) -> Result<Error, AllocError> {
 
 /// What the words of the command line ask for; the first is the program's name. The error has a
 /// text for the user: the help, the version, or what is wrong with the words. It may be out of
-/// memory too.
+/// memory too (ErrorKind::OutOfMemory). Nothing is printed, and no file is read.
 pub fn ask_of<'a>(alloc: Global, words: &'a [&'a str]) -> Result<Ask<'a>, Error> {
     let matches = command(alloc)?.try_get_matches_from(words)?;
     // a command line without a command was refused

@@ -1,15 +1,19 @@
-//! The commands and their options, as the command line has them.
+//! The commands and their options, as the command line has them. The only error of these functions
+//! is out of memory.
 use crate::version::VERSION;
 use clap::{Arg, ArgAction, ArgGroup, Command, value_parser};
 use cs_names::limits::WORKERS;
 use std::alloc::{AllocError, Global};
 
-/// What the statuses mean.
+/// What the exit statuses mean, for the end of the help.
 const STATUSES: &str =
     "Exit status: 0 success; 1 a fault, which standard error names; 2 the command line is refused.";
 
-/// The names of clients.
+/// The names of clients, as `serving_of` reads them.
 const CLIENTS: [&str; 2] = ["plan9", "linux"];
+
+/// The names of profiles, as `profile_of` reads them: change both.
+const PROFILES: [&str; 3] = ["blocks", "ordered", "journal"];
 
 /// The most workers, and the most connections.
 const MOST: i64 = WORKERS as i64;
@@ -47,7 +51,8 @@ fn one_of<'a>(
     group.arg(first)?.arg(second)
 }
 
-/// The command, to which the trace is added, as an argument or as the option `--trace`.
+/// The command with the trace, as an argument or as the option `--trace`: exactly one of them must
+/// be given.
 fn with_trace<'a>(alloc: Global, command: Command<'a>) -> Result<Command<'a>, AllocError> {
     let help = "The trace, one JSON object a line; - is standard input";
     let file = Arg::new(alloc, "file")
@@ -60,7 +65,7 @@ fn with_trace<'a>(alloc: Global, command: Command<'a>) -> Result<Command<'a>, Al
         .group(one_of(alloc, "input", "file", "trace")?)
 }
 
-/// The command, to which the trace and the options that add states are added.
+/// The command with the trace, and the options that add states.
 fn with_states<'a>(alloc: Global, command: Command<'a>) -> Result<Command<'a>, AllocError> {
     let holes = flag(alloc, "holes", "Adds the states of prefixes with a hole");
     let help = "Adds the states of these sets, one JSON array of places a line";
@@ -114,34 +119,45 @@ pub fn tar_command<'a>(alloc: Global) -> Result<Command<'a>, AllocError> {
     with_states(alloc, tar)
 }
 
-/// The argument, which doesn't go with the families of `picks`.
+/// The argument, which is refused together with `--lost` or `--files`.
 fn without_families<'a>(arg: Arg<'a>) -> Result<Arg<'a>, AllocError> {
     arg.conflicts_with("lost")?.conflicts_with("files")
 }
 
-/// The argument, which goes with `--every` and with no other families.
+/// The argument, which is refused without `--every`, and together with `--lost`, `--files` or
+/// `--sample`.
 fn of_every<'a>(arg: Arg<'a>) -> Result<Arg<'a>, AllocError> {
-    // what needs an option that doesn't go with another one goes with that one neither
+    // what needs `--every` is refused with whatever `--every` is refused with
     without_families(arg.requires_arg("every")?)?.conflicts_with("sample")
 }
 
-/// The command, to which the options of `picks` that say which sets of all are printed are added.
+/// The command with `--every` of `picks` and the options that go with it.
 fn with_every<'a>(alloc: Global, command: Command<'a>) -> Result<Command<'a>, AllocError> {
     let every = "All sets that a crash may leave";
     let different = "Of these only the first of those that leave equal states";
     let count = "Only how many sets there are";
     let most = "The most sets that are printed, 1 to 16777216; default 1000000";
+    let profile = "Of these only those that a file system of the profile may leave too";
     let every = without_families(flag(alloc, "every", every))?;
+    let profile = value_argument(alloc, "profile", "PROFILE", profile).value_parser(
+        PROFILES.as_slice(),
+    );
+    let profile = of_every(profile)?.conflicts_with("count")?;
     let different = of_every(flag(alloc, "different", different))?.conflicts_with("count")?;
     let count = of_every(flag(alloc, "count", count))?;
     let most = value_argument(alloc, "most", "N", most).value_parser(value_parser!(u32).range(
         1..=16_777_216,
     ));
     let most = of_every(most)?.conflicts_with("count")?;
-    command.arg(every)?.arg(different)?.arg(count)?.arg(most)
+    command
+        .arg(every)?
+        .arg(profile)?
+        .arg(different)?
+        .arg(count)?
+        .arg(most)
 }
 
-/// The command, to which the options of sets that are drawn are added.
+/// The command with `--sample` and `--seed` of `picks`, of which each needs the other.
 fn with_sample<'a>(alloc: Global, command: Command<'a>) -> Result<Command<'a>, AllocError> {
     let sample = "Sets that are drawn one after the other, 1 to 16384";
     let seed = "The number by which they are drawn";
@@ -182,7 +198,8 @@ fn script_command<'a>(alloc: Global) -> Result<Command<'a>, AllocError> {
     with_states(alloc, script)
 }
 
-/// The command, to which the address and the numbers of workers and connections are added.
+/// The command `serve` with the address, which must be given, and the numbers of workers and
+/// connections.
 fn with_counts<'a>(alloc: Global, command: Command<'a>) -> Result<Command<'a>, AllocError> {
     let listen = "The address and port to listen on; port 0 lets the system choose one";
     let workers = "How many threads make the states, 1 to 64; default: one a processor";
@@ -221,7 +238,8 @@ fn serve_command<'a>(alloc: Global) -> Result<Command<'a>, AllocError> {
     with_states(alloc, serve)
 }
 
-/// The command line of the program: its version, its help and its five commands.
+/// The command line of the program: its version, its help and its five commands. The error is out
+/// of memory.
 pub fn command<'a>(alloc: Global) -> Result<Command<'a>, AllocError> {
     Command::new(alloc, "crashfs")
         .about(

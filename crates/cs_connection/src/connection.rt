@@ -18,7 +18,9 @@ use std::sync::Wait;
 /// thread.
 #[derive(Drop)]
 pub struct Connection<S: ServerBrand> {
+    /// Ok if the stream ended between two messages; Memory also if the connection wasn't served.
     result: Result<(), ServeFault>,
+    /// Nothing if the connection wasn't served.
     kept: ConnectionRuns<S>,
 }
 
@@ -35,7 +37,7 @@ impl<S: ServerBrand> Model for Connection<S> {
 
 impl<S: ServerBrand> Connection<S> {
     /// A connection that was not served, because there was no memory for its thread: its result is
-    /// Memory, and it kept no run and no pass.
+    /// Memory, and it kept no run and no pass. Only `serve_streams` makes one.
     pub fn unserved(alloc: Global) -> Connection<S>
         ensures { WasRefused result }
     {
@@ -55,7 +57,7 @@ impl<S: ServerBrand> Connection<S> {
     }
 
     /// The runs that the connection found, and the passes that it was given. There may be none of
-    /// either.
+    /// either. For tests: the commands take them by `GivenPasses::keep`.
     pub fn kept(&self) -> &ConnectionRuns<S>
         ensures { result.now ≡ self.now.kept }
     {

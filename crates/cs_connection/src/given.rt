@@ -17,6 +17,7 @@ use std::marker::Model;
 /// Contracts see for each key the passes of its run.
 #[derive(Drop)]
 pub struct GivenPasses {
+    /// By key, the passes of its run in the order in which they were kept.
     runs: IndexMap<RunKey, Vec<Pass>>,
 }
 
@@ -29,8 +30,8 @@ impl Model for GivenPasses {
     ghost view = { λ given. map (λ run. (run.0, run.1.items)) given.runs.entries };
 }
 
-/// Adds a pass after the others. After an error the passes are unchanged, and the new one is
-/// dropped.
+/// Adds a pass at the end of a run's passes. The error is out of memory: the passes are unchanged
+/// then, and the new one is dropped.
 fn push_pass(passes: &mut Vec<Pass>, pass: Pass) -> Result<(), AllocError>
     ensures kept { OnOk result (passes.new.items ≡ passes.old.items ++ pass ∷ []) }
     ensures refused { OnErr result (passes.new.items ≡ passes.old.items) }
@@ -51,8 +52,8 @@ impl GivenPasses {
         }
     }
 
-    /// Keeps a pass of the run of that key, after the run's others. After an error each run has the
-    /// passes that it had, and the new one is dropped.
+    /// Keeps a pass of the run of that key, after the passes that are kept of it. The error is out
+    /// of memory: each run has the passes that it had then, and the new one is dropped.
     fn keep_pass(&mut self, alloc: Global, key: RunKey, pass: Pass) -> Result<(), AllocError>
         ensures kept { OnOk result (KeepsPass self.old key pass self.new) }
         ensures refused { OnErr result (KeepsNone self.old self.new) }
@@ -69,8 +70,9 @@ impl GivenPasses {
         }
     }
 
-    /// Keeps these passes, in order, each under the key of its run in `runs`. After an error the
-    /// passes before the failure are kept, and the rest are dropped.
+    /// Keeps these passes, in order, each under the key of its run in `runs`. The error is out of
+    /// memory: the passes before the failure are kept then, and the rest are dropped. Each pass
+    /// must have a place in `runs`.
     fn keep_each<S: ServerBrand>(
         &mut self,
         alloc: Global,
@@ -90,8 +92,9 @@ impl GivenPasses {
         Ok(())
     }
 
-    /// Keeps the passes of a connection that ended. After an error the passes before the failure
-    /// are kept, and the rest are dropped: an audit of their runs then counts too few receipts.
+    /// Keeps the passes of a connection that ended. The error is out of memory: the passes before
+    /// the failure are kept then, and the rest are dropped, so an audit of their runs reports
+    /// `count`.
     pub fn keep<S: ServerBrand>(
         &mut self,
         alloc: Global,

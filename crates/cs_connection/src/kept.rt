@@ -11,7 +11,9 @@ use std::marker::Model;
 /// A pass, and the place of its run among those that the connection found.
 #[derive(Drop)]
 pub struct GivenPass {
+    /// The run's place in the same `ConnectionRuns`.
     pub run: u32,
+    /// As it is after the connection's last call under it.
     pub pass: Pass,
 }
 
@@ -19,7 +21,9 @@ pub struct GivenPass {
 /// they came. Contracts see the keys of the runs, and the passes.
 #[derive(Drop)]
 pub struct ConnectionRuns<S: ServerBrand> {
+    /// A run is there once for each time that it was found.
     runs: Vec<SharedRun<S>>,
+    /// Each with the place of its run.
     passes: Vec<GivenPass>,
 }
 
@@ -34,7 +38,7 @@ impl<S: ServerBrand> Model for ConnectionRuns<S> {
 }
 
 impl<S: ServerBrand> ConnectionRuns<S> {
-    /// No runs and no passes: what a connection keeps if it found no run.
+    /// No runs and no passes: what a connection keeps that wasn't served.
     pub fn empty(alloc: Global) -> ConnectionRuns<S>
         ensures { result ≡ no_runs }
     {
@@ -52,7 +56,8 @@ impl<S: ServerBrand> ConnectionRuns<S> {
         ConnectionRuns { runs, passes }
     }
 
-    /// The passes, in the order in which they were given. Empty if none was.
+    /// The passes, in the order in which they were given. Empty if none was. For tests: no command
+    /// calls it.
     pub fn passes(&self) -> &[GivenPass]
         ensures { result.now ≡ self.now.passes }
     {
@@ -69,7 +74,7 @@ impl<S: ServerBrand> ConnectionRuns<S> {
     }
 
     /// The key of the run that gave the pass at that place in `passes`. The caller has a place
-    /// below the number of passes.
+    /// below the number of passes. For tests: no command calls it.
     pub fn key_at(&self, place: usize) -> &RunKey
         requires { place < length self.now.passes }
         ensures { key_at self.now place ≡ Some result.now }

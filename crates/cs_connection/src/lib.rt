@@ -1,5 +1,6 @@
 //! Connections that are served at the same time, over runs that their threads share. One connection
-//! is in `connection`, the threads are in `streams`. What a connection answers is in cs_session.
+//! is in `connection`, the threads of `serve_streams`, which no command calls, are in `streams`;
+//! `crashfs serve` has its own threads. What a connection answers is in cs_session.
 #![tactic(auto)]
 
 mod connection;

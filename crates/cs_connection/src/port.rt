@@ -13,12 +13,18 @@ use std::alloc::Global;
 use std::marker::Model;
 use std::sync::Wait;
 
-/// A connection's port over a registry that threads share. Contracts see what the connection keeps.
+/// A connection's port over a registry that threads share. No other connection uses it, and it
+/// holds one lock at most. Contracts see what the connection keeps.
 #[derive(Drop)]
 pub struct SharedPort<'r, S: ServerBrand, R: Wait> {
+    /// For the locks of the registry and the runs.
     rt: &'r R,
+    /// Under its own lock, which only `find` takes.
     registry: &'r SharedRegistry<S>,
+    /// Each run that was found, at its place; each is under its own lock, which `attach` and `call`
+    /// take.
     runs: Vec<SharedRun<S>>,
+    /// Each pass that was given, at its place, with its run's place.
     passes: Vec<GivenPass>,
 }
 

@@ -8,6 +8,7 @@ use std::marker::Model;
 /// reference. Contracts see the scene.
 #[derive(Drop)]
 pub struct Server<S: ServerBrand> {
+    /// Under its own lock; each run is under another.
     registry: SharedRegistry<S>,
 }
 

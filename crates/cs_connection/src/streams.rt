@@ -1,4 +1,5 @@
-//! Many streams at once, each served in its own thread.
+//! Many streams at once, each served in its own thread. Library surface: no command calls
+//! `serve_streams`.
 ghost use Rattle.std.specs.Prelude.{◌≡◌, ◌≤◌, [], IfOk, vec_capacity, vec_len};
 
 use crate::connection::{Connection, serve_connection};
@@ -12,7 +13,8 @@ use std::sync::Wait;
 use std::thread;
 use std::thread::{JoinHandle, Scope, Threads};
 
-/// Serves a stream to its end, counting its reads and writes, and returns the connection.
+/// Serves a stream to its end, counting its reads and writes, and returns the connection. The
+/// stream is dropped, which closes it.
 fn serve_one<S: ServerBrand, R: Wait, RW: Read + Write + Drop, C: Clock + Drop>(
     rt: &R,
     alloc: Global,
@@ -25,8 +27,8 @@ fn serve_one<S: ServerBrand, R: Wait, RW: Read + Write + Drop, C: Clock + Drop>(
 }
 
 /// Starts a thread for each stream, and returns the threads in the order of the streams; None for a
-/// stream whose thread can't be made, and that stream is dropped. After an error no thread was
-/// started.
+/// stream whose thread can't be made, and that stream is dropped. The error is out of memory: no
+/// thread was started then.
 fn start_each<
     's,
     E,
@@ -74,10 +76,10 @@ fn join_each<S: ServerBrand, R: Threads>(
     connections
 }
 
-/// Serves all streams at the same time, each in its own thread, and waits for them. Returns their
-/// connections, in the order of the streams. Each thread has a copy of the clock. A stream whose
-/// thread can't be made is dropped, and its connection's result is Memory. After an error no stream
-/// was read.
+/// Library surface: no command calls it. Serves all streams at the same time, each in its own
+/// thread, and waits for them. Returns their connections, in the order of the streams. Each thread
+/// has a copy of the clock. A stream whose thread can't be made is dropped, and its connection's
+/// result is Memory. The error is out of memory: no stream was read then, and all are dropped.
 pub fn serve_streams<
     S: ServerBrand + Send + Sync,
     R: Threads + Wait + Sync,

@@ -23,10 +23,10 @@ pub in_cons : {X : Type 0} (x y : X) (xs : List X) → Contains (x ∷ xs) y →
 in_cons x y xs (zero, low, e) = inl e
 in_cons x y xs (suc k, low, e) = inr (k, omega (arith, low), e)
 
-in_here : {X : Type 0} (x : X) (xs : List X) → Contains (x ∷ xs) x
+pub in_here : {X : Type 0} (x : X) (xs : List X) → Contains (x ∷ xs) x
 in_here x xs = (0, omega arith, refl)
 
-in_later : {X : Type 0} (x y : X) (xs : List X) → Contains xs y → Contains (x ∷ xs) y
+pub in_later : {X : Type 0} (x y : X) (xs : List X) → Contains xs y → Contains (x ∷ xs) y
 in_later x y xs (k, low, e) = (suc k, omega (arith, low), e)
 
 module _ {X : Type 0} (like : X → X → Bool) (is : IsLike like) (Before : X → X → Type 0) where
@@ -103,29 +103,34 @@ module _ {X : Type 0} (like : X → X → Bool) (is : IsLike like) (Before : X �
       up.1 (All-push (λ y. All (Before y) xs) kept x later up.0)))
       (cases_Bool (met kept x))
 
--- a test that decides a relation decides it for the lists too
+-- a test that decides a relation decides it for the lists too: of all sets of a kind, ascending
 module _ (like : List ℕ → List ℕ → Bool) (is : IsLike like) (same : List ℕ → List ℕ → Type 0)
-    (decides : (a b : List ℕ) → Decides (like a b) (same a b)) (needs : ℕ → ℕ → Bool) (back : IsBackward needs) (n : ℕ) where
-  pub firsts_are : AreFirstSets same needs n (firsts like (every needs n))
-  firsts_are = record {
-    allowed = kept_all like is (IsAllowed needs n) (every needs n) [] (each_allowed needs back n) (All-nil (IsAllowed needs n));
-    each = λ places allowed.
-        (let found = found_any (λ y. like y places) (firsts like (every needs n))
-        (all_met like is (every needs n) [] places (has_each needs back n places allowed)) in
+    (decides : (a b : List ℕ) → Decides (like a b) (same a b)) (Is : List ℕ → Type 0) (all : List (List ℕ))
+    (are : All Is all) (has : (places : List ℕ) → Is places → Contains all places) (up : Ordered IsBefore all) where
+  pub firsts_among : AreFirstSets same Is (firsts like all)
+  firsts_among = record {
+    are = kept_all like is Is all [] are (All-nil Is);
+    each = λ places h.
+        (let found = found_any (λ y. like y places) (firsts like all) (all_met like is all [] places (has places h)) in
         (found.1, ((found.0, found.2, found.3), (decides found.1 places).0 found.4)));
-    apart = all_pairs (λ a b. ¬ same a b) (firsts like (every needs n))
-        (weaker (firsts like (every needs n)) (apart like is (every needs n) [] tt));
-    first = λ a places there allowed t. ⊎_elim
+    apart = all_pairs (λ a b. ¬ same a b) (firsts like all) (weaker (firsts like all) (apart like is all [] tt));
+    first = λ a places there h t. ⊎_elim
         (λ (none : Contains [] a). absurd (none_in a none))
-        (λ (new : IsNew like is IsBefore [] (every needs n) a).
-        new.first places (has_each needs back n places allowed) ((decides places a).1 t))
-        (new_or_kept like is IsBefore (every needs n) [] (every_ordered needs back n) a there);
-    ascending = all_pairs IsBefore (firsts like (every needs n))
-        (ordered_kept like is IsBefore (every needs n) [] tt (every_ordered needs back n) (All-nil (λ y. All (IsBefore y) (every needs
-        n))));
+        (λ (new : IsNew like is IsBefore [] all a). new.first places (has places h) ((decides places a).1 t))
+        (new_or_kept like is IsBefore all [] up a there);
+    ascending = all_pairs IsBefore (firsts like all)
+        (ordered_kept like is IsBefore all [] tt up (All-nil (λ y. All (IsBefore y) all)));
   }
     where
       weaker : (xs : List (List ℕ)) → Ordered (λ a b. like a b ≡ false) xs → Ordered (λ a b. ¬ same a b) xs
       weaker [] h = tt
       weaker (x ∷ xs) h =
           ((λ k d low. not_from_Decides (like x (get_or xs k d)) (decides x (get_or xs k d)) (h.0 k d low)), weaker xs h.1)
+
+-- of all that an order allows
+pub firsts_are : (like : List ℕ → List ℕ → Bool) → IsLike like → (same : List ℕ → List ℕ → Type 0)
+    → ((a b : List ℕ) → Decides (like a b) (same a b)) → (needs : ℕ → ℕ → Bool) → IsBackward needs → (n : ℕ)
+    → AreFirstSets same (IsAllowed needs n) (firsts like (every needs n))
+firsts_are like is same decides needs back n =
+    firsts_among like is same decides (IsAllowed needs n) (every needs n) (each_allowed needs back n) (has_each needs back n)
+    (every_ordered needs back n)

@@ -1,19 +1,18 @@
 -- The classes of a scene's sets, and the sets that differ.
-use Rattle.std.proofs.Common.{◌≡◌, ◌↔◌, ℕ, ◌<◌, ◌≤◌, ◌&&◌, ◌||◌, ltb, Bool, true, false, cond, Result, Ok, Err, IfErr}
+use Rattle.std.proofs.Common.{◌≡◌, ℕ, ◌<◌, ◌≤◌, ◌&&◌, ◌||◌, ltb, Bool, true, false, cond, Result, Ok, Err, IfErr}
 use Rattle.std.proofs.Common.{List, [], ◌∷◌, ◌++◌, refl, sym, ap, ◌∙◌, arith, ⊎_elim, fold, get_or, length, map, subst}
-use Rattle.std.proofs.lemmas.Bool.{and_parts, cases_Bool, cases_lt, false_from_ne_true, false≢true, lt-ltb}
+use Rattle.std.proofs.lemmas.Bool.{and_from, and_parts, cases_Bool, cases_lt, false_from_ne_true, false≢true, lt-ltb}
 use Rattle.std.proofs.lemmas.Bool.Decides.{same_from_decides}
 use Rattle.std.proofs.lemmas.List.Elements.{All-contains, All-head, All-map, All-nil, All-push, All-tail}
 use Rattle.std.proofs.lemmas.Option.{slice_get_past}
-use Rattle.std.specs.List.{All, Contains, list_any}
+use Rattle.std.specs.List.{All, Contains, filter, list_any}
 use Rattle.std.specs.Option.{option_map_or}
 use Rattle.cs_sets.specs.Orders.{needs_in}
-use Rattle.cs_sets.specs.Sets as micros
-use Rattle.cs_plan.specs.Scenes.{Scene, micros_of, order_in}
+use Rattle.cs_plan.specs.Scenes.{Scene, micros_of}
 use Rattle.cs_sets.specs.declared.row.Row.{Row}
 use Rattle.cs_sets.specs.Bits.{has_place}
 use Rattle.cs_sets.specs.Chains.{IsBackward, by_chain}
-use Rattle.cs_sets.specs.Different.{IsLike, add_first, different, firsts, leave_alike, state_of}
+use Rattle.cs_sets.specs.Different.{IsLike, add_first, different, firsts, leave_alike, same_answer, state_of}
 use Rattle.cs_sets.specs.Every.{every}
 use Rattle.cs_sets.specs.Following.{chosen}
 use Rattle.cs_sets.specs.Places.{places_of}
@@ -27,6 +26,7 @@ use Rattle.cs_different.specs.Seen.{none_seen, same_seen, see}
 use Rattle.cs_different.specs.Sets.{IsLeavable, LeaveSame, leave_same}
 use Rattle.cs_different.specs.Wants.{Wants}
 use Rattle.cs_different.proofs.Alike.{left_is_like, left_told}
+use Rattle.cs_different.proofs.Passing.{passing_same}
 use Rattle.cs_different.proofs.Running.{seen_by}
 use Rattle.cs_different.proofs.SeenLeaves.{seen_leaves}
 use Rattle.cs_different.proofs.Seeing.{seen_says}
@@ -62,11 +62,11 @@ module _ (needs : ℕ → ℕ → Bool) (back : IsBackward needs) (n : ℕ) (row
       (cases_lt i n))
       ∙ sym (every_reach needs (by_chain needs) (chains_reach needs back) n)
 
--- the columns of an order that is the scene's
-pub columns_at : (s : Scene) (order : List (List Bool)) (rows items : List Row) → rows ≡ items → length items ≡ length order
+-- the columns of an order that is known
+pub columns_at : (known order : List (List Bool)) (rows items : List Row) → rows ≡ items → length items ≡ length order
     → ((i j : ℕ) → i < length order → needed_in items i j ≡ (ltb j (length order) && by_chain (needs_in order) i j))
-    → order ≡ order_in s → AreColumns (needs_in (order_in s)) (length (order_in s)) rows
-columns_at s order rows items e long each is =
+    → order ≡ known → AreColumns (needs_in known) (length known) rows
+columns_at known order rows items e long each is =
     subst (λ o. AreColumns (needs_in o) (length o) rows) is
     (record { long = ap length e ∙ long; each = λ i j low. ap (λ r. needed_in r i j) e ∙ each i j low })
 
@@ -99,9 +99,6 @@ module _ {X : Type 0} (P : X → Type 0) (f g : X → X → Bool) (agree : (a b 
 
 -- ---- sets that two orders allow
 
-pub allowed_of : (needs : ℕ → ℕ → Bool) (n : ℕ) (places : List ℕ) → IsAllowed needs n places → micros.IsAllowed needs n places
-allowed_of needs n places h = record { ascending = h.ascending; in_range = h.in_range; closed = h.closed }
-
 -- the same sets, if all are the same
 pub allowed_same : (p q : ℕ → ℕ → Bool) (n : ℕ) → IsBackward p → IsBackward q → every p n ≡ every q n
     → (places : List ℕ) → IsAllowed p n places → IsAllowed q n places
@@ -117,16 +114,8 @@ err_weaker (Err e) f h = f e h
 
 -- ---- what is seen leaves what the set leaves
 
-module _ (s : Scene) (wants : ℕ → ℕ → Bool) (rows : List Row) (are : AreColumns (needs_in (order_in s)) (length (order_in s)) rows)
-    (back : IsBackward (needs_in (order_in s)))
-    (law : (places : List ℕ) → IsAllowed (needs_in (order_in s)) (length (order_in s)) places
-    → LeaveSame s places (chosen (state_of (see wants) none_seen places) (length (order_in s)))) where
-  abbrev needs : ℕ → ℕ → Bool
-  needs = needs_in (order_in s)
-
-  abbrev n : ℕ
-  n = length (order_in s)
-
+module _ (s : Scene) (wants needs : ℕ → ℕ → Bool) (n : ℕ) (rows : List Row) (are : AreColumns needs n rows) (back : IsBackward needs)
+    (law : (places : List ℕ) → IsAllowed needs n places → LeaveSame s places (chosen (state_of (see wants) none_seen places) n)) where
   abbrev like : (ℕ → Bool) → (ℕ → Bool) → Bool
   like a b = leave_same s (chosen a n) (chosen b n)
 
@@ -164,8 +153,8 @@ module _ (s : Scene) (wants : ℕ → ℕ → Bool) (rows : List Row) (are : Are
       (places_of (get_or found k d)) (subst (λ m. IsAllowed (needed_in rows) m (places_of (get_or found k d))) are.long (all k d low)))
 
   pub leavable : (found : List Row) → All (λ row. IsAllowed (needed_in rows) (length rows) (places_of row)) found
-      → All (λ row. micros.IsAllowed needs n (places_of row)) found
-  leavable found all = λ k d low. allowed_of needs n (places_of (get_or found k d))
+      → All (λ row. IsAllowed needs n (places_of row)) found
+  leavable found all = λ k d low.
       (allowed_same (needed_in rows) needs n (columns_backward needs back n rows are) back (columns_same needs back n rows are)
       (places_of (get_or found k d)) (subst (λ m. IsAllowed (needed_in rows) m (places_of (get_or found k d))) are.long (all k d low)))
 
@@ -185,19 +174,81 @@ module _ (s : Scene) (wants : ℕ → ℕ → Bool) (rows : List Row) (are : Are
       ∙ ap (firsts (leave_alike like (see wants) none_seen)) (columns_same needs back n rows are)
       ∙ firsts_agree P (leave_alike like (see wants) none_seen) (leave_same s) agree (every needs n) (each_allowed needs back n)
 
+  -- where a set and what is seen of it pass a test both or none
+  module _ (test : List ℕ → Bool)
+      (tells : (places : List ℕ) → IsAllowed needs n places → test (chosen (state_of (see wants) none_seen places) n) ≡ test places) where
+    abbrev passes : (ℕ → Bool) → Bool
+    passes a = test (chosen a n)
+
+    abbrev like_both : (ℕ → Bool) → (ℕ → Bool) → Bool
+    like_both a b = like a b && same_answer (passes a) (passes b)
+
+    answers_same : (a b : Bool) → same_answer a b ≡ true → a ≡ b
+    answers_same true true e = refl
+    answers_same true false e = absurd (false≢true e)
+    answers_same false true e = absurd (false≢true e)
+    answers_same false false e = refl
+
+    same_answers : (a b : Bool) → a ≡ b → same_answer a b ≡ true
+    same_answers true true e = refl
+    same_answers true false e = absurd (false≢true (sym e))
+    same_answers false true e = absurd (false≢true e)
+    same_answers false false e = refl
+
+    fine_both : IsLike like_both
+    fine_both = record {
+      itself = λ x. and_from (like x x) (same_answer (passes x) (passes x)) (fine.itself x) (same_answers (passes x) (passes x) refl);
+      passes_on = λ x y z p q.
+          (let one = and_parts (like x y) (same_answer (passes x) (passes y)) p in
+          let two = and_parts (like y z) (same_answer (passes y) (passes z)) q in
+          and_from (like x z) (same_answer (passes x) (passes z)) (fine.passes_on x y z one.0 two.0)
+          (same_answers (passes x) (passes z) (answers_same (passes x) (passes y) one.1 ∙ answers_same (passes y) (passes z) two.1)));
+    }
+
+    coarser_both : (a b : ℕ → Bool) → same_seen n a b ≡ true → like_both a b ≡ true
+    coarser_both a b t =
+        and_from (like a b) (same_answer (passes a) (passes b)) (coarser a b t)
+        (same_answers (passes a) (passes b) (ap test (chosen_same a b n (λ i low. seen_says n a b t i low))))
+
+    finer : (a b : List ℕ) → IsAllowed needs n a → IsAllowed needs n b → leave_alike like_both (see wants) none_seen a b ≡ true
+        → (leave_same s a b ≡ true) × (test a ≡ test b)
+    finer a b ia ib t =
+        let x = state_of (see wants) none_seen a in
+        let y = state_of (see wants) none_seen b in
+        let both = and_parts (like x y) (same_answer (passes x) (passes y)) t in (
+          sym (agree a b ia ib) ∙ both.0,
+          sym (tells a ia) ∙ answers_same (passes x) (passes y) both.1 ∙ tells b ib,
+        )
+
+    pub passing_found : (found : List Row) → All (λ row. IsAllowed (needed_in rows) (length rows) (places_of row)) found
+        → ((like : (ℕ → Bool) → (ℕ → Bool) → Bool) → IsLike like
+        → ((a b : ℕ → Bool) → same_seen (length rows) a b ≡ true → like a b ≡ true)
+        → firsts (leave_alike like (see wants) none_seen) (map places_of found)
+        ≡ different like (see wants) none_seen (needed_in rows) (length rows))
+        → firsts (leave_same s) (filter test (map places_of found)) ≡ firsts (leave_same s) (filter test (every needs n))
+    passing_found found all found_firsts =
+        let Q : ℕ → Type 0 = λ m. (like : (ℕ → Bool) → (ℕ → Bool) → Bool) → IsLike like
+        → ((a b : ℕ → Bool) → same_seen m a b ≡ true → like a b ≡ true)
+        → firsts (leave_alike like (see wants) none_seen) (map places_of found)
+        ≡ different like (see wants) none_seen (needed_in rows) m in
+        passing_same (IsAllowed needs n) (leave_alike like_both (see wants) none_seen) (leave_same s) (left_is_like s) test finer
+        (map places_of found) (every needs n) (all_allowed found all) (each_allowed needs back n)
+        (subst Q are.long found_firsts like_both fine_both coarser_both
+        ∙ ap (firsts (leave_alike like_both (see wants) none_seen)) (columns_same needs back n rows are))
+
 -- ---- what is seen, by what is wanted
 
-pub law_of : (s : Scene) (wants : ℕ → ℕ → Bool) → ((z k : ℕ) → wants z k ≡ true → Wants s z k) → IsBackward (needs_in (order_in s))
-    → length (order_in s) ≡ length (micros_of s).ops
-    → ((p : List ℕ) → micros.IsAllowed (needs_in (order_in s)) (length (order_in s)) p ↔ IsLeavable s p)
-    → (places : List ℕ) → IsAllowed (needs_in (order_in s)) (length (order_in s)) places
-    → LeaveSame s places (chosen (state_of (see wants) none_seen places) (length (order_in s)))
-law_of s wants are back same told places allowed =
-    let m = length (order_in s) in
-    let n = length (micros_of s).ops in
-    let is : places ≡ chosen (is_member places) n =
-    listed (needs_in (order_in s)) back m places allowed ∙ ap (chosen (is_member places)) same in
-    let e : chosen (fold (see wants) none_seen places) m ≡ chosen (seen_by wants (is_member places) n) n =
-    ap (λ v. chosen (fold (see wants) none_seen v) m) is ∙ ap (chosen (seen_by wants (is_member places) n)) same in
-    subst (LeaveSame s places) (sym e)
-    (seen_leaves s wants are places ((told places).0 (allowed_of (needs_in (order_in s)) m places allowed)) is)
+module _ (s : Scene) (wants : ℕ → ℕ → Bool) (needs : ℕ → ℕ → Bool) (back : IsBackward needs) (m : ℕ)
+    (same : m ≡ length (micros_of s).ops) (places : List ℕ) (allowed : IsAllowed needs m places) where
+  pub listed_by : places ≡ chosen (is_member places) (length (micros_of s).ops)
+  listed_by = listed needs back m places allowed ∙ ap (chosen (is_member places)) same
+
+  pub seen_listed : chosen (fold (see wants) none_seen places) m
+      ≡ chosen (seen_by wants (is_member places) (length (micros_of s).ops)) (length (micros_of s).ops)
+  seen_listed =
+      ap (λ v. chosen (fold (see wants) none_seen v) m) listed_by
+      ∙ ap (chosen (seen_by wants (is_member places) (length (micros_of s).ops))) same
+
+  pub law_by : ((z k : ℕ) → wants z k ≡ true → Wants s z k) → ((p : List ℕ) → IsAllowed needs m p → IsLeavable s p)
+      → LeaveSame s places (chosen (state_of (see wants) none_seen places) m)
+  law_by are told = subst (LeaveSame s places) (sym seen_listed) (seen_leaves s wants are places (told places allowed) listed_by)

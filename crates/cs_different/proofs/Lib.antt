@@ -3,7 +3,7 @@ pub mod Firsts
 pub mod Told
 pub mod Seeing
 pub mod Rows
-pub mod Members
+pub mod ClassPlaces
 pub mod Numbered
 pub mod Within
 pub mod Leading
@@ -21,3 +21,8 @@ pub mod Files
 pub mod Named
 pub mod SeenLeaves
 pub mod Makers
+pub mod Profiles
+pub mod Halves
+pub mod Passing
+pub mod Shown
+pub mod ProfileSets

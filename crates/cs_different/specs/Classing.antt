@@ -17,11 +17,11 @@ use Rattle.cs_sets.specs.Laws.Walking.{IsAt}
 abbrev pub members_at : ℕ → Class → List ℕ
 members_at k class = filter (has_place class.members) (range_with_len 0 k)
 
--- the members that extend it
+-- the allowed sets of all n places that extend the set of a class
 abbrev pub extensions : (ℕ → ℕ → Bool) → ℕ → ℕ → Class → List (List ℕ)
 extensions needs n k class = extending needs (n - k) k (members_at k class)
 
--- what is kept of a set of places below k is right
+-- what a class has of its set of places below k is right
 pub record IsClass (act : (ℕ → Bool) → ℕ → ℕ → Bool) (start : ℕ → Bool) (needs : ℕ → ℕ → Bool) (n k
     : ℕ) (class : Class)
     : Type 0 where
@@ -39,7 +39,7 @@ key_cmp a b =
 abbrev pub key_of : Class → Key
 key_of class = record { seen = class.seen; left = class.left }
 
--- the same is seen, and futures are equal, as a table of keys tells it
+-- the same is seen of both, and their futures are equal: their keys are equal
 abbrev pub one_key : Class → Class → Bool
 one_key a b = is_at (key_cmp (key_of a)) (key_of b)
 
@@ -47,7 +47,7 @@ one_key a b = is_at (key_cmp (key_of a)) (key_of b)
 abbrev pub AreMet : (Key → Bool) → List Class → Type 0
 AreMet has kept = (q : Key) → has q ≡ list_any (λ y. is_at (key_cmp (key_of y)) q) kept
 
--- the members that extend these sets leave, as firsts, what all members leave
+-- of the sets that extend these, the first that differ are those of all sets
 abbrev pub Leads : ((ℕ → Bool) → (ℕ → Bool) → Bool) → ((ℕ → Bool) → ℕ → ℕ → Bool) → (ℕ → Bool) → (ℕ
     → ℕ → Bool) → ℕ → ℕ
     → List Class → Type 0

@@ -1,4 +1,4 @@
--- Numbers for trees: those of equal trees are equal.
+-- Digests of trees: numbers that are equal for equal trees.
 use Rattle.std.specs.Prelude.{ℕ, ◌*◌, ◌%◌, ◌^◌, bit_xor, List, Option, None, Some, fold, unwrap_or}
 use Rattle.std.specs.List.{range_with_len}
 use Rattle.std.specs.Option.{option_map}
@@ -9,7 +9,7 @@ use Rattle.cs_tree_model.specs.Tree.{NameBytes, Tree, bytes_at, name_numbered, p
 use Rattle.cs_tree_model.specs.Tree.{record_numbered}
 use Rattle.cs_different.specs.declared.digest.TheConstants.{PRIME}
 
--- of a sequence and one more part
+-- the digest of a sequence with one more part
 unfoldable pub with_part : ℕ → ℕ → ℕ
 with_part digest part = (bit_xor digest part * PRIME) % 2 ^ 64
 
@@ -26,7 +26,7 @@ abbrev pub with_bytes : ℕ → Option (List ℕ) → ℕ
 with_bytes digest None = digest
 with_bytes digest (Some bytes) = fold with_part digest bytes
 
--- and what a tree has of a number
+-- the digest of a sequence with what a tree has under a number
 unfoldable pub digest_at : Tree → ℕ → ℕ → ℕ
 digest_at tree digest number =
     with_bytes
@@ -35,6 +35,6 @@ digest_at tree digest number =
     (option_map metadata_of (record_numbered tree number)))
     (bytes_at tree number 0 FILE_BYTES)
 
--- of all that the tree has, number by number
+-- the digest of all that the tree has, number by number
 unfoldable pub digest_of : Tree → ℕ
 digest_of tree = fold (digest_at tree) 0 (range_with_len 0 tree.next)

@@ -1,17 +1,15 @@
--- Of all sets that an order allows, the first of each kind.
-use Rattle.std.specs.Prelude.{◌≡◌, ◌⊎◌, ℕ, Bool, List}
+-- Of all sets of a kind, the first of those that are the same.
+use Rattle.std.specs.Prelude.{◌≡◌, ◌⊎◌, ℕ, List}
 use Rattle.std.specs.List.{All, AllPairs, Contains}
 use Rattle.cs_sets.specs.Every.{IsBefore}
-use Rattle.cs_sets.specs.Sets.{IsAllowed}
 
--- each allowed set has one of its kind among them, no two of them are of one kind, each is the
--- first of its kind in the order of sets, and they stand in this order
-pub record AreFirstSets (same : List ℕ → List ℕ → Type 0) (needs : ℕ → ℕ → Bool) (n : ℕ)
+-- for each set of the kind, one of these is the same; all of these are different; each is the first
+-- of those that are the same, in the order of sets; and they are in this order
+pub record AreFirstSets (same : List ℕ → List ℕ → Type 0) (Is : List ℕ → Type 0)
     (sets : List (List ℕ)) : Type 0 where
-  pub allowed : All (IsAllowed needs n) sets
-  pub each : (places : List ℕ) → IsAllowed needs n places
-      → (a : List ℕ) × (Contains sets a × same a places)
+  pub are : All Is sets
+  pub each : (places : List ℕ) → Is places → (a : List ℕ) × (Contains sets a × same a places)
   pub apart : AllPairs (λ a b. ¬ same a b) sets
-  pub first : (a places : List ℕ) → Contains sets a → IsAllowed needs n places → same places a
+  pub first : (a places : List ℕ) → Contains sets a → Is places → same places a
       → (a ≡ places) ⊎ IsBefore a places
   pub ascending : AllPairs IsBefore sets

@@ -6,3 +6,5 @@ pub mod Classing
 pub mod Sets
 pub mod Refusals
 pub mod Wants
+pub mod Members
+pub mod Under

@@ -8,8 +8,8 @@ use Rattle.cs_different.specs.declared.classes.TheConstants.{CLASSES}
 use Rattle.cs_different.specs.declared.fault.DifferentFault.{DifferentFault}
 use Rattle.cs_different.specs.declared.fault.DifferentFault.TheVariants.{Memory, More, TooMany}
 
--- memory ran out; or there are more sets than classes are followed; or more than the given number
--- of sets differ
+-- memory ran out; or there are more sets than the classes that are followed; or more than the given
+-- number of sets differ
 abbrev pub IsRefused : Scene → ℕ → DifferentFault → Type 0
 IsRefused s most fault =
     (fault ≡ Memory)

@@ -1,6 +1,7 @@
-//! The sets that leave what no earlier set leaves, found by classes. Of each place is known which
-//! earlier places it wants: it is seen only if these are. What a set leaves is told by those of its
-//! places that are seen.
+//! The first set of each class of all allowed sets. Sets grow place by place: each set is extended
+//! without the place and, if it may have it, with it; then of the sets of one class only the first
+//! is kept. What a set leaves depends only on what is seen of it (the head of the crate says what
+//! that is), so each set leaves the same as the first of its class.
 ghost use Rattle.std.specs.Prelude.{◌≡◌, ◌⊎◌, ◌++◌, ◌+◌, ◌<◌, ◌≤◌, ℕ, Bool, true, length, map};
 ghost use Rattle.std.specs.Prelude.{IfErr, IfOk, OnOk};
 ghost use Rattle.std.specs.BTreeSet.{contains};
@@ -23,27 +24,32 @@ use cs_sets::Row;
 use std::alloc::{AllocError, Global};
 use std::collections::BTreeSet;
 
-/// The most classes of the sets of the places below some place: 262,144.
+/// The most classes that are followed, of the sets of the places below any place: 262,144. A class
+/// takes 384 bytes.
 pub const CLASSES: usize = 1 << 18;
 
-/// What a class has in common: the places that are seen, and those that may still be added.
+/// What the sets of a class have in common.
 #[derive(Clone, Copy, Debug, PartialEq, Eq, PartialOrd, Ord)]
 pub struct Key {
+    /// The places that are seen.
     seen: Row,
+    /// The places that may still be added: the set's future.
     left: Row,
 }
 
-/// The first set of a class: its places, the places that may still be added, and those that are
-/// seen.
+/// The first set of a class, among the sets of the places below some place.
 #[derive(Clone, Copy, Debug)]
 pub struct Class {
+    /// The places of the set.
     members: Row,
+    /// The places that may still be added to it: the set's future.
     left: Row,
+    /// Those of its places that are seen.
     seen: Row,
 }
 
-/// What is seen after `place`, if this was seen before it. Row `place` of `wanted` has what the
-/// place wants.
+/// What is seen of a set to which `place` was added, if `seen` was seen of it before: `place` too,
+/// if everything that it wants is. Row `place` of `wanted` has what it wants.
 fn seen_after(wanted: &[Row], seen: &Row, place: usize) -> Row
     requires few { length wanted.now ≤ MICRO_OPERATIONS }
     requires inside { place < length wanted.now }
@@ -58,7 +64,10 @@ fn seen_after(wanted: &[Row], seen: &Row, place: usize) -> Row
     after
 }
 
-/// Appends what becomes of a set: it without `place`, and, if it may have it, with it.
+/// Extends a set of the places below `place` by `place`: appends the set without `place`, to which
+/// nothing that needs it may be added any more; and, if it may be added, the set with it. `needed`
+/// has for each place those that need it by any chain, and `wanted` those that it wants. After an
+/// error, which means that memory ran out, one of the two may be there.
 fn push_choices(
     next: &mut Vec<Class>,
     wanted: &[Row],
@@ -108,7 +117,8 @@ fn push_choices(
     Ok(())
 }
 
-/// What becomes of each set of a level.
+/// All sets of a level, those kept of the places below `place`, each extended by this place
+/// (`push_choices`), in order.
 fn grow(
     alloc: Global,
     wanted: &[Row],
@@ -137,7 +147,8 @@ fn grow(
     Ok(next)
 }
 
-/// Adds a class if none that was met has the same key. The table has the keys that were met.
+/// Appends a class, unless one with the same key was kept. `met` has the keys of the classes that
+/// were kept. If memory runs out, `met` may have a key too many; the caller drops both.
 fn keep(kept: &mut Vec<Class>, met: &mut BTreeSet<Key>, class: &Class) -> Result<(), AllocError>
     requires { AreMet (contains key_cmp met.old) kept.old.items }
     ensures kept { OnOk result (kept.new.items ≡ add_first one_key kept.old.items class.now) }
@@ -154,7 +165,7 @@ fn keep(kept: &mut Vec<Class>, met: &mut BTreeSet<Key>, class: &Class) -> Result
     Ok(())
 }
 
-/// The first class with each key.
+/// Of the classes of a level, the first with each key, in order.
 #[tactic(auto, using(crate::proofs::Leading::firsts_more))]
 fn first_of_each(alloc: Global, level: &[Class]) -> Result<Vec<Class>, AllocError>
     ensures { IfOk result (λ kept. kept.items ≡ firsts one_key level.now) }
@@ -167,7 +178,8 @@ fn first_of_each(alloc: Global, level: &[Class]) -> Result<Vec<Class>, AllocErro
     Ok(kept)
 }
 
-/// The class of the set without places, of which all allowed sets are made.
+/// The first level: only the set without places, to which every place may still be added. All
+/// allowed sets extend it.
 fn first_level(alloc: Global, needed: &[Row]) -> Result<Vec<Class>, AllocError>
     requires few { length needed.now ≤ MICRO_OPERATIONS }
     requires backward { IsBackward (needed_in needed.now) }
@@ -190,7 +202,8 @@ fn first_level(alloc: Global, needed: &[Row]) -> Result<Vec<Class>, AllocError>
     Ok(level)
 }
 
-/// The first class of each key, of all sets.
+/// The first class with each key, of all allowed sets. TooMany if at some place more than CLASSES
+/// classes are kept.
 fn classes_of(alloc: Global, wanted: &[Row], needed: &[Row]) -> Result<Vec<Class>, DifferentFault>
     requires few { length needed.now ≤ MICRO_OPERATIONS }
     requires backward { IsBackward (needed_in needed.now) }
@@ -221,7 +234,7 @@ fn classes_of(alloc: Global, wanted: &[Row], needed: &[Row]) -> Result<Vec<Class
     Ok(level)
 }
 
-/// The places of each class.
+/// The set of each class, in order.
 fn rows_of(alloc: Global, classes: &[Class]) -> Result<Vec<Row>, AllocError>
     ensures { IfOk result (λ rows. rows.items ≡ map (λ class. class.members) classes.now) }
 {
@@ -232,11 +245,11 @@ fn rows_of(alloc: Global, classes: &[Class]) -> Result<Vec<Row>, AllocError>
     Ok(rows)
 }
 
-/// The first set of each class of all places. Of these, those that leave what no earlier one
-/// leaves are the different ones of all allowed sets, however alikeness is told, if only sets are
-/// told apart of which not the same is seen. `needed` has, for each place, the places that need it
-/// by any chain, and `wanted` those that it wants. TooMany if there are more than CLASSES classes
-/// of the sets of the places below some place.
+/// The first set of each class of all allowed sets, in the order of sets. Take any test of whether
+/// two sets are alike that holds if the same is seen of both: then the first sets of these by the
+/// test are the first sets of all allowed sets by it. `needed` has, for each place, the places that
+/// need it by any chain, and `wanted` those that it wants. TooMany if at some place more than
+/// CLASSES classes are kept.
 pub fn class_sets(alloc: Global, wanted: &[Row], needed: &[Row]) -> Result<Vec<Row>, DifferentFault>
     requires few { length needed.now ≤ MICRO_OPERATIONS }
     requires backward { IsBackward (needed_in needed.now) }

@@ -1,4 +1,4 @@
-//! Those sets of a scene's micro-operations that differ in what they leave.
+//! The sets of a scene's micro-operations that differ in what they leave.
 ghost use Rattle.std.specs.Prelude.{◌≤◌, length, map, IfErr, IfOk};
 ghost use Rattle.cs_sets.specs.Places.{places_of};
 ghost use Rattle.cs_different.specs.Refusals.{IsRefused};
@@ -17,15 +17,17 @@ use cs_sets::Row;
 use std::alloc::{AllocError, Global};
 
 /// Of all sets of the scene's micro-operations that a crash may leave, the first of those that
-/// leave equal trees and as many acknowledged lines, ascending.
-/// TooMany if the sets fall into more classes than are followed, More if more than `most` differ.
+/// leave equal trees and equally many acknowledged lines, in the order of sets. TooMany if the sets
+/// fall into more than CLASSES classes, More if more than `most` sets differ. The scene isn't
+/// changed, and its plan isn't looked at.
 pub fn different_sets(alloc: Global, scene: &Scene, most: u32) -> Result<Vec<Row>, DifferentFault>
     ensures different { IfOk result (λ sets. AreDifferent scene.now (map places_of sets.items)) }
     ensures few { IfOk result (λ sets. length sets.items ≤ most) }
     ensures refused { IfErr result (IsRefused scene.now most) }
 {
     let order = scene.order();
-    // that an order is short, and each place needs only earlier ones
+    // The contract of `len` says that an order is short, and that each place needs only earlier
+    // ones.
     know(order.len());
     // By this law, what the order allows is what the rules allow.
     rules_are_sentences(scene.micros());

@@ -1,5 +1,6 @@
-//! A number for each tree, by which trees are told apart fast: different numbers are of different
-//! trees. Trees with one number are compared, so a poor number costs time and no answer.
+//! Digests of trees: trees with different digests are different. Trees with equal digests are
+//! compared, so a poor digest costs time, but never a wrong answer. (cs_same_states has digests of
+//! its own, computed without making the tree.)
 ghost use Rattle.std.specs.Prelude.{◌≡◌, ◌%◌, ◌^◌, fold, IfOk};
 ghost use Rattle.std.specs.Option.{option_copied, option_map};
 ghost use Rattle.cs_tree_model.specs.Record.{metadata_of};
@@ -14,10 +15,10 @@ use cs_names::{Name, UserName};
 use cs_tree_model::TreeRead;
 use std::alloc::{AllocError, Global};
 
-/// A prime by which digests are spread, from the hash function FNV-1a.
+/// The prime of the 64-bit hash function FNV-1a, by which digests are spread.
 pub const PRIME: u64 = 0x100_0000_01b3;
 
-/// The digest of a sequence and one more part, if `digest` is that of the sequence.
+/// The digest of a sequence to which one part is appended. `digest` is that of the sequence before.
 #[tactic(auto, unfolding(crate::specs::Digests::with_part))]
 pub fn mix(digest: u64, part: u64) -> u64
     ensures { result ≡ with_part digest part }
@@ -25,7 +26,8 @@ pub fn mix(digest: u64, part: u64) -> u64
     (digest ^ part).wrapping_mul(PRIME)
 }
 
-/// The digest of a sequence and these bytes.
+/// The digest of a sequence to which these bytes are appended. `digest` is that of the sequence
+/// before.
 fn mix_bytes(digest: u64, bytes: &[u8]) -> u64
     ensures { result ≡ fold with_part digest bytes.now }
 {
@@ -36,7 +38,8 @@ fn mix_bytes(digest: u64, bytes: &[u8]) -> u64
     mixed
 }
 
-/// And a name, if there is one.
+/// The digest of a sequence to which the bytes of the name are appended. `digest` is that of the
+/// sequence before; it is returned unchanged if there is no name.
 fn mix_name(digest: u64, name: Option<&Name>) -> u64
     ensures { result ≡ with_name digest (option_copied name.entry) }
 {
@@ -46,14 +49,17 @@ fn mix_name(digest: u64, name: Option<&Name>) -> u64
     }
 }
 
-/// And the name of a user or a group.
+/// The digest of a sequence to which the name of a user or a group is appended. `digest` is that of
+/// the sequence before.
 fn mix_user(digest: u64, user: &UserName) -> u64
     ensures { result ≡ fold with_part digest user.now }
 {
     mix_bytes(digest, user.as_bytes())
 }
 
-/// And owner, group and mode of the file of that number, if there is one.
+/// The digest of a sequence to which an owner, group and mode are appended: those of the file or
+/// directory with this number. `digest` is that of the sequence before; it is returned unchanged if
+/// nothing has the number.
 fn mix_metadata<T: TreeRead>(digest: u64, tree: &T, number: u64) -> u64
     ensures { result
         ≡ with_metadata digest (option_map metadata_of (record_numbered (T.tree tree.now) number)) }
@@ -68,7 +74,9 @@ fn mix_metadata<T: TreeRead>(digest: u64, tree: &T, number: u64) -> u64
     }
 }
 
-/// And the bytes of the file of that number, if it has any.
+/// The digest of a sequence to which a file's bytes are appended: those of the file with this
+/// number, only the first FILE_BYTES if it has more. `digest` is that of the sequence before; it is
+/// returned unchanged if no file has the number. The only error is that memory runs out.
 fn mix_content<T: TreeRead>(
     alloc: Global,
     digest: u64,
@@ -84,7 +92,9 @@ fn mix_content<T: TreeRead>(
     }
 }
 
-/// The digest of a sequence and all that a tree has of a number.
+/// The digest of a sequence to which all that a tree has under this number is appended: the number
+/// of the directory, the name, owner, group and mode, and the bytes. `digest` is that of the
+/// sequence before. The only error is that memory runs out.
 #[tactic(auto, unfolding(crate::specs::Digests::digest_at))]
 fn mix_number<T: TreeRead>(
     alloc: Global,
@@ -101,7 +111,8 @@ fn mix_number<T: TreeRead>(
     Ok(mixed)
 }
 
-/// The digest of a tree, by its numbers one after the other. An error means out of memory.
+/// The digest of a tree: of all that it has under each number, in the order of the numbers. Equal
+/// trees have equal digests.
 pub fn digest_tree<T: TreeRead>(alloc: Global, tree: &T) -> Result<u64, AllocError>
     ensures { IfOk result (λ digest. digest ≡ digest_of (T.tree tree.now)) }
 {

@@ -4,12 +4,13 @@ ghost use Rattle.cs_different.specs.declared.fault.DifferentFault.TheVariants.{M
 
 use std::alloc::AllocError;
 
-/// Why the sets that differ aren't found.
+/// Why the sets that differ aren't found. Then none of them is returned.
 #[derive(Clone, Copy, Debug, PartialEq, Eq)]
 pub enum DifferentFault {
-    /// More sets than this many differ.
+    /// More than this many sets differ: as many as the caller allows.
     More(u32),
-    /// The sets of the places below some place fall into too many classes.
+    /// At some place the sets fall into more classes than are followed, `CLASSES`. How many sets
+    /// differ isn't known.
     TooMany,
     /// Memory ran out.
     Memory,

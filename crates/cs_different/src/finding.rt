@@ -1,4 +1,5 @@
-//! Of a list of sets those that leave what no earlier one leaves.
+//! Of a list of sets, those that leave what no earlier one leaves. Two sets leave the same if their
+//! trees are equal and they have equally many acknowledged lines.
 ghost use Rattle.std.specs.Prelude.{◌≡◌, ◌≤◌, ◌<◌, ◌⊎◌, length, map, IfErr, IfOk, OnOk};
 ghost use Rattle.std.specs.BTreeSet.{contains};
 ghost use Rattle.std.specs.Ordering.{nat_cmp};
@@ -18,14 +19,17 @@ use cs_sets::Row;
 use std::alloc::{AllocError, Global};
 use std::collections::BTreeSet;
 
-/// A set that was kept, with the digest of what it leaves.
+/// A set that was kept. What it leaves isn't kept, to save memory: it is made again to compare it.
 #[derive(Clone, Copy, Debug)]
 pub struct Found {
+    /// The set.
     set: Row,
+    /// The digest of what it leaves.
     digest: u64,
 }
 
-/// Whether a set that was kept leaves the same as `set`, which leaves `left`.
+/// Whether a set that was kept leaves the same as `set`, which leaves `left`. If the digests are
+/// equal, what the kept set leaves is made again and compared.
 fn leaves_same(
     alloc: Global,
     scene: &Scene,
@@ -48,7 +52,8 @@ fn leaves_same(
     Ok(same)
 }
 
-/// Whether one of the sets that were kept leaves the same as `set`, which leaves `left`.
+/// Whether one of the sets that were kept leaves the same as `set`, which leaves `left`. They are
+/// compared one after another, up to the first that does.
 fn is_among(
     alloc: Global,
     scene: &Scene,
@@ -71,8 +76,8 @@ fn is_among(
     Ok(false)
 }
 
-/// As `is_among`, but looks only if a set with the same digest was kept. `met` has the digests of
-/// those that were.
+/// As `is_among`, but looks at the kept sets only if one of them has the same digest. `met` has the
+/// digests of the sets that were kept.
 fn is_met(
     alloc: Global,
     scene: &Scene,
@@ -96,7 +101,8 @@ fn is_met(
     Ok(found)
 }
 
-/// Adds the set if none of those that were kept leaves the same.
+/// Appends the set, unless one that was kept leaves the same. `met` has the digests of the sets
+/// that were kept. If memory runs out, `met` may have a digest too many; the caller drops both.
 fn keep(
     alloc: Global,
     scene: &Scene,
@@ -126,7 +132,7 @@ fn keep(
     Ok(())
 }
 
-/// The sets that were kept.
+/// The sets that were kept, in order, without their digests.
 fn rows_of(alloc: Global, kept: &[Found]) -> Result<Vec<Row>, AllocError>
     ensures { IfOk result (λ rows. map places_of rows.items ≡ sets_of kept.now) }
 {
@@ -137,8 +143,8 @@ fn rows_of(alloc: Global, kept: &[Found]) -> Result<Vec<Row>, AllocError>
     Ok(rows)
 }
 
-/// Of these sets, each of which a crash may leave, those that leave what no earlier one leaves.
-/// More if these are more than `most`. `parts` are of the scene's trace.
+/// Of these sets, each of which a crash may leave, those that leave what no earlier one leaves, in
+/// order. More if these are more than `most`. `parts` are those of the scene's trace.
 pub fn firsts_of(
     alloc: Global,
     scene: &Scene,

@@ -1,4 +1,4 @@
-//! What a set of micro-operations leaves: a tree, and acknowledged lines.
+//! What a set of micro-operations leaves: a tree, and a number of acknowledged lines.
 ghost use Rattle.std.specs.Prelude.{◌≡◌, ◌≤◌, ◌<◌, ◌↔◌, ◌++◌, ◌∷◌, [], cond, length};
 ghost use Rattle.std.specs.Prelude.{IfOk, IsTrue, OnOk};
 ghost use Rattle.std.specs.List.{All};
@@ -19,15 +19,19 @@ use cs_sets::Row;
 use cs_tree::PlainTree;
 use std::alloc::{AllocError, Global};
 
-/// What a set leaves: its tree, how many acknowledged lines there are, and a digest of both.
+/// What a set leaves.
 #[derive(Drop)]
 pub struct Left {
+    /// The tree: the state of the set.
     pub tree: PlainTree,
+    /// How many acknowledged lines are members of the set.
     pub says: u32,
+    /// A digest of both: sets with different ones leave something different.
     pub digest: u64,
 }
 
-/// Appends the place if the set has it.
+/// Appends the place if the set has it; if not, nothing changes. After an error the places are
+/// unchanged.
 fn add_member(places: &mut Vec<u32>, set: &Row, place: usize) -> Result<(), AllocError>
     requires { place < MICRO_OPERATIONS }
     ensures { OnOk result (places.new.items
@@ -50,7 +54,8 @@ fn places_in(alloc: Global, set: &Row) -> Result<Vec<u32>, AllocError>
     Ok(places)
 }
 
-/// Whether the micro-operation at the place is an acknowledged line.
+/// Whether the micro-operation at the place is an acknowledged line. (`is_say_at` of cs_plan has
+/// the same body.)
 fn is_say_at(ops: &[MicroOp], place: u32) -> bool
     requires { place < length ops.now }
     ensures { result ≡ is_say (op_at ops.now place) }
@@ -58,7 +63,7 @@ fn is_say_at(ops: &[MicroOp], place: u32) -> bool
     matches!(&ops[place as usize], MicroOp::Say)
 }
 
-/// How many acknowledged lines are at these places.
+/// How many acknowledged lines are at these places. (`says_of_pick` of cs_plan has the same body.)
 fn count_says(ops: &[MicroOp], places: &[u32]) -> u32
     requires inside { All (λ place. place < length ops.now) places.now }
     requires few { length places.now ≤ MICRO_OPERATIONS }
@@ -73,7 +78,8 @@ fn count_says(ops: &[MicroOp], places: &[u32]) -> u32
     count
 }
 
-/// The tree that these places leave. They are a set that a crash may leave.
+/// The tree that the set with these places leaves. A crash must be able to leave the set. The only
+/// error is that memory runs out.
 fn tree_of(
     alloc: Global,
     scene: &Scene,
@@ -88,7 +94,8 @@ fn tree_of(
     Ok(tree)
 }
 
-/// What the set leaves, which a crash may leave. `parts` are of the scene's trace.
+/// What the set leaves: its tree is made. A crash must be able to leave the set. `parts` are those
+/// of the scene's trace.
 pub fn leave(alloc: Global, scene: &Scene, parts: &Parts, set: &Row) -> Result<Left, AllocError>
     requires parts { AreParts scene.now.trace parts.now }
     requires allowed { IsLeavable scene.now (places_of set.now) }
@@ -101,7 +108,8 @@ pub fn leave(alloc: Global, scene: &Scene, parts: &Parts, set: &Row) -> Result<L
     Ok(Left { tree, says, digest })
 }
 
-/// Whether two sets leave equal trees, and as many acknowledged lines.
+/// Whether two sets leave equal trees and equally many acknowledged lines. The digests aren't
+/// looked at.
 pub fn are_alike(alloc: Global, left: &Left, other: &Left) -> Result<bool, AllocError>
     ensures { IfOk result (λ same. IsTrue same
         ↔ ((left.now.tree ≡ other.now.tree) × (left.now.says ≡ other.now.says))) }

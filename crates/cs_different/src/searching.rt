@@ -1,4 +1,5 @@
-//! Which micro-operation makes a file, and which first gives it a size.
+//! Which micro-operation makes a file, and which first gives it a size above an offset. A file may
+//! be a symbolic link, and is given by its number.
 ghost use Rattle.std.specs.Prelude.{◌≡◌, ◌<◌, ℕ, false, true, length, IfSome};
 ghost use Rattle.std.specs.List.{list_any};
 ghost use Rattle.cs_apm.specs.Rules.{op_at};
@@ -21,7 +22,7 @@ fn makes(op: &MicroOp, file: u32) -> bool
     }
 }
 
-/// Whether the micro-operation links the file.
+/// Whether the micro-operation links the file: as a link, or as the first half of a rename.
 fn links(op: &MicroOp, file: u32) -> bool
     ensures { result ≡ model.links file op.now }
 {
@@ -31,7 +32,7 @@ fn links(op: &MicroOp, file: u32) -> bool
     }
 }
 
-/// Whether the micro-operation gives the file a size above the offset.
+/// Whether the micro-operation gives the file a size above the offset, so that it has a byte there.
 fn grows(op: &MicroOp, file: u32, offset: u64) -> bool
     ensures { result ≡ grows_above file offset op.now }
 {
@@ -44,7 +45,8 @@ fn grows(op: &MicroOp, file: u32, offset: u64) -> bool
     }
 }
 
-/// Whether the file is in the slot.
+/// Whether the file is in the slot: the entry of the slot holds it. False for a slot with a
+/// directory and for an empty one. (`is_file` of cs_same_states has the same body.)
 fn is_held(slot: Option<Node>, file: u32) -> bool
     ensures { result ≡ holds file slot }
 {
@@ -54,7 +56,7 @@ fn is_held(slot: Option<Node>, file: u32) -> bool
     }
 }
 
-/// Whether a micro-operation links the file.
+/// Whether some micro-operation links the file: as a link, or as the first half of a rename.
 pub fn is_linked(ops: &[MicroOp], file: u32) -> bool
     ensures { result ≡ list_any (model.links file) ops.now }
 {
@@ -66,7 +68,8 @@ pub fn is_linked(ops: &[MicroOp], file: u32) -> bool
     false
 }
 
-/// Whether the file is in one of the slots.
+/// Whether the file is in one of the slots. If these are the slots at the start: whether some entry
+/// holds it then.
 pub fn is_in_slot(slots: &[Option<Node>], file: u32) -> bool
     ensures { result ≡ list_any (holds file) slots.now }
 {
@@ -94,7 +97,7 @@ fn grows_at(ops: &[MicroOp], place: usize, file: u32, offset: u64) -> bool
     grows(&ops[place], file, offset)
 }
 
-/// The place of the first micro-operation that makes the file.
+/// The place of the first micro-operation that makes the file; None if none does.
 pub fn first_maker(ops: &[MicroOp], file: u32) -> Option<usize>
     ensures { IfSome result (λ maker. (maker < length ops.now)
         × (model.makes file (op_at ops.now maker) ≡ true)) }
@@ -107,7 +110,8 @@ pub fn first_maker(ops: &[MicroOp], file: u32) -> Option<usize>
     None
 }
 
-/// Whether a micro-operation at another place makes the file too.
+/// Whether a micro-operation at another place than `maker` makes the file, too. In a trace none
+/// does.
 pub fn is_made_twice(ops: &[MicroOp], file: u32, maker: usize) -> bool
     ensures { result ≡ false → (i : ℕ) → i < length ops.now
         → model.makes file (op_at ops.now i) ≡ true → i ≡ maker }
@@ -120,7 +124,8 @@ pub fn is_made_twice(ops: &[MicroOp], file: u32, maker: usize) -> bool
     false
 }
 
-/// The place of the first micro-operation that gives the file a size above the offset.
+/// The place of the first micro-operation that gives the file a size above the offset; None if none
+/// does.
 pub fn first_grower(ops: &[MicroOp], file: u32, offset: u64) -> Option<usize>
     ensures { IfSome result (λ grower. (grower < length ops.now)
         × (grows_above file offset (op_at ops.now grower) ≡ true)

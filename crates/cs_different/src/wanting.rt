@@ -1,5 +1,6 @@
 //! What the micro-operations of a scene want: each wants earlier ones without which nothing shows
-//! what it does.
+//! what it does. What changes a file wants what makes the file, if that is its only entry; a write
+//! wants the first change that gives the file a size above the write's offset.
 ghost use Rattle.std.specs.Prelude.{◌≡◌, ◌⊎◌, ◌<◌, ◌≤◌, ◌+◌, ◌^◌, ℕ, true, length, Some, IfOk};
 ghost use Rattle.std.specs.Prelude.{IfSome};
 ghost use Rattle.cs_apm.specs.Atlases.{content_before};
@@ -20,7 +21,8 @@ use cs_same_states::{Parts, changed_file};
 use cs_sets::Row;
 use std::alloc::{AllocError, Global};
 
-/// The place of the micro-operation that makes the file, if nothing else gives the file a path.
+/// The place of the micro-operation that makes the file, if nothing else gives the file an entry:
+/// none holds it at the start, and no micro-operation links it. None in any other case.
 fn maker_of(scene: &Scene, parts: &Parts, file: u32) -> Option<usize>
     requires { AreParts scene.now.trace parts.now }
     ensures { IfSome result
@@ -40,8 +42,8 @@ fn maker_of(scene: &Scene, parts: &Parts, file: u32) -> Option<usize>
     Some(maker)
 }
 
-/// The place of the first micro-operation that gives the file a size above the offset, if its size
-/// at the start isn't above it.
+/// The place of the first micro-operation that gives the file a size above the offset. None if none
+/// does, or if its size before any change is above it already.
 fn grower_of(scene: &Scene, parts: &Parts, file: u32, offset: u64) -> Option<usize>
     requires { AreParts scene.now.trace parts.now }
     ensures { IfSome result
@@ -56,7 +58,8 @@ fn grower_of(scene: &Scene, parts: &Parts, file: u32, offset: u64) -> Option<usi
     first_grower(ops, file, offset)
 }
 
-/// What makes the file that the micro-operation at the place changes.
+/// The place of what makes the file that the micro-operation at `place` changes, as `maker_of`
+/// finds it. None if it changes no file.
 fn maker_wanted(scene: &Scene, parts: &Parts, place: usize) -> Option<usize>
     requires parts { AreParts scene.now.trace parts.now }
     requires inside { place < length (micros_of scene.now).ops }
@@ -67,8 +70,8 @@ fn maker_wanted(scene: &Scene, parts: &Parts, place: usize) -> Option<usize>
     maker_of(scene, parts, file)
 }
 
-/// What first gives the file a size above the offset at which the micro-operation at the place
-/// writes.
+/// The place of what first gives the file a size above the offset at which the micro-operation at
+/// `place` writes, as `grower_of` finds it. None if it isn't a write.
 fn grower_wanted(scene: &Scene, parts: &Parts, place: usize) -> Option<usize>
     requires parts { AreParts scene.now.trace parts.now }
     requires inside { place < length (micros_of scene.now).ops }
@@ -89,7 +92,7 @@ fn grower_wanted(scene: &Scene, parts: &Parts, place: usize) -> Option<usize>
     }
 }
 
-/// A row of those of the two places that are before `place`.
+/// A row of those of the two places that are there and before `place`.
 fn row_of(first: Option<usize>, second: Option<usize>, place: usize) -> Row
     requires { place ≤ MICRO_OPERATIONS }
     ensures { (z : ℕ) → has_place result z ≡ true
@@ -109,7 +112,7 @@ fn row_of(first: Option<usize>, second: Option<usize>, place: usize) -> Row
     row
 }
 
-/// A row of what the micro-operation at the place wants.
+/// A row of the places that the micro-operation at `place` wants: at most two, all before it.
 fn wanted_by(scene: &Scene, parts: &Parts, place: usize) -> Row
     requires parts { AreParts scene.now.trace parts.now }
     requires inside { place < length (micros_of scene.now).ops }
@@ -121,8 +124,8 @@ fn wanted_by(scene: &Scene, parts: &Parts, place: usize) -> Row
     row_of(maker, grower, place)
 }
 
-/// For each micro-operation of the scene, a row of those that it wants. `parts` are of the scene's
-/// trace.
+/// For each micro-operation of the scene, a row of the places that it wants. That none is missing
+/// isn't proved: a missing one only costs time. `parts` are those of the scene's trace.
 pub fn wants_of(alloc: Global, scene: &Scene, parts: &Parts) -> Result<Vec<Row>, AllocError>
     requires { AreParts scene.now.trace parts.now }
     ensures long { IfOk result (λ wanted. length wanted.items ≡ length (micros_of scene.now).ops) }

@@ -18,6 +18,6 @@ entry_of e = record { directory = e.directory; name = last_name e.path }
 abbrev pub IsNamed : Entries → DirEntry → Type 0
 IsNamed m e = (e.path ≢ []) × (at_path m (parent_path e.path) ≡ Some (Directory e.directory))
 
--- where the root stands, which no directory has: a place of its own, with no name
+-- the place of the root, which is an entry of no directory: a place of its own, with no name
 abbrev pub root_home : Entry
 root_home = record { directory = 0; name = [] }

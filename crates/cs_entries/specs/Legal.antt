@@ -32,12 +32,12 @@ pub record IsTree (m : Entries) : Type 0 where
   pub one : (e f : Entry) (d : ℕ) → m e ≡ Some (Directory d) → m f ≡ Some (Directory d) → e ≡ f
   pub root : (e : Entry) → m e ≢ Some (Directory 0)
 
--- a directory that is put is new
+-- if what is put is a directory, it isn't the root, and no entry holds it yet
 abbrev pub IsNew : Entries → Node → Type 0
 IsNew m (Directory d) = (d ≢ 0) × ((f : Entry) → m f ≢ Some (Directory d))
 IsNew m (File kind file) = Unit {0}
 
--- a directory that this is has no entry
+-- if this is a directory, it has no entry
 abbrev pub IsBare : Entries → Option Node → Type 0
 IsBare m held = (d : ℕ) → held ≡ Some (Directory d) → IsEmpty m d
 

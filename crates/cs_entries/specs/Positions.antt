@@ -1,4 +1,4 @@
--- Where directories are, by the moves of directories alone.
+-- Where directories are, by the moves of directories only.
 use Rattle.std.specs.Prelude.{◌≡◌, ◌<◌, ◌==◌, ℕ, zero, suc, Bool, cond, Some, List, [], ◌∷◌, ◌++◌}
 use Rattle.cs_entries.specs.Entries.{Entries, Entry, EntryOp, Create, Move}
 use Rattle.cs_entries.specs.declared.node.Node.TheVariants.{Directory}

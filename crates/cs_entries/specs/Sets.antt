@@ -24,7 +24,7 @@ AreNumbered start ops n = (k d : ℕ) (e : Entry) → k < n → ops k ≡ Create
     → (d ≢ 0) × ((f : Entry) → start f ≢ Some (Directory d))
     × ((i : ℕ) (f : Entry) → i < k → ops i ≢ Create f (Directory d))
 
--- no directory is moved, and each is made at an entry of its own: where one is made again at a path
+-- no directory is moved, and each is made at an entry of its own: if one is made again at a path,
 -- it has the number of the one before (versions 1 to 3)
 pub record AreFixed (start : Entries) (ops : ℕ → EntryOp) (n : ℕ) : Type 0 where
   pub stay : (k : ℕ) → k < n → MovesDirectory (ops k) → ⊥

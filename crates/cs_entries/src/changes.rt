@@ -1,4 +1,5 @@
-//! Changes of what entries hold.
+//! Changes of what entries hold. `directories` has a map of the entries of each directory, at the
+//! index that is the directory's number.
 ghost use Rattle.std.specs.Prelude.{◌≡◌, ◌<◌, IfOk, None, OnErr, OnOk, Some, length};
 ghost use Rattle.cs_entries.specs.Directories.{entries_in};
 ghost use Rattle.cs_entries.specs.Entries.{Entry, put};
@@ -9,8 +10,8 @@ use crate::node::Node;
 use std::alloc::{AllocError, Global};
 use std::collections::BTreeMap;
 
-/// Adds maps without an entry until there is one for the directory of the number. A failed
-/// allocation leaves some of them, which hold nothing.
+/// Adds empty maps at the end until the directory of the number has one. The only error is that
+/// memory runs out; then some of the maps may be there, which hold nothing.
 pub(crate) fn grow(
     alloc: Global,
     directories: &mut Vec<BTreeMap<String, Node>>,
@@ -26,8 +27,9 @@ pub(crate) fn grow(
     Ok(())
 }
 
-/// Puts a node under the name in the directory of the number, and returns what the entry held. A
-/// failed allocation leaves everything as it was.
+/// Puts a node under the name in the directory of the number, whose map is there, and returns what
+/// the entry held before; None if it held nothing. The only error is that memory runs out; then
+/// everything is as it was.
 pub(crate) fn hold(
     directories: &mut [BTreeMap<String, Node>],
     directory: u32,
@@ -46,8 +48,8 @@ pub(crate) fn hold(
     Ok(before)
 }
 
-/// Takes away what the entry of the name holds in the directory of the number, and returns it. It
-/// takes no memory.
+/// Removes the entry of the name from the directory of the number, and returns what it held; None
+/// if there is no such entry. If that was a directory, its own entries stay. It takes no memory.
 pub(crate) fn release(
     directories: &mut [BTreeMap<String, Node>],
     directory: u32,

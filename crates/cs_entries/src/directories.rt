@@ -1,4 +1,5 @@
-//! What each entry holds, kept by directory, and what is at a path by that.
+//! What each entry holds, and what is at a path by that. `directories` has a map of the entries of
+//! each directory, at the index that is the directory's number.
 ghost use Rattle.std.specs.Prelude.{◌≡◌, false, true};
 ghost use Rattle.cs_entries.specs.Directories.{entries_in};
 ghost use Rattle.cs_entries.specs.Legal.{HasEntry, IsEmpty};
@@ -8,7 +9,8 @@ use crate::node::Node;
 use cs_names::Names;
 use std::collections::BTreeMap;
 
-/// What the entry of the name holds in the directory of the number. It takes no memory.
+/// What the entry of the name holds in the directory of the number; None if there is no such entry
+/// or directory. It takes no memory.
 pub(crate) fn node_in(
     directories: &[BTreeMap<String, Node>],
     directory: u32,
@@ -22,8 +24,9 @@ pub(crate) fn node_in(
     }
 }
 
-/// What is at a path, by its names: each leads from a directory to what its entry holds. Nothing is
-/// looked up through a file or a symbolic link. It takes no memory.
+/// What is at a path, by its names: each leads from a directory to what its entry holds. The root
+/// is at the path without names. None if a directory has no such entry, or if names follow a file:
+/// nothing is looked up through a file or a symbolic link. It takes no memory.
 pub(crate) fn node_at(directories: &[BTreeMap<String, Node>], names: Names<'_>) -> Option<Node>
     ensures { result ≡ at_path (entries_in directories.now) names.entry }
 {
@@ -40,7 +43,8 @@ pub(crate) fn node_at(directories: &[BTreeMap<String, Node>], names: Names<'_>) 
     Some(node)
 }
 
-/// Whether the directory of the number has an entry. It takes no memory.
+/// Whether the directory of the number has an entry; false if there is no such directory. It takes
+/// no memory.
 pub(crate) fn has_entries(directories: &[BTreeMap<String, Node>], directory: u32) -> bool
     ensures none { result ≡ false → IsEmpty (entries_in directories.now) directory }
     ensures some { result ≡ true → HasEntry (entries_in directories.now) directory }

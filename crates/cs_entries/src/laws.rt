@@ -8,14 +8,14 @@ ghost use Rattle.cs_entries.specs.Rules.{IsClosed, needs};
 ghost use Rattle.cs_entries.specs.Sets.{AreFew, AreFixed, AreNumbered};
 ghost use Rattle.cs_entries.specs.Tables.{AreNested, Table, held_in, paths_in, table_of};
 
-/// A legal operation leaves a tree.
+/// An operation on entries that is legal in a tree leaves a tree.
 pub fn legal_operations_leave_trees()
     ensures { (m : Entries) (o : EntryOp) → IsTree m → IsLegal m o → IsTree (after m o) }
 {}
 
 /// The state of every allowed set of legal operations is a tree: each entry that is left is reached
-/// from the root, and each directory has one entry. By paths it is one, too: each path's parent is
-/// a directory, and at each path is what its names lead to.
+/// from the root, and each directory has one entry. Seen by paths it is a tree, too: the parent of
+/// each path is a directory, and at each path is what its names lead to.
 pub fn states_are_trees()
     ensures { (t : Table) (ops : ℕ → EntryOp) (n few : ℕ) (has : ℕ → Bool) → IsTree (held_in t)
         → ((k : ℕ) → k < n → IsLegal (state all (held_in t) ops k) (ops k))

@@ -1,4 +1,4 @@
-//! What each entry holds, as one value.
+//! What each entry of each directory holds, as one value.
 ghost use Rattle.std.specs.Prelude.{◌≡◌, IfOk, OnErr, OnOk};
 ghost use Rattle.std.specs.FinMap as map;
 ghost use Rattle.std.specs.String.{string_bytes};
@@ -17,8 +17,8 @@ use std::marker::Model;
 /// the directories' numbers and then of the names.
 #[derive(Drop)]
 pub struct Directories {
-    /// By the directories' numbers, what their entries hold, by their names. The last directories
-    /// may have no map here, if they have no entry.
+    /// At each directory's number, what its entries hold, by their names. The last directories may
+    /// have no map here, if they have no entry.
     by_number: Vec<BTreeMap<String, Node>>,
 }
 
@@ -43,30 +43,34 @@ impl Directories {
         }
     }
 
-    /// What the entry of the name holds in the directory of the number. It takes no memory.
+    /// What the entry of the name holds in the directory of the number; None if there is no such
+    /// entry or directory. It takes no memory.
     pub fn get(&self, directory: u32, name: &str) -> Option<Node>
         ensures { result ≡ map.get self.now (entry_in directory name.now) }
     {
         node_in(&self.by_number, directory, name)
     }
 
-    /// What is at a path, by its names: each leads from a directory to what its entry holds.
-    /// Nothing is looked up through a file or a symbolic link. It takes no memory.
+    /// What is at a path, by its names: each leads from a directory to what its entry holds. The
+    /// root is at the path without names. None if a directory has no such entry, or if names follow
+    /// a file: nothing is looked up through a file or a symbolic link. It takes no memory.
     pub fn at(&self, names: Names<'_>) -> Option<Node>
         ensures { result ≡ at_path (held_in self.now) names.entry }
     {
         node_at(&self.by_number, names)
     }
 
-    /// Whether the directory of the number has an entry. It takes no memory.
+    /// Whether the directory of the number has an entry; false if there is no such directory. It
+    /// takes no memory.
     pub fn has_entries(&self, directory: u32) -> bool
         ensures { result ≡ has_entries self.now directory }
     {
         has_entries(&self.by_number, directory)
     }
 
-    /// Puts a node under the name in the directory of the number, and returns what the entry held.
-    /// A failed allocation leaves everything as it was.
+    /// Puts a node under the name in the directory of the number, and returns what the entry held
+    /// before; None if it held nothing. Nothing is checked: callers know that it leaves a tree. The
+    /// only error is that memory runs out; then all entries are as they were.
     pub fn insert(
         &mut self,
         alloc: Global,
@@ -84,7 +88,8 @@ impl Directories {
         hold(&mut self.by_number, directory, name, node)
     }
 
-    /// Takes away what the entry of the name holds in the directory of the number, and returns it.
+    /// Removes the entry of the name from the directory of the number, and returns what it held;
+    /// None if there is no such entry. If that was a directory, its own entries stay in the table.
     /// It takes no memory.
     pub fn remove(&mut self, directory: u32, name: &str) -> Option<Node>
         ensures before { result ≡ map.get self.old (entry_in directory name.now) }

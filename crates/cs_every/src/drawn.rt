@@ -1,4 +1,4 @@
-//! Sets drawn at random, each set with the same chance.
+//! Sets drawn at random from all that an order allows, each with the same chance.
 ghost use Rattle.std.specs.Prelude.{◌≡◌, ◌<◌, length, IfErr, IfOk, OnOk};
 ghost use Rattle.std.specs.List.{Contains};
 ghost use Rattle.cs_sets.specs.Every.{every};
@@ -16,7 +16,8 @@ use rand_pcg::Pcg64;
 use std::alloc::{AllocError, Global};
 use std::io::Write;
 
-/// A set drawn from all, each with the same chance.
+/// A set drawn from all, each with the same chance; it may be drawn again. The only error is that
+/// memory runs out.
 fn draw_set(sets: &mut Numbers<'_>, generator: &mut Pcg64) -> Result<Row, AllocError>
     ensures drawn { IfOk result (λ set. Contains sets.old (places_of set)) }
     ensures same { sets.new ≡ sets.old }
@@ -25,9 +26,10 @@ fn draw_set(sets: &mut Numbers<'_>, generator: &mut Pcg64) -> Result<Row, AllocE
     sets.set(number)
 }
 
-/// Writes `count` sets, drawn one after the other, each from all sets that the order allows. The
-/// same seed gives the same sets. TooMany if they can't be counted, as `Order::count` has it, or if
-/// there are more than 2^64 - 1. After another fault some of the lines may be written.
+/// Writes `count` sets, drawn one after the other, each from all sets that the order allows; a set
+/// may come twice. The same seed gives the same sets. The fault is TooMany if they can't be
+/// counted, as `Order::count` has it, or if there are 2^64 or more: then nothing is written. It is
+/// Memory or Output otherwise: then some of the lines may be written.
 pub fn write_sample<W: Write>(
     alloc: Global,
     order: &Order,

@@ -1,5 +1,5 @@
-//! Sets of places as lines of a picks file; all sets that an order of places allows, printed,
-//! counted, or drawn at random.
+//! Sets of places as lines of a picks file: lists of them, and all sets that an order of places
+//! allows, printed, counted, or drawn at random.
 #![tactic(auto)]
 
 mod counted;

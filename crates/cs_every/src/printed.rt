@@ -1,4 +1,5 @@
-//! All sets that an order allows, as lines of a picks file.
+//! Sets of places as lines of a picks file: each a JSON array of its places, ascending, and a line
+//! feed.
 ghost use Rattle.std.specs.Prelude.{◌≤◌, ◌++◌, codes, decimal, length, map, IfErr, OnOk};
 ghost use Rattle.std.specs.Io.KnownBytes.{Appends};
 ghost use Rattle.cs_sets.specs.Bits.{has_place};
@@ -13,7 +14,7 @@ use cs_names::limits::MICRO_OPERATIONS;
 use cs_sets::{Order, Row, Sets};
 use std::io::Write;
 
-/// Writes the bytes. After a fault some of them may be written.
+/// Writes all of the bytes. The only fault is Output; then some of them may be written.
 pub fn write_bytes<W: Write>(bytes: &[u8], out: &mut W) -> Result<(), EveryFault>
     ensures fault { IfErr result IsOutside }
     ensures text { OnOk result (Appends (W.contents out.old) (W.contents out.new) bytes.now) }
@@ -21,7 +22,7 @@ pub fn write_bytes<W: Write>(bytes: &[u8], out: &mut W) -> Result<(), EveryFault
     out.write_all(bytes).map_err(|_| EveryFault::Output)
 }
 
-/// Writes a bracket and the first place of a set.
+/// Writes a bracket and the first place of a set. The only fault is Output.
 fn write_first<W: Write>(place: usize, out: &mut W) -> Result<(), EveryFault>
     ensures fault { IfErr result IsOutside }
     ensures text { OnOk result (Appends (W.contents out.old) (W.contents out.new)
@@ -30,7 +31,7 @@ fn write_first<W: Write>(place: usize, out: &mut W) -> Result<(), EveryFault>
     write!(out, "[{place}").map_err(|_| EveryFault::Output)
 }
 
-/// Writes a comma and a further place of a set.
+/// Writes a comma and a further place of a set. The only fault is Output.
 fn write_other<W: Write>(place: usize, out: &mut W) -> Result<(), EveryFault>
     ensures fault { IfErr result IsOutside }
     ensures text { OnOk result (Appends (W.contents out.old) (W.contents out.new)
@@ -39,7 +40,8 @@ fn write_other<W: Write>(place: usize, out: &mut W) -> Result<(), EveryFault>
     write!(out, ",{place}").map_err(|_| EveryFault::Output)
 }
 
-/// Writes a comma and the number of each place of the set from `first` on.
+/// Writes a comma and the number of each place of the set from `first` on, in ascending order. The
+/// only fault is Output. (`write_places` does the same for a list.)
 fn write_others<W: Write>(set: &Row, first: usize, out: &mut W) -> Result<(), EveryFault>
     requires { first ≤ MICRO_OPERATIONS }
     ensures fault { IfErr result IsOutside }
@@ -54,7 +56,8 @@ fn write_others<W: Write>(set: &Row, first: usize, out: &mut W) -> Result<(), Ev
     Ok(())
 }
 
-/// Writes a comma and the number of each of these places.
+/// Writes a comma and the number of each of these places, in their order. The only fault is Output.
+/// (`write_others` does the same for a row.)
 fn write_places<W: Write>(places: &[u32], out: &mut W) -> Result<(), EveryFault>
     ensures fault { IfErr result IsOutside }
     ensures text { OnOk result (Appends (W.contents out.old) (W.contents out.new)
@@ -66,8 +69,9 @@ fn write_places<W: Write>(places: &[u32], out: &mut W) -> Result<(), EveryFault>
     Ok(())
 }
 
-/// Writes the places as a JSON array and a line feed. The array of no places is `[]`. Allocates
-/// nothing. After a fault a part of the line may be written.
+/// Writes the places, in their order, as a JSON array and a line feed. The array of no places is
+/// `[]`. It allocates nothing. The only fault is Output; then a part of the line may be written.
+/// (`write_set` does the same for a row.)
 pub fn write_pick<W: Write>(places: &[u32], out: &mut W) -> Result<(), EveryFault>
     ensures fault { IfErr result IsOutside }
     ensures text { OnOk result (Appends (W.contents out.old) (W.contents out.new)
@@ -87,8 +91,9 @@ pub fn write_pick<W: Write>(places: &[u32], out: &mut W) -> Result<(), EveryFaul
     }
 }
 
-/// Writes the set as a JSON array and a line feed. The array of an empty set is `[]`. Allocates
-/// nothing. After a fault a part of the line may be written.
+/// Writes the places of the set, ascending, as a JSON array and a line feed. The array of an empty
+/// set is `[]`. It allocates nothing. The only fault is Output; then a part of the line may be
+/// written. (`write_pick` does the same for a list.)
 pub fn write_set<W: Write>(set: &Row, out: &mut W) -> Result<(), EveryFault>
     ensures fault { IfErr result IsOutside }
     ensures text { OnOk result (Appends (W.contents out.old) (W.contents out.new)
@@ -104,8 +109,8 @@ pub fn write_set<W: Write>(set: &Row, out: &mut W) -> Result<(), EveryFault>
     Ok(())
 }
 
-/// Writes these sets, each as a line. Allocates nothing. After a fault some of the lines may be
-/// written.
+/// Writes these sets, in their order, each as a line. It allocates nothing. The only fault is
+/// Output; then some of the lines may be written.
 pub fn write_rows<W: Write>(sets: &[Row], out: &mut W) -> Result<(), EveryFault>
     ensures fault { IfErr result IsOutside }
     ensures text { OnOk result (Appends (W.contents out.old) (W.contents out.new)
@@ -117,8 +122,9 @@ pub fn write_rows<W: Write>(sets: &[Row], out: &mut W) -> Result<(), EveryFault>
     Ok(())
 }
 
-/// Writes all sets that the order allows, in their order, each as a line. Allocates nothing. After
-/// a fault some of the lines may be written.
+/// Writes all sets that the order allows, in the order of `Sets`, each as a line, however many
+/// there are. It allocates nothing. The only fault is Output; then some of the lines may be
+/// written.
 pub fn write_every<W: Write>(order: &Order, out: &mut W) -> Result<(), EveryFault>
     ensures fault { IfErr result IsOutside }
     ensures text { OnOk result (Appends (W.contents out.old) (W.contents out.new)

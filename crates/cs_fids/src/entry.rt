@@ -4,10 +4,13 @@ ghost use Rattle.std.specs.Prelude.{◌≡◌, option_copied};
 use crate::fid::{Fid, Opened, Walked};
 use cs_names::UserName;
 
-/// A fid in one of its two states. A method that `Fid` has too gives what that one gives.
+/// A fid in one of its two states. `run`, `pass`, `number`, `user` and `into_user` are those of the
+/// fid, in either state.
 #[derive(Debug, Drop)]
 pub enum FidEntry {
+    /// It was attached or walked to, and isn't open.
     Walked(Fid<Walked>),
+    /// It was opened, or made by a create.
     Opened(Fid<Opened>),
 }
 
@@ -45,7 +48,7 @@ impl FidEntry {
         }
     }
 
-    /// The user for whom the fid, open or not, was made; lent.
+    /// The user for whom the fid, open or not, was made: the one of its attach; lent.
     pub fn user(&self) -> &UserName
         ensures { result.now ≡ user_of self.now }
     {
@@ -55,7 +58,8 @@ impl FidEntry {
         }
     }
 
-    /// The user for whom the fid, open or not, was made; moved out.
+    /// The user for whom the fid, open or not, was made; moved out, and the rest of the fid is
+    /// dropped.
     pub fn into_user(self) -> UserName
         ensures { result ≡ user_of self }
     {
@@ -65,7 +69,7 @@ impl FidEntry {
         }
     }
 
-    /// Lends the fid if it isn't open; None if it is.
+    /// Lends the fid if it isn't open; None if it is. No command calls this.
     pub fn as_walked(&self) -> Option<&Fid<Walked>>
         ensures { option_copied result ≡ as_walked self.now }
     {

@@ -1,4 +1,4 @@
-//! Why a table of fids refused a call.
+//! The faults of a table of fids.
 ghost use Rattle.std.specs.Prelude.{◌≡◌, Some};
 ghost use Rattle.cs_fids.specs.declared.fault.FidFault.TheVariants.{Memory};
 ghost use Rattle.cs_fids.specs.Faults.{fault_text};
@@ -6,10 +6,10 @@ ghost use Rattle.cs_fids.specs.Faults.{fault_text};
 use std::alloc::AllocError;
 use std::fmt;
 
-/// Why a table of fids refused a call.
+/// Why a table of fids refused a call. A call that is refused changes no fid.
 #[derive(Clone, Copy, Debug, PartialEq, Eq)]
 pub enum FidFault {
-    /// The table has FIDS fids, so there is room for no other.
+    /// The table has FIDS fids, the most that it may have.
     TableFull,
     /// The table has no fid of this number.
     Unknown,
@@ -19,7 +19,7 @@ pub enum FidFault {
     NotOpen,
     /// The table has a fid of this number already.
     InUse,
-    /// There is no memory for one fid more.
+    /// There is no memory for one fid more. Only `reserve` has this fault.
     Memory,
 }
 

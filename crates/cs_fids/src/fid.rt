@@ -6,31 +6,37 @@ use cs_names::UserName;
 use std::alloc::AllocError;
 use std::marker::Model;
 
-/// The number that no fid has (attach(5)).
+/// The number that no fid has. In an attach it says that there is no authentication fid
+/// (attach(5)).
 pub const NOFID: u32 = 0xFFFF_FFFF;
 
 /// The state of a fid that was attached or walked to, and isn't open.
 #[derive(Clone, Copy, Debug)]
 pub struct Walked;
 
-/// The state of a fid that is open: its mode (open(5)), the number of the open in its run, and the
-/// place at which its reads of a directory continue.
+/// The state of a fid that is open (open(5)).
 #[derive(Debug, Drop)]
 pub struct Opened {
+    /// The mode of the open, with all its bits.
     pub mode: u8,
+    /// The number that the run gave to the open.
     pub open_number: u32,
+    /// The place at which the fid's reads of a directory continue; of no use for a file.
     pub place: Place,
 }
 
-/// A fid: a file of a run, for a user, in a state. `number` is the file's in the run. `run` and
-/// `pass` are indexes at the connection's port: of the run, and of the pass by which the user calls
-/// the run. Contracts see a record of these.
+/// A fid: a file of a run, for a user, in a state. Contracts see a record of its fields.
 #[derive(Debug, Drop)]
 pub struct Fid<S> {
+    // the index of its run at the connection's port
     run: u32,
+    // the index, at the port, of the pass by which the user calls the run
     pass: u32,
+    // the number of its file in the run; the file may be gone
     number: u64,
+    // the user of the attach from which it comes
     user: UserName,
+    // `Walked` or `Opened`
     state: S,
 }
 
@@ -64,14 +70,14 @@ impl<S> Fid<S> {
         self.pass
     }
 
-    /// The number of the fid's file in its run.
+    /// The number of the fid's file in its run. The file may be gone by now.
     pub fn number(&self) -> u64
         ensures { result ≡ self.now.number }
     {
         self.number
     }
 
-    /// The user for whom the fid was made; lent.
+    /// The user for whom the fid was made: the one of its attach; lent.
     pub fn user(&self) -> &UserName
         ensures { result.now ≡ self.now.user }
     {
@@ -105,7 +111,8 @@ impl Fid<Walked> {
         }
     }
 
-    /// The same fid, but of another file of its run, as after a walk (walk(5)).
+    /// The same fid, but of another file of its run, as after a walk (walk(5)). Whether there is
+    /// such a file isn't checked.
     pub fn moved_to(mut self, number: u64) -> Fid<Walked>
         ensures { result ≡ moved_to self number }
     {
@@ -131,7 +138,7 @@ impl Fid<Walked> {
         }
     }
 
-    /// Copies the fid. Only the user's name takes memory.
+    /// A copy of the fid, for a walk to another fid. Only the user's name takes memory.
     pub fn try_clone(&self) -> Result<Fid<Walked>, AllocError>
         ensures { IfOk result (λ fid. fid ≡ self.now) }
     {
@@ -169,7 +176,7 @@ impl Fid<Opened> {
         &self.state.place
     }
 
-    /// The same fid, but its reads of a directory continue at this place; the old one is dropped.
+    /// The same fid, but its reads of a directory continue at this place; the old place is dropped.
     pub(crate) fn with_place(mut self, place: Place) -> Fid<Opened>
         ensures { result ≡ with_place self place }
     {

@@ -1,5 +1,5 @@
-//! Fids by number, whose states are types: a fid that was walked to, and one that is open
-//! (intro(5)).
+//! The fids of a connection by their numbers (intro(5)). The state of a fid is a type: one that was
+//! attached or walked to, and one that is open.
 #![tactic(auto)]
 
 mod entry;

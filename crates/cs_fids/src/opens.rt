@@ -1,4 +1,5 @@
-//! The numbers of a connection's open fids, from the greatest to the least.
+//! The numbers of a connection's open fids, from the greatest to the least, so that the least is
+//! the last of the vector.
 ghost use Rattle.std.specs.Prelude.{◌≡◌, ℕ, ◌<◌, ◌≤◌, ◌==◌, ◌&&◌, ◌||◌, false, length, not, true};
 ghost use Rattle.std.specs.Prelude.{vec_capacity, vec_len};
 ghost use Rattle.std.specs.List.{AllWithin};

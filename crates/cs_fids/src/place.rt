@@ -1,14 +1,16 @@
-//! The place at which the reads of a directory continue.
+//! The place at which the reads of a directory continue (read(5)).
 ghost use Rattle.std.specs.Prelude.{◌≡◌, IfOk};
 
 use cs_names::Name;
 use std::alloc::AllocError;
 
-/// The place at which the reads of a directory continue: the offset at which the last read ended,
-/// and the last name that it returned (read(5)). At the directory's start they are 0 and None.
+/// The place at which a fid's reads of a directory continue. At the directory's start it has 0 and
+/// None.
 #[derive(Debug, Drop)]
 pub struct Place {
+    /// The offset at which the last read ended, in bytes; the next one must have it, or 0.
     pub end: u64,
+    /// The last name that a read returned; None if there was none since the start.
     pub last: Option<Name>,
 }
 
@@ -22,8 +24,8 @@ impl Place {
         Place { end: 0, last: None }
     }
 
-    /// Copies the place. Only the name takes memory. The same body as `try_clone_place` of
-    /// cs_session, whose contract also says when memory can run out.
+    /// A copy of the place. Only the name takes memory. (`try_clone_place` of cs_session has the
+    /// same body; its contract also says when memory can run out.)
     pub fn try_clone(&self) -> Result<Place, AllocError>
         ensures { IfOk result (λ place. place ≡ self.now) }
     {

@@ -1,5 +1,5 @@
 //! The slot of a fid in a table. A call that changes the entry moves it out and puts it back before
-//! it returns, so no call meets a slot without an entry.
+//! it returns, so no call finds a slot without an entry.
 ghost use Rattle.std.specs.Prelude.{◌≡◌, OnErr, IfOk, Some};
 
 use crate::entry::FidEntry;

@@ -65,7 +65,7 @@ impl FidTable {
         self.fids.len()
     }
 
-    /// Lends the entry of the fid; None if the table has no such fid, as for NOFID.
+    /// Lends the entry of the fid; None if the table has no such fid. It never has NOFID.
     pub fn entry_of(&self, fid: u32) -> Option<&FidEntry>
         ensures value { option_copied result ≡ fid_at self.now fid }
         ensures nofid { fid ≡ NOFID → IsNone result }
@@ -76,7 +76,8 @@ impl FidTable {
         }
     }
 
-    /// The least number of an open fid; None if no fid is open.
+    /// The least number of an open fid; None if no fid is open. When a session ends, its fids are
+    /// closed in this order.
     pub fn least_open(&self) -> Option<u32>
         ensures least { result ≡ least_open self.now.fids }
         ensures found { IfSome result (λ fid. IsOk (opened_in (fid_at self.now fid))) }
@@ -85,7 +86,7 @@ impl FidTable {
     }
 
     /// Whether `put` may add one fid more: there are fewer than FIDS, and memory for it is
-    /// reserved.
+    /// reserved. No command asks this: `reserve` makes it so.
     pub fn has_room(&self) -> bool
         ensures { IsTrue result ↔ (0 < self.now.room) }
     {
@@ -114,9 +115,9 @@ impl FidTable {
         Ok(())
     }
 
-    /// Adds the fid with this entry. The table must have room, and the number must not be NOFID. If
-    /// the table has that fid already, the error is InUse, the new entry is returned, and the table
-    /// is unchanged. It takes no memory.
+    /// Adds the fid with this entry. The table must have room (`has_room`; `reserve` makes it), and
+    /// the number must not be NOFID. If the table has that fid already, the error is InUse, the new
+    /// entry is returned, and the table is unchanged. It takes no memory.
     pub fn put(&mut self, fid: u32, entry: FidEntry) -> Result<(), (FidFault, FidEntry)>
         requires room { 0 < self.old.room }
         requires named { fid ≢ NOFID }
@@ -142,7 +143,8 @@ impl FidTable {
     }
 
     /// Removes the fid, open or not, and returns its entry. If the table has no such fid, the error
-    /// is Unknown and the table is unchanged.
+    /// is Unknown and the table is unchanged. An open of the fid stays open in its run: the caller
+    /// must close it.
     pub fn take_any(&mut self, fid: u32) -> Result<FidEntry, FidFault>
         ensures value { result ≡ ok_or (fid_at self.old fid) FidFault.Unknown }
         ensures fids { OnOk result (self.new.fids ≡ remove self.old.fids fid) }
@@ -197,9 +199,9 @@ impl FidTable {
         }
     }
 
-    /// Opens the fid in this mode; `open_number` is the number that its run gave to the open. The
-    /// error is Unknown if the table has no such fid, AlreadyOpen if the fid is open; then the
-    /// table is unchanged. It takes no memory.
+    /// Marks the fid as open in this mode; `open_number` is the number that its run gave to the
+    /// open. The error is Unknown if the table has no such fid, AlreadyOpen if the fid is open;
+    /// then the table is unchanged. It takes no memory.
     pub fn open(&mut self, fid: u32, mode: u8, open_number: u32) -> Result<(), FidFault>
         ensures faults { FailsAs result (walked_in (fid_at self.old fid)) }
         ensures fids { IfOk (walked_in (fid_at self.old fid))
@@ -251,7 +253,8 @@ impl FidTable {
         slot.set_place(place)
     }
 
-    /// Removes every fid, open or not. The reserved memory stays reserved.
+    /// Removes every fid, open or not. The reserved memory stays reserved. Opens stay open in their
+    /// runs: the caller must close them first.
     pub fn clear(&mut self)
         ensures fids { self.new.fids ≡ empty }
         ensures room { self.old.room ≤ self.new.room }

@@ -14,12 +14,15 @@ pub const FAULT: u8 = 1;
 /// The bytes of each file that the command line names. Empty for a file that it doesn't name.
 #[derive(Drop)]
 pub struct InputFiles {
+    /// Of a file, or of standard input.
     trace: Vec<u8>,
+    /// Empty without `--picks`.
     picks: Vec<u8>,
+    /// As `bytes_of_users` has them.
     users: Vec<u8>,
 }
 
-/// Prints that the program is out of memory, and returns the status.
+/// Prints on standard error that the program is out of memory, and returns the status, FAULT.
 pub fn out_of_memory(rt: &impl Eprint) -> u8
     ensures { result ≡ 1 }
 {
@@ -29,7 +32,7 @@ pub fn out_of_memory(rt: &impl Eprint) -> u8
 
 /// The bytes of the file at the path. Room for its size is reserved at once, and one byte for the
 /// read that finds the end. If there are more bytes, as in a pipe, which has no size, the room
-/// grows.
+/// grows. The error is the file's, or out of memory.
 fn bytes_of_file<R: Files + AllocGlobal>(rt: &R, path: &str) -> io::Result<Vec<u8>> {
     let mut file = File::open(rt, path)?;
     let size = file.metadata()?.len();
@@ -39,9 +42,9 @@ fn bytes_of_file<R: Files + AllocGlobal>(rt: &R, path: &str) -> io::Result<Vec<u
     Ok(bytes)
 }
 
-/// The bytes that were read from the file at the path. If they couldn't be read, the status, after
-/// two lines on `err`: that the file can't be read, and why. If memory ran out, only that is
-/// printed, on standard error.
+/// The bytes that were read from the file at the path. If they couldn't be read, the error is the
+/// status, after two lines on `err`: that the file can't be read, and why. If memory ran out, only
+/// that is printed, on standard error.
 fn bytes_or_status<R: Eprint, E: Write>(
     rt: &R,
     path: &str,
@@ -61,7 +64,7 @@ fn bytes_or_status<R: Eprint, E: Write>(
     }
 }
 
-/// All bytes of standard input.
+/// All bytes of standard input, to its end. The error is that of a read, or out of memory.
 fn read_input<R: Input + AllocGlobal>(rt: &R) -> io::Result<Vec<u8>> {
     let mut bytes = Vec::new(rt.alloc());
     rt.reader().read_to_end(&mut bytes)?;
@@ -132,8 +135,8 @@ fn bytes_of_users<R: Files + Eprint + AllocGlobal, E: Write>(
 }
 
 impl InputFiles {
-    /// Reads the trace, the picks and the users, in this order. The error is the status if one
-    /// can't be read, after its lines on `err`.
+    /// Reads the trace, the picks and the users, in this order. The error is the status, FAULT, if
+    /// one can't be read, after its lines on `err`; the files after it aren't read.
     pub fn read<R: Files + Input + Eprint + AllocGlobal, E: Write>(
         rt: &R,
         ask: &Ask,

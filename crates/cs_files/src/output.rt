@@ -5,7 +5,9 @@ use std::io::{self, ErrorKind, Write};
 /// A writer that keeps the last fault of its writes and flushes.
 #[derive(Drop)]
 pub struct Output<W: Drop> {
+    /// Standard output, buffered.
     writer: W,
+    /// Of the last write or flush that failed and wasn't only interrupted.
     fault: Option<io::Error>,
 }
 
@@ -27,14 +29,14 @@ impl<W: Write + Drop> Output<W> {
         }
     }
 
-    /// Why the last write or flush that failed did so. None if none failed, or if those that did
-    /// were only interrupted.
+    /// The error of the last write or flush that failed; one that was only interrupted doesn't
+    /// count. None if none failed.
     pub fn fault(&self) -> Option<&io::Error> {
         self.fault.as_ref()
     }
 
-    /// Keeps the fault, and returns another of the same kind. An interrupted write isn't kept: it
-    /// is tried again.
+    /// Keeps the fault, and returns another of the same kind, without its text, because the fault
+    /// itself is kept. An interrupted write isn't kept: it is tried again.
     fn keep_fault(&mut self, error: io::Error) -> io::Error {
         let kind = error.kind();
         if kind != ErrorKind::Interrupted {

@@ -5,7 +5,7 @@ use Rattle.cs_tree_model.specs.declared.record.MetadataBuf.{MetadataBuf}
 use Rattle.cs_tree_model.specs.declared.record.Record.{Record}
 use Rattle.cs_tree_model.specs.Tree.{Path, path_cmp, Tree, IsTree}
 
--- the metadata of a record that was never changed: its owner is the last who changed it
+-- the metadata of a record as if it was never changed: its owner counts as the last who changed it
 abbrev pub fresh_metadata : ℕ → MetadataBuf → MetadataBuf
 fresh_metadata n m = record m { number = n; vers = 0; atime = 0; mtime = 0; muid = m.owner }
 

@@ -1,4 +1,5 @@
-//! A tree read with fresh numbers.
+//! A tree read with fresh numbers. "Here" means in the fresh numbers, "the tree" is the one that
+//! was frozen.
 ghost use Rattle.std.specs.Prelude.{◌≡◌, ℕ, slice_get, IfErr, IfOk};
 ghost use Rattle.cs_tree_model.specs.Fresh.{fresh};
 ghost use Rattle.cs_tree_model.specs.Record.{metadata_of_ref};
@@ -11,10 +12,10 @@ use cs_tree_model::{ListedEntry, Metadata, TreeRead};
 use std::alloc::{AllocError, Global};
 use std::marker::Model;
 
-/// A tree that no longer changes, read as if nothing had ever changed it: each number is the place
-/// of the file's path in the order of the paths (the root's is 0), versions and times are 0, and
-/// the last writer of a file is its owner. In addition to the tree, it takes 8 bytes for each file
-/// and for each number that the tree gave.
+/// No command uses it. A tree that no longer changes, read as if nothing had ever changed it. Each
+/// number is the place of the file's path in the order of the paths (the root's is 0). Versions and
+/// times are 0, and the last writer of a file is its owner. In addition to the tree, it takes 8
+/// bytes for each file, and 8 for each number that the tree ever gave.
 #[derive(Drop)]
 pub struct Lower<T: TreeRead> {
     tree: T,
@@ -40,7 +41,8 @@ impl<T: TreeRead> Model for Lower<T> {
 }
 
 impl<T: TreeRead> Lower<T> {
-    /// The tree with its two tables of numbers, which `number_tables` has made from it.
+    /// The tree with its two tables of numbers, which `number_tables` has made from this very tree.
+    /// It takes no memory.
     fn of(tree: T, numbers: Vec<u64>, places: Vec<u64>) -> Lower<T>
         requires { IsNumbered (T.tree tree) numbers.items places.items }
         ensures { result ≡ fresh (T.tree tree).files }
@@ -53,9 +55,9 @@ impl<T: TreeRead> Lower<T> {
     }
 }
 
-/// The tree, read as if nothing had ever changed it. No record and no byte of a file is copied:
-/// only the two tables of numbers take memory, and for a time the paths that they are made from.
-/// The error is out of memory, as in `number_tables`, and returns the tree.
+/// No command calls this. The tree, read as if nothing had ever changed it. No record and no byte
+/// of a file is copied: only the two tables of numbers take memory, and for a time the paths that
+/// they are made from. If memory runs out, the error returns the tree.
 pub fn freeze<T: TreeRead>(alloc: Global, tree: T) -> Result<Lower<T>, (T, AllocError)>
     ensures ok { IfOk result (λ lower. lower ≡ fresh (T.tree tree).files) }
     ensures err { IfErr result (λ back. back.0 ≡ tree) }
@@ -132,7 +134,7 @@ impl<T: TreeRead> TreeRead for Lower<T> {
     }
 
     /// Reads the file in the tree: its bytes are the same here. None if the number is a directory's
-    /// or no file's.
+    /// or no file's. The only error is that memory runs out.
     fn read_at(
         &self,
         alloc: Global,

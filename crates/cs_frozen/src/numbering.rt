@@ -11,8 +11,8 @@ use cs_tree_model::{TreeRead, path_of};
 use std::alloc::{AllocError, Global};
 use std::collections::BTreeMap;
 
-/// Inserts the number under its path; does nothing if `path` is None, as it is for a number whose
-/// file was removed. After an error the caller gives the map up.
+/// Inserts the number under its path. If `path` is None, as for a number whose file was removed,
+/// nothing happens. The only error is that memory runs out; the caller then drops the map.
 fn insert_if_some(
     paths: &mut BTreeMap<Path, u64>,
     path: Option<Path>,
@@ -31,7 +31,7 @@ fn insert_if_some(
 }
 
 /// The numbers of a tree's files by their paths. Each number below `end` is looked up, and the
-/// caller's `end` is above all numbers of files.
+/// caller's `end` is above all numbers of files. The only error is that memory runs out.
 fn numbers_by_path<T: TreeRead>(
     alloc: Global,
     tree: &T,
@@ -50,8 +50,8 @@ fn numbers_by_path<T: TreeRead>(
     Ok(paths)
 }
 
-/// The numbers in the order of their paths. Memory is reserved once, for `count` of them, which the
-/// caller has from the tree.
+/// The numbers in the order of their paths. Memory is reserved once, for `count` of them: the
+/// tree's count of files. The only error is that memory runs out.
 fn numbers_in_order(
     alloc: Global,
     paths: &BTreeMap<Path, u64>,
@@ -67,8 +67,9 @@ fn numbers_in_order(
     Ok(numbers)
 }
 
-/// A table of `end` items that finds a number's place in `numbers`: at n it has the place of n, or
-/// 0 if n isn't one of them. The caller's numbers are all different and below `end`.
+/// A table of `end` items that finds a number's place in `numbers`: at index n it has the place of
+/// n, or 0 if n isn't one of them. The caller's numbers are all different and below `end`. The only
+/// error is that memory runs out.
 fn places_of(alloc: Global, numbers: &[u64], end: u64) -> Result<Vec<u64>, AllocError>
     requires below { (i : ℕ) (n : ℕ) → slice_get numbers.now i ≡ Some n → n < end }
     requires apart { (i : ℕ) (j : ℕ) (n : ℕ) → slice_get numbers.now i ≡ Some n
@@ -84,9 +85,9 @@ fn places_of(alloc: Global, numbers: &[u64], end: u64) -> Result<Vec<u64>, Alloc
     Ok(places)
 }
 
-/// Two tables: the tree's number at each fresh number, and the fresh number at each of the tree's.
-/// The error is out of memory, also if the tree has given every u64 as a number: then the second
-/// table would be larger than any memory.
+/// Two tables: the tree's number at each fresh number, and the fresh number at each of the tree's
+/// (0 at a number that no file has). The only error is that memory runs out, also if the tree has
+/// given every u64 as a number: then the second table would be larger than any memory.
 pub fn number_tables<T: TreeRead>(
     alloc: Global,
     tree: &T,

@@ -5,7 +5,8 @@ ghost use Rattle.std.specs.Io.KnownBytes.{Keeps};
 use std::fmt;
 use std::io::Write;
 
-/// Flushes `out`. If that fails after all else was done, the result is the fault `unflushed`.
+/// Flushes `out`, also after a fault. The result is `done`; but `unflushed` if `done` is Ok and the
+/// flush fails.
 fn flush_after<F: Drop, W: Write>(done: Result<(), F>, unflushed: F, out: &mut W) -> Result<(), F>
     ensures done { result ≡ Ok tt → done ≡ Ok tt }
     ensures kept { Keeps (W.contents out.old) (W.contents out.new) }
@@ -25,7 +26,7 @@ fn flush_after<F: Drop, W: Write>(done: Result<(), F>, unflushed: F, out: &mut W
 
 /// The status of a command that ended with `done`: 0, or 1 if it failed, which one line on `err`
 /// reports. `out` is flushed first; if only the flush fails, the fault is `unflushed`. A failed
-/// write to `err` is passed over.
+/// write to `err` is ignored. What was written to `out` stays.
 pub fn exit_status<F: fmt::Display + Drop, W: Write, E: Write>(
     done: Result<(), F>,
     unflushed: F,

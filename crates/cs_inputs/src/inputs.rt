@@ -19,12 +19,16 @@ use cs_trace::{Trace, TraceFaultKind, read_trace};
 use cs_users::{Users, UsersFault};
 use std::alloc::Global;
 
-/// What the command line gave: the bytes of each file that it named, none of one that it didn't
-/// name.
+/// What the command line gave: the bytes of each file that it named; no bytes for a file that it
+/// didn't name.
 #[derive(Clone, Copy, Debug)]
 pub struct Inputs<'a> {
+    /// The users file (users(6)); for `serve` without one, a file made of the trace's owners and
+    /// groups.
     pub users: &'a [u8],
+    /// One JSON object a line, which isn't checked yet.
     pub trace: &'a [u8],
+    /// Further sets, one JSON array of places a line.
     pub picks: &'a [u8],
     /// Whether the plan has states of prefixes with a hole too.
     pub holes: bool,
@@ -48,7 +52,8 @@ fn trace_of(alloc: Global, trace: &[u8]) -> Result<Trace, ProgramFault>
     }
 }
 
-/// The picks that the bytes spell. An error is the fault of the first line at fault, or Memory.
+/// The picks that the bytes of a picks file spell; none if there are no bytes. An error is the
+/// fault of the first line at fault, or Memory.
 fn picks_of(alloc: Global, picks: &[u8]) -> Result<Vec<Places>, ProgramFault>
     ensures read { IfOk result (λ read. picks_in picks.now ≡ Ok read.items) }
     ensures fault { IfErr result (IsPicksFault picks.now) }
@@ -60,7 +65,8 @@ fn picks_of(alloc: Global, picks: &[u8]) -> Result<Vec<Places>, ProgramFault>
     }
 }
 
-/// The scene of a trace and its picks. An error is Memory, or the scene's first fault.
+/// The scene of a trace and its picks. An error is Memory, or the scene's first fault: too many
+/// micro-operations, a plan that is too large, or a pick that a crash can't leave.
 fn scene_of_parts(
     alloc: Global,
     trace: Trace,
@@ -81,7 +87,7 @@ fn scene_of_parts(
 }
 
 /// The scene of the inputs. An error is Memory, or the first fault: of the trace, then of the lines
-/// of picks, and then of the scene that is made of both.
+/// of the picks file, and then of the scene that is made of both.
 pub fn scene_of(alloc: Global, inputs: &Inputs) -> Result<Scene, ProgramFault>
     ensures scene { IfOk result (IsScene inputs.now) }
     ensures refused { IfErr result (IsRefused inputs.now) }

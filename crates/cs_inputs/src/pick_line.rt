@@ -17,8 +17,8 @@ fn as_place(value: &Value) -> Option<u32>
     u32::try_from(number).ok()
 }
 
-/// JSON values as places; None unless each of them is one. No values give no places. The only error
-/// is out of memory.
+/// JSON values as places; None unless each of them is one. No values give an empty set. The only
+/// error is out of memory.
 fn as_places(alloc: Global, values: &[Value]) -> Result<Option<Places>, AllocError>
     ensures { IfOk result (λ places. places ≡ places_of (items_view values.now)) }
 {

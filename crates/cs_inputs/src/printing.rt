@@ -9,7 +9,7 @@ use std::io::Write;
 
 /// Writes a text to a stream. The error is Output if a write fails, takes no byte, or is the
 /// thousandth in a row that is interrupted. After it some of the text, from the front, was written,
-/// or none.
+/// or none. It doesn't flush.
 pub fn print<S: Stream>(stream: &mut S, text: &[u8]) -> Result<(), ProgramFault>
     ensures written { Writes result (S.contents stream.old) (S.contents stream.new) text.now }
     ensures fault { IfErr result (BlamesOutput (S.counts stream.old) (S.counts stream.new)) }
@@ -23,7 +23,8 @@ pub fn print<S: Stream>(stream: &mut S, text: &[u8]) -> Result<(), ProgramFault>
     }
 }
 
-/// Writes a text to a writer, as `print` does to a stream.
+/// Writes a text to a writer. It doesn't flush. The error is Output, as that of `print`; then some
+/// of the text was written, from the front, or none.
 pub fn print_to<W: Write>(out: &mut W, text: &[u8]) -> Result<(), ProgramFault>
     ensures { Writes result (W.contents out.old) (W.contents out.new) text.now }
 {

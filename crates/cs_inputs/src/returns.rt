@@ -5,9 +5,10 @@ ghost use Rattle.cs_inputs.specs.Returns.{HasReturnAt, IsFirstReturn, return_tex
 
 use std::fmt;
 
-/// That the line of this number ends with a carriage return, as it is printed.
+/// A note for the user: the line of this number ends with a carriage return.
 #[derive(Clone, Copy, Debug, PartialEq, Eq)]
 pub struct ReturnNote {
+    /// From 1.
     pub line: usize,
 }
 
@@ -24,7 +25,8 @@ impl fmt::Display for ReturnNote {
     }
 }
 
-/// Whether there is a carriage return at that place, and a line feed after it.
+/// Whether there is a carriage return at that place, and a line feed after it. False at the last
+/// byte.
 fn has_return_at(bytes: &[u8], place: usize) -> bool
     requires { place < length bytes.now }
     ensures { IsTrue result ↔ HasReturnAt bytes.now place }

@@ -32,18 +32,18 @@ receipt_for passes place e = find (is_at place) (receipts_of_pass passes e.pass)
 abbrev pub receipts_count : List PassOf → ℕ
 receipts_count passes = sum_by (λ p. length p.receipts) passes
 
--- among both is found the same for each place from that one on
+-- in both lists the same receipt is found for each place from `place` on
 abbrev pub FindSame : ℕ → List ReceiptOf → List ReceiptOf → Type 0
 FindSame place rest all =
     (later : ℕ) → place ≤ later → find (is_at later) rest ≡ find (is_at later) all
 
--- The receipts of the first pass of a number, but for some with places before that one. They
+-- The receipts of the first pass of a number, without some whose places are before `place`. They
 -- ascend.
 pub record IsRest (passes : List PassOf) (number place : ℕ) (rest : List ReceiptOf) : Type 0 where
   pub same : FindSame place rest (receipts_of_pass passes number)
   pub ascending : IsAscending rest
 
--- such receipts for each number
+-- such receipts for each number of a pass
 abbrev pub AreRests : {A : Type 0} → (A → List ReceiptOf) → List PassOf → List A → ℕ → Type 0
 AreRests {A} now passes rests place =
     (number : ℕ) (rest : A) → slice_get rests number ≡ Some rest
@@ -109,7 +109,7 @@ IsAudited passes journal = Audits passes journal (Ok tt)
 abbrev pub all_receipts : List PassOf → List (ℕ × ReceiptOf)
 all_receipts passes = flat_map (λ p. map (λ r. (p.number, r)) p.receipts) passes
 
--- the receipts of all entries likewise, if the first entry has that place
+-- the receipts of all entries, each with its pass's number, if the first entry has that place
 abbrev pub all_entries_from : ℕ → List EntryOf → List (ℕ × ReceiptOf)
 all_entries_from place [] = []
 all_entries_from place (e ∷ es) = (e.pass, receipt_of place e) ∷ all_entries_from (place + 1) es
@@ -129,6 +129,6 @@ abbrev pub answer_at : RunState → List EntryOf → ℕ → Option Answer
 answer_at state journal place =
     option_map (answer_to (replay state (take place journal))) (slice_get journal place)
 
--- the same of a run's journal
+-- the answer to the call of the entry at a place of a run's journal, if there is one
 abbrev pub answer_in : RunOf → ℕ → Option Answer
 answer_in r place = answer_at (first_state r) r.journal place

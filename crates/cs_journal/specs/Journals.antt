@@ -35,7 +35,7 @@ pub record RunState : Type 0 where
   pub users : List Row
   pub entries : ℕ
 
--- these four
+-- the state of this tree, these opens, these users and so many entries
 abbrev pub run_state : Tree → List OpenFile → List Row → ℕ → RunState
 run_state t os us n = record { tree = t; opens = os; users = us; entries = n }
 

@@ -52,7 +52,7 @@ call_of blocks (k.RemoveOpen open_number number user) =
 call_of blocks (k.Read count number offset) = read_call number offset count
 call_of blocks (k.Stat number) = call.Stat (record { number = number })
 
--- they are in these blocks
+-- the bytes that the kept call writes are in these blocks
 abbrev pub LiesIn : List (List ℕ) → KeptCall → Type 0
 LiesIn blocks (k.Write piece head) = IsWithin blocks piece
 LiesIn blocks other = Unit {0}
@@ -66,7 +66,7 @@ entry_in blocks e = record {
   outcome = e.outcome;
 }
 
--- they are in these blocks, and a run gives the pass
+-- the bytes of the entry's call are in these blocks, and its pass is one that a run may give
 pub record IsEntryIn (blocks : List (List ℕ)) (e : Entry) : Type 0 where
   pub few : e.pass < RUN_ATTACHES
   pub within : LiesIn blocks e.kept

@@ -6,12 +6,12 @@ use Rattle.cs_run.specs.Marks.{Ample as ample, NoGrant as no_grant}
 -- Whether memory suffices for a step on a run.
 pub data StepMark : Type 0 where
   Ample : StepMark
-  -- the growth for the entry and the receipt is refused
+  -- an allocation for the entry or the receipt fails
   NoEntry : StepMark
-  -- a growth that the grant reaches is refused
+  -- an allocation that the grant makes fails
   NoGrant : StepMark
 
--- the growth for the entry and the receipt is refused
+-- an allocation for the entry or the receipt fails
 abbrev pub refuses_entry : StepMark → Bool
 refuses_entry Ample = false
 refuses_entry NoEntry = true

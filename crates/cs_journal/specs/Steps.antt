@@ -58,8 +58,8 @@ entry_of run pass now call mark = record {
       (call_mark mark);
 }
 
--- no room in the journal is L1, and a refused growth for entry and receipt is out of memory; a call
--- whose entry is reserved reaches neither
+-- no room in the journal is L1, and a failed allocation for entry or receipt is out of memory; a
+-- call whose entry is reserved is refused by neither
 unfoldable pub step : RunOf → PassOf → ℕ → Call → StepMark → StepResult
 step run pass now call mark =
     if is_full (state_of run) pass.number call then without_entry run pass (Denied L1)

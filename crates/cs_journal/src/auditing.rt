@@ -17,14 +17,17 @@ use cs_tree_model::TreeRead;
 /// How many passes a run gives at most.
 const PASSES: usize = RUN_ATTACHES as usize;
 
-/// Why the receipts of some passes are not the entries of a run.
+/// Why the receipts of some passes are not the entries of a run. An entry's own receipt is one with
+/// its place, its call without written bytes, and its outcome, in the first pass of its number.
 #[derive(Clone, Copy, Debug, PartialEq, Eq)]
 pub enum AuditFault {
     /// There are not as many receipts as entries.
     Count,
-    /// The entry at this place is the first without its own receipt: it has none.
+    /// The entry at this place is the first without its own receipt: no receipt there has its
+    /// place.
     Missing(u32),
-    /// The entry at this place is the first without its own receipt: it has another.
+    /// The entry at this place is the first without its own receipt: the receipt there with its
+    /// place has another call or outcome.
     Changed(u32),
 }
 
@@ -43,7 +46,7 @@ fn has_count(passes: &[Pass], entries: usize) -> bool
     total == entries
 }
 
-/// The receipts of the first pass of that number; none if no pass has it.
+/// The receipts of the first pass of that number; empty if no pass has it.
 fn receipts_of(passes: &[Pass], number: u32) -> &[Receipt]
     ensures value { result.now ≡ receipts_of_pass passes.now number }
     ensures ascending { IsAscending result.now }
@@ -56,7 +59,7 @@ fn receipts_of(passes: &[Pass], number: u32) -> &[Receipt]
     &[]
 }
 
-/// For each number that a run gives to a pass, the receipts of the first pass of that number; none
+/// For each number that a run gives to a pass, the receipts of the first pass of that number; empty
 /// if no pass has it.
 fn receipts_by_number(passes: &[Pass]) -> [&[Receipt]; PASSES]
     ensures rests { AreRests (λ rest. rest.now) passes.now result 0 }
@@ -85,8 +88,8 @@ fn receipts_from(receipts: &[Receipt], place: u32) -> &[Receipt]
     &[]
 }
 
-/// The first of the receipts, if its place is this one; None if its place is later or there are no
-/// receipts. The caller has left out those at earlier places.
+/// The first of the receipts, if it is at `place`; None if it is at a later place, or if there are
+/// no receipts. The caller has left out those at earlier places.
 fn first_if_at(receipts: &[Receipt], place: u32) -> Option<&Receipt>
     requires ascending { IsAscending receipts.now }
     requires from { IfSome (slice_get receipts.now 0) (λ r. place ≤ r.place) }
@@ -115,8 +118,9 @@ fn audit_entry(receipt: Option<&Receipt>, place: u32, entry: &EntryRef) -> Resul
     }
 }
 
-/// Ok if each entry has its own receipt, else the fault of the first entry that doesn't. Each
-/// receipt is passed over once.
+/// Ok if each entry has its own receipt, else the fault of the first entry that doesn't. It goes
+/// through each list of receipts once. Receipts without an entry are no fault here: `has_count`
+/// finds them. A journal has at most JOURNAL_ENTRIES entries.
 fn audit_entries(journal: &Journal, passes: &[Pass]) -> Result<(), AuditFault>
     requires { length journal.now.items ≤ JOURNAL_ENTRIES }
     ensures { IsAudit passes.now journal.now.items result }
@@ -136,7 +140,7 @@ fn audit_entries(journal: &Journal, passes: &[Pass]) -> Result<(), AuditFault>
 }
 
 /// Ok if the receipts are the journal's entries. Count if there are not as many, else the fault
-/// that `audit_entries` finds.
+/// that `audit_entries` finds. A journal has at most JOURNAL_ENTRIES entries.
 fn audit_journal(journal: &Journal, passes: &[Pass]) -> Result<(), AuditFault>
     requires { length journal.now.items ≤ JOURNAL_ENTRIES }
     ensures { Audits passes.now journal.now.items result }

@@ -13,10 +13,13 @@ use std::marker::Model;
 /// its moment, and what is kept of it, without the bytes that it wrote.
 #[derive(Drop)]
 pub struct Entry {
-    // 8 bits, to keep an entry small
+    /// The number of the pass, below RUN_ATTACHES: 8 bits, to keep an entry small.
     pub(crate) pass: u8,
+    /// How the call ended.
     pub(crate) outcome: Outcome,
+    /// In seconds since 1970.
     pub(crate) moment: u32,
+    /// The call; if it is a write, its bytes are in the journal's `Written`.
     pub(crate) kept: KeptCall,
 }
 
@@ -24,7 +27,9 @@ pub struct Entry {
 /// how it ended.
 #[derive(Drop)]
 pub(crate) struct EntryRef<'a> {
+    /// As the journal stores it.
     pub(crate) entry: &'a Entry,
+    /// The bytes of all writes of the same journal.
     pub(crate) written: &'a Written,
 }
 
@@ -82,8 +87,8 @@ impl<'a> EntryRef<'a> {
         self.entry.kept.summary()
     }
 
-    /// Its call, to be done again, with the bytes that it writes, which are borrowed. An error
-    /// means that memory ran out.
+    /// Its call as it came, so that it can be done again; the bytes that it writes are borrowed. An
+    /// error means that memory ran out.
     pub(crate) fn again(&self, alloc: Global) -> Result<CallAgain<'a>, AllocError>
         ensures { IfOk result (λ again. again_call again ≡ self.now.call) }
     {

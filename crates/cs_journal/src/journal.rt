@@ -20,7 +20,9 @@ use std::sync::Arc;
 /// is room, and, block after block, the bytes that their calls write.
 #[derive(Drop)]
 pub(crate) struct Journal {
+    /// In the order of the calls.
     entries: Vec<Entry>,
+    /// What the writes among them wrote.
     written: Written,
 }
 
@@ -60,8 +62,8 @@ impl Journal {
         self.entries.len()
     }
 
-    /// Makes room for `more` entries, as `widen` of `room` does for any list. An error leaves the
-    /// entries as they are.
+    /// Makes room for `more` entries, as `widen` of `room` does for any list. The error is out of
+    /// memory; the entries are as they were.
     #[inline]
     pub(crate) fn widen(&mut self, more: usize) -> Result<(), AllocError>
         ensures items { self.new.items ≡ self.old.items }
@@ -73,7 +75,8 @@ impl Journal {
     }
 
     /// Stores the bytes of a write, and returns what its entry and its receipt keep of it, in this
-    /// order. It adds no entry; an error leaves the entries as they are.
+    /// order. It adds no entry. The error is out of memory; the entries are as they were, and bytes
+    /// that no entry has may stay.
     pub(crate) fn keep_write(
         &mut self,
         alloc: Global,

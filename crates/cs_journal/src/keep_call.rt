@@ -30,8 +30,9 @@ pub(crate) fn is_write(call: &Call<'_>) -> bool
     }
 }
 
-/// The call in an Arc, for its entry and its receipt to share. The call isn't a write, so it
-/// borrows no bytes.
+/// The call in an Arc, for its entry and its receipt to share. The error is out of memory, and the
+/// call is dropped. The caller has checked that the call isn't a write (`is_write`), so it borrows
+/// no bytes.
 pub(crate) fn share(alloc: Global, call: Call<'_>) -> Result<Arc<Call<'static>>, AllocError>
     requires { is_write call ≡ false }
     ensures { IfOk result (λ shared. arc_value shared ≡ call.entry) }
@@ -53,8 +54,9 @@ pub(crate) fn share(alloc: Global, call: Call<'_>) -> Result<Arc<Call<'static>>,
 }
 
 /// What the entry and the receipt of a call keep, in this order: the Arc if `shared` has one, the
-/// stored bytes of a write, or a small call itself, for which memory can't run out. An error takes
-/// no blank text, and leaves the journal's entries as they are.
+/// stored bytes of a write, or the fields of a small call (`is_small`), for which memory can't run
+/// out. A close or a remove takes two of the blank texts. The error is out of memory; no blank text
+/// is taken then, and the journal's entries are as they were.
 #[inline]
 pub(crate) fn keep_call(
     alloc: Global,

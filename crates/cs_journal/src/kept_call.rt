@@ -17,8 +17,11 @@ use std::sync::Arc;
 /// What is kept of a write in addition to its bytes.
 #[derive(Drop)]
 pub(crate) struct WriteHead {
+    /// The file's number.
     pub(crate) number: u64,
+    /// In bytes, as the call has it.
     pub(crate) offset: u64,
+    /// For whom it was written.
     pub(crate) user: UserText,
 }
 
@@ -28,11 +31,14 @@ pub(crate) struct WriteHead {
 // a variant's short fields come first, next to its tag
 #[derive(Drop)]
 pub(crate) enum KeptCall {
+    /// Any call without a form below, shared by entry and receipt.
     Shared(Arc<Call<'static>>),
+    /// A write: the place of its bytes, and its other fields.
     Write {
         piece: Piece,
         head: Arc<WriteHead>,
     },
+    /// A close, with the number of the open that it ends.
     Close {
         open_number: u32,
         user: Box<UserText>,
@@ -54,13 +60,16 @@ pub(crate) enum KeptCall {
         number: u64,
         offset: u64,
     },
+    /// A stat of the file of that number.
     Stat(u64),
 }
 
-/// A call that is done again: made from what an entry keeps, or the one that it shares.
+/// A call that is done again: made from what an entry keeps, or borrowed from the entry.
 #[derive(Drop)]
 pub(crate) enum CallAgain<'a> {
+    /// Made from what the entry keeps.
     Own(Call<'a>),
+    /// Borrowed from the entry, which has the whole call.
     Shared(&'a Call<'static>),
 }
 
@@ -68,8 +77,9 @@ impl KeptCall {
     ghost use Rattle.cs_journal.specs.Kept.{LiesIn, again_call, call_of};
     ghost use Rattle.cs_journal.specs.Summaries.{call_in, without_bytes};
 
-    /// What an entry or a receipt keeps of a small call (`is_small`). A close or a remove takes the
-    /// last of the blank texts, for the name of its user; other calls take none.
+    /// What an entry or a receipt keeps of a call that the caller has found small (`is_small`). A
+    /// close or a remove takes the last of the blank texts, for the name of its user; other calls
+    /// take none. `blanks` has at least one.
     pub(crate) fn of_small(call: &Call<'_>, blanks: &mut Vec<Box<UserText>>) -> KeptCall
         requires small { is_small call.now ≡ true }
         requires blank { 1 ≤ vec_len blanks.old }
@@ -100,7 +110,8 @@ impl KeptCall {
     }
 
     /// The call, to be done again. A write's bytes are borrowed from `written`, a shared call from
-    /// `self`. An error means that memory ran out.
+    /// `self`. An error means that memory ran out. `written` is that of the journal that keeps the
+    /// call.
     pub(crate) fn again<'a>(
         &'a self,
         alloc: Global,
@@ -179,7 +190,7 @@ fn user_text_of(blanks: &mut Vec<Box<UserText>>, user: &UserName) -> Box<UserTex
     }
 }
 
-/// The close that was kept as this open's number and this user.
+/// The close that was kept as this open's number and this user. The error is out of memory.
 fn close_again(
     alloc: Global,
     open_number: u32,
@@ -192,7 +203,7 @@ fn close_again(
 }
 
 /// The remove that was kept as this file's number, this user, and the number of the open that it
-/// ends (None if its fid isn't open).
+/// ends (None if its fid isn't open). The error is out of memory.
 fn remove_again(
     alloc: Global,
     number: u64,
@@ -209,7 +220,7 @@ fn remove_again(
     })))
 }
 
-/// The write that was kept as this head and these bytes.
+/// The write that was kept as this head and these bytes. The error is out of memory.
 fn write_again<'a>(
     alloc: Global,
     head: &WriteHead,
@@ -237,7 +248,7 @@ fn read_again(number: u64, offset: u64, count: u32) -> Call<'static>
     })
 }
 
-/// What is kept of a remove. `user` is a text with the name of its user.
+/// What is kept of a remove. `user` must be a text with the name of its user.
 fn kept_remove(call: &RemoveCall, user: Box<UserText>) -> KeptCall
     requires { user.value ≡ call.now.user }
     ensures value { (blocks : List (List ℕ)) → call_of blocks result ≡ Remove call.now }
@@ -257,6 +268,7 @@ fn kept_remove(call: &RemoveCall, user: Box<UserText>) -> KeptCall
 }
 
 /// Whether the place is the start of a directory, from which a read begins with the first entry.
+/// Every fid on a file has this place, too.
 fn is_listing_start(place: &Place) -> bool
     ensures { result ≡ is_listing_start place.now }
 {
@@ -264,8 +276,8 @@ fn is_listing_start(place: &Place) -> bool
 }
 
 /// Whether an entry can keep the call in memory that was allocated before: a close, a remove, a
-/// stat, or a read whose place is the start, as that of every read of a file is. (`of_small` has
-/// the same kinds.)
+/// stat, or a read whose place is the start, as that of every read of a file is.
+/// `KeptCall::of_small` has the same kinds: change both.
 pub(crate) fn is_small(call: &Call<'_>) -> bool
     ensures { result ≡ is_small call.now }
 {

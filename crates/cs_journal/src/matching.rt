@@ -1,4 +1,4 @@
-//! Whether a pass is one of a run's, at its present state.
+//! Whether a pass is one that a run gave, with all receipts that it should have by now.
 ghost use Rattle.std.specs.Prelude.{◌≡◌, ◌↔◌, IsTrue};
 ghost use Rattle.cs_journal.specs.Fitting.{Tallies, receipt_at};
 ghost use Rattle.cs_journal.specs.Runs.{Fits, last_of};
@@ -10,8 +10,8 @@ use crate::receipt::Receipt;
 use crate::run::Run;
 use cs_tree_model::TreeRead;
 
-/// Whether the last receipt is that of the entry at the place `last`. If the journal has no such
-/// entry, or `last` is None, whether there are no receipts.
+/// Whether the last receipt is that of the entry at the place `last`. If `last` is None, or the
+/// journal has no such entry: whether there are no receipts.
 fn is_last(receipts: &[Receipt], journal: &Journal, last: Option<u32>) -> bool
     ensures { IsTrue result ↔ (last_of receipts.now ≡ receipt_at journal.now.items last) }
 {
@@ -29,8 +29,9 @@ fn is_last(receipts: &[Receipt], journal: &Journal, last: Option<u32>) -> bool
     }
 }
 
-/// Whether what a run counts of a pass fits this pass: it has as many receipts and as many reserved
-/// places, and its last receipt is that of the last entry counted.
+/// Whether what a run counts of a pass is true of this pass: it has as many receipts as entries are
+/// counted and as many reserved places as opens, and its last receipt is that of the last entry
+/// counted.
 fn are_counts_of(counts: &PassCounts, journal: &Journal, pass: &Pass) -> bool
     ensures { IsTrue result ↔ Tallies counts.now journal.now.items pass.now }
 {

@@ -6,14 +6,19 @@ use crate::receipt::Receipt;
 use crate::user_text::UserText;
 use std::marker::Model;
 
-/// What a client of a run holds: a number, a receipt of each of its entries, and reserved places
-/// for the receipts of its opens' closes. Contracts see these three.
+/// What one attach to a run gives its client: a number, a receipt of each entry that came under it,
+/// and reserved places for the receipts of its opens' closes. Each step of the run takes it, and
+/// adds to it. Contracts see these three.
 #[derive(Drop)]
 pub struct Pass {
+    /// Among the passes of its run, from 0.
     pub(crate) number: u32,
+    /// In the order of the journal.
     pub(crate) receipts: Vec<Receipt>,
+    /// How many opens it has: for the close of each, the receipts have room.
     pub(crate) reserved: usize,
-    /// For the users of the closes to come, in their entries and in their receipts.
+    /// Texts for the users of the closes to come, two for each: one for its entry, and one for its
+    /// receipt.
     pub(crate) blanks: Vec<Box<UserText>>,
 }
 
@@ -41,7 +46,8 @@ impl Pass {
         self.number
     }
 
-    /// The receipts of the pass's entries, in the order of the journal.
+    /// The receipts of the pass's entries, in the order of the journal. Empty if no entry came
+    /// under it.
     pub fn receipts(&self) -> &[Receipt]
         ensures value { result.now ≡ self.now.receipts }
         ensures ascending { IsAscending self.now.receipts }
@@ -49,7 +55,7 @@ impl Pass {
         self.receipts.as_slice()
     }
 
-    /// How many places are reserved for receipts of closes to come.
+    /// How many places are reserved for receipts of closes to come. For tests: no command calls it.
     pub fn reserved(&self) -> usize
         ensures { result ≡ self.now.reserved }
     {

@@ -13,8 +13,11 @@ use std::marker::Model;
 /// it wrote, and how it ended.
 #[derive(Drop)]
 pub struct Receipt {
+    /// The call; of a write the bytes aren't looked at.
     pub(crate) kept: KeptCall,
+    /// The entry's place in the journal.
     pub(crate) place: u32,
+    /// How the call ended.
     pub(crate) outcome: Outcome,
 }
 
@@ -70,7 +73,8 @@ impl Receipt {
         self.outcome
     }
 
-    /// Whether its call is this one. The bytes of two writes aren't compared.
+    /// Whether its call is this one: of the same kind, with the same fields. The bytes of two
+    /// writes aren't compared. For tests: no command calls it.
     pub fn is_for(&self, call: &Call<'_>) -> bool
         ensures { IsTrue result ↔ (self.now.call ≡ without_bytes call.now) }
     {

@@ -1,5 +1,6 @@
 //! The answer to an entry's call, by doing the calls of a journal again, on a tree and opens made
-//! for this. After an error these are dropped, so no contract says what the error leaves.
+//! for this. After an error these are dropped, so no contract says what the error leaves. Library
+//! surface: no command calls `answer_at`.
 ghost use Rattle.std.specs.Prelude.{◌≡◌, ◌<◌, ◌≤◌, ◌^◌, ℕ, IfOk, length};
 ghost use Rattle.std.specs.Arc.{arc_value};
 ghost use Rattle.cs_names.specs.declared.limits.TheConstants.{JOURNAL_ENTRIES};
@@ -26,8 +27,9 @@ use cs_users::Users;
 use std::alloc::{AllocError, Global};
 use std::sync::Arc;
 
-/// Releases the open that the call ends, if there is such an open. (`Opens::release_if` of cs_run,
-/// which `act` uses for a call that isn't granted, is private there.)
+/// Releases the open that the call ends, if there is such an open. It does the same as
+/// `Opens::release_if` of cs_run, which is private there, and which `act` uses for a call that
+/// isn't granted: change both.
 fn release_ended(call: &Call<'_>, opens: &mut Opens, pass: u32)
     ensures { opens.new.items
         ≡ opens_without_if (closed_open_number call.now) pass opens.old.items }
@@ -39,7 +41,8 @@ fn release_ended(call: &Call<'_>, opens: &mut Opens, pass: u32)
 }
 
 /// Does a call again that was granted before. On the same tree no rule denies it now either, so any
-/// other outcome than Granted means that memory ran out.
+/// other outcome than Granted means that memory ran out, which is the error. The caller keeps to
+/// what `act` requires.
 fn grant_again<T: TreeStore>(
     alloc: Global,
     call: &Call<'_>,
@@ -62,7 +65,9 @@ fn grant_again<T: TreeStore>(
 }
 
 /// Does a call again, with the outcome that it had, and returns its answer. A call that was denied
-/// or ran out of memory only releases the open that it ends.
+/// or Short only releases the open that it ends. The error is out of memory now, and not the
+/// outcome of then. Versions and numbers must not overflow, and the turn's place must be above all
+/// opens, as `act` requires.
 fn redo<T: TreeStore>(
     alloc: Global,
     call: &Call<'_>,
@@ -92,7 +97,8 @@ fn redo<T: TreeStore>(
     }
 }
 
-/// Does the call of the entry at that place again, and returns its answer.
+/// Does the call of the entry at that place again, and returns its answer. The error is out of
+/// memory. The entries before it have been done, so that its place is above all opens.
 fn redo_entry<T: TreeStore>(
     alloc: Global,
     entry: EntryRef,
@@ -114,7 +120,9 @@ fn redo_entry<T: TreeStore>(
     }
 }
 
-/// As `Run::answer_at`, for a run's journal, its users, and `lower`, the tree with which it began.
+/// The answer that `Run::answer_at` returns, for a run's journal, its users, and `lower`, the tree
+/// with which it began. None if the journal has no such place. The error is out of memory. `lower`
+/// must be a tree that `can_grow` accepts.
 fn answer_of<L: TreeRead + Drop>(
     alloc: Global,
     lower: &Arc<L>,
@@ -142,9 +150,10 @@ fn answer_of<L: TreeRead + Drop>(
 }
 
 impl<L: TreeRead + Drop> Run<L> {
-    /// The answer to the call of the journal's entry at that place; None if there is no such entry.
-    /// The calls up to this one, it included, are done again over the tree with which the run
-    /// began, without a copy of the tree. An error means that memory ran out.
+    /// Library surface: no command calls it. The answer to the call of the journal's entry at that
+    /// place; None if there is no such entry. The calls up to this one, it included, are done again
+    /// over the tree with which the run began, without a copy of the tree. An error means that
+    /// memory ran out.
     pub fn answer_at(&self, alloc: Global, place: usize) -> Result<Option<Answer>, AllocError>
         ensures { IfOk result (λ answer. answer ≡ answer_in self.now place) }
     {

@@ -40,8 +40,9 @@ fn opens_one(call: &Call<'_>) -> bool
     }
 }
 
-/// How many entries a call takes that aren't reserved: 0 if it ends an open that is there, whose
-/// close had one reserved; 2 for an open or a create, one of them for the close; else 1.
+/// How many entries a call takes besides those that are reserved. 0 if it ends an open that is
+/// there: an entry is reserved for that. 2 for an open or a create: one is reserved for the close.
+/// Else 1.
 pub(crate) fn charge_of(call: &Call<'_>, opens: &Opens, pass: u32) -> usize
     ensures value { result ≡ charge opens.now.items pass call.now }
     ensures few { result ≤ 2 }
@@ -54,8 +55,8 @@ pub(crate) fn charge_of(call: &Call<'_>, opens: &Opens, pass: u32) -> usize
     if opens_one(call) { 2 } else { 1 }
 }
 
-/// Allocates blank texts until there are at least `count`. If memory runs out, those that it made
-/// stay.
+/// Allocates blank texts until there are at least `count`. The error is out of memory; the texts
+/// that it made before stay.
 #[inline]
 fn fill_blanks(
     alloc: Global,
@@ -74,7 +75,7 @@ fn fill_blanks(
 
 /// Makes room for `more` elements in a list that has too little. A long list gets room for a whole
 /// journal at once, if there is memory, so that it isn't copied again: the operating system
-/// provides no page for the unused part. An error leaves the elements as they are.
+/// provides no page for the unused part. The error is out of memory; the elements are as they were.
 #[inline(never)]
 fn grow<T>(list: &mut Vec<T>, more: usize) -> Result<(), AllocError>
     ensures items { (list.new.items ≡ list.old.items) × (vec_len list.new ≡ vec_len list.old) }
@@ -90,8 +91,8 @@ fn grow<T>(list: &mut Vec<T>, more: usize) -> Result<(), AllocError>
     list.reserve(more)
 }
 
-/// Makes room for `more` elements, if the list has too little. An error leaves the elements as they
-/// are.
+/// Makes room for `more` elements, if the list has too little. The error is out of memory; the
+/// elements are as they were.
 #[inline]
 pub(crate) fn widen<T>(list: &mut Vec<T>, more: usize) -> Result<(), AllocError>
     ensures items { (list.new.items ≡ list.old.items) × (vec_len list.new ≡ vec_len list.old) }
@@ -108,7 +109,7 @@ pub(crate) fn widen<T>(list: &mut Vec<T>, more: usize) -> Result<(), AllocError>
 /// What the entry and the receipt of a call keep, after making room for `entries_more` entries,
 /// `receipts_more` receipts and twice as many blank texts: one entry and one receipt are for this
 /// call, the rest for the closes to come. None if memory runs out. The journal's entries and the
-/// receipts stay as they are.
+/// receipts stay as they were in any case; room that was made stays.
 #[inline]
 pub(crate) fn reserve_and_keep(
     alloc: Global,

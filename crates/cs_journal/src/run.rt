@@ -26,11 +26,17 @@ use std::sync::Arc;
 /// journal, and how many passes it gave; its state is the replay of the journal.
 #[derive(Drop)]
 pub struct Run<L: TreeRead + Drop> {
+    /// The tree with which it began.
     pub(crate) lower: Arc<L>,
+    /// The users, who never change while it exists.
     pub(crate) users: Arc<Users>,
+    /// The tree as it is now, over `lower`.
     pub(crate) tree: Overlay<L>,
+    /// The opens of all passes.
     pub(crate) opens: Opens,
+    /// An entry for each call that `step` had room and memory to enter.
     pub(crate) journal: Journal,
+    /// At the place of a pass's number, what is counted of it.
     pub(crate) passes: Vec<PassCounts>,
 }
 
@@ -57,7 +63,8 @@ impl<L: TreeRead + Drop> Model for Run<L> {
 }
 
 impl<L: TreeRead + Drop> Run<L> {
-    /// A run over this tree, with no open, no entry and no pass. It doesn't copy the tree.
+    /// A run over this tree, with no open, no entry and no pass. It doesn't copy the tree. The
+    /// error is out of memory. `can_grow` checks what it requires of the tree.
     pub fn fresh(alloc: Global, lower: Arc<L>, users: Arc<Users>) -> Result<Run<L>, AllocError>
         requires grows { CanGrow (L.TreeRead.tree (arc_value lower)) }
         ensures { IfOk result (λ run. run ≡ fresh_run (L.TreeRead.tree (arc_value lower))
@@ -82,8 +89,9 @@ impl<L: TreeRead + Drop> Run<L> {
         self.journal.len()
     }
 
-    /// A new pass, under which calls can be made. The error is Room if the run gave RUN_ATTACHES
-    /// passes already, else Memory, but never Foreign; the run is then as it was.
+    /// A new pass, under which calls can be made; its number is how many the run gave before. The
+    /// error is Room if the run gave RUN_ATTACHES passes already, else Memory, but never Foreign;
+    /// the run is then as it was.
     pub fn new_pass(&mut self, alloc: Global) -> Result<Pass, PassFault>
         ensures pass { IfOk result (λ pass. pass ≡ fresh_pass self.old.passes) }
         ensures run { OnOk result (self.new ≡ with_pass self.old) }

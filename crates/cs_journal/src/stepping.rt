@@ -25,11 +25,12 @@ use std::alloc::Global;
 use std::sync::Arc;
 
 impl<L: TreeRead + Drop> Run<L> {
-    /// Does a call under a pass at that moment (in seconds). Denied by L1 if the journal has no
-    /// room for its entry and, for an open or a create, for that of the close. Short if memory for
-    /// entry and receipt runs out. In both cases nothing changes. Otherwise the journal has one
-    /// more entry, whose outcome follows from the run's rules and memory, and the pass has its
-    /// receipt.
+    /// Does a call under a pass at the moment `now`, in seconds since 1970. `Run::fits` checks what
+    /// it requires of the pass. Denied by L1 if the journal has no room for its entry and, for an
+    /// open or a create, for that of the close. Short if memory for entry and receipt runs out. In
+    /// both cases nothing changes. A call that ends an open that is there is never refused so.
+    /// Otherwise the journal has one more entry, whose outcome follows from the run's rules and
+    /// memory, and the pass has its receipt.
     pub fn step(&mut self, alloc: Global, pass: &mut Pass, now: u32, call: Call<'_>) -> Answer
         requires fits { Fits self.old pass.old }
         ensures stepped { (mark : StepMark)

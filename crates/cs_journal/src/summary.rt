@@ -7,19 +7,30 @@ use cs_names::Name;
 use cs_permit::Call;
 use cs_wire::Stat;
 
-/// A call without the bytes that it writes, borrowed from an entry or a receipt. `summary_of` names
-/// the fields.
+/// A call without the bytes that it writes, borrowed from an entry or a receipt, so that two can be
+/// compared. `number` below is the number of a file.
 #[derive(Clone, Copy)]
 pub(crate) enum CallSummary<'a> {
+    /// The user.
     Attach(&'a [u8]),
+    /// The number, the user, and the names.
     Walk(u64, &'a [u8], &'a [String]),
+    /// The number, the user, and the mode.
     Open(u64, &'a [u8], u8),
+    /// The directory's number, the user, the new name, its permissions, and the mode.
     Create(u64, &'a [u8], &'a Name, u32, u8),
+    /// The number, the offset, the count, and the place in a directory: its end, and the name of
+    /// the last entry that was read.
     Read(u64, u64, u32, u64, Option<&'a Name>),
+    /// The number, the user, and the offset.
     Write(u64, &'a [u8], u64),
+    /// The open's number, and the user.
     Close(u32, &'a [u8]),
+    /// The number, the user, and the number of the open that it ends.
     Remove(u64, &'a [u8], Option<u32>),
+    /// The number.
     Stat(u64),
+    /// The number, the user, and the stat that was sent.
     Wstat(u64, &'a [u8], &'a Stat),
 }
 
@@ -86,8 +97,8 @@ fn is_same_stat(stat: &Stat, other: &Stat) -> bool
         && stat.muid == other.muid
 }
 
-/// Whether two reads of directories continue after the same name; also if both begin with the first
-/// entry.
+/// Whether two reads of directories continue after the same name. True also if both begin with the
+/// first entry (None).
 fn is_same_last(name: Option<&Name>, other: Option<&Name>) -> bool
     ensures { IsTrue result ↔ (option_map (λ n. n.now) name.entry
         ≡ option_map (λ n. n.now) other.entry) }
@@ -100,7 +111,8 @@ fn is_same_last(name: Option<&Name>, other: Option<&Name>) -> bool
     }
 }
 
-/// Whether both are the same call: of the same kind, with the same fields.
+/// Whether both are the same call: of the same kind, with the same fields. The bytes of writes
+/// aren't among them.
 pub(crate) fn are_same(call: CallSummary, other: CallSummary) -> bool
     ensures { IsTrue result ↔ (call_in call.entry ≡ call_in other.entry) }
 {

@@ -10,7 +10,9 @@ use std::marker::Model;
 /// A user's name in a fixed array, so that a kept call needs no further memory for it.
 #[derive(Drop)]
 pub(crate) struct UserText {
+    /// The name, and after it bytes without a meaning.
     bytes: [u8; USER_NAME_BYTES],
+    /// How many bytes the name has.
     len: usize,
 }
 

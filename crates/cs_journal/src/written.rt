@@ -17,8 +17,11 @@ const SMALL_BLOCKS: usize = 4;
 /// The place of the bytes of a write: all are in the block of that index, from `start` on.
 #[derive(Clone, Copy)]
 pub(crate) struct Piece {
+    /// Which block of the journal's `Written`.
     pub(crate) block_index: u32,
+    /// In bytes, from the start of the block.
     pub(crate) start: u32,
+    /// In bytes.
     pub(crate) len: u32,
 }
 
@@ -26,7 +29,7 @@ pub(crate) struct Piece {
 /// block.
 #[derive(Drop)]
 pub(crate) struct Written {
-    // a block never grows past its capacity, so its bytes are never copied
+    /// A block never grows past its capacity, so its bytes are never copied.
     blocks: Vec<Vec<u8>>,
 }
 
@@ -49,8 +52,8 @@ fn has_room(blocks: &[Vec<u8>], more: usize) -> bool
     }
 }
 
-/// Adds an empty block if the last has no room for `more` bytes, or there is no block. An error
-/// adds none.
+/// Adds an empty block if the last has no room for `more` bytes, or there is no block. The error is
+/// out of memory; no block is added then.
 fn add_block_for(alloc: Global, blocks: &mut Vec<Vec<u8>>, more: usize) -> Result<(), AllocError>
     ensures kept { Keeps (bytes_in blocks.old.items) (bytes_in blocks.new.items) }
     ensures some { OnOk result (0 < length blocks.new.items) }
@@ -84,7 +87,8 @@ fn piece_of(block_index: usize, start: usize, len: usize) -> Option<Piece>
 }
 
 /// Appends the bytes to the last block, and returns their piece. If `piece_of` has none for them,
-/// that counts as out of memory. An error leaves the bytes of older pieces as they are.
+/// that counts as out of memory. An error leaves the bytes of older pieces as they are. There must
+/// be a block.
 fn put_last(blocks: &mut Vec<Vec<u8>>, bytes: &[u8]) -> Result<Piece, AllocError>
     requires some { 0 < length blocks.old.items }
     ensures kept { Keeps (bytes_in blocks.old.items) (bytes_in blocks.new.items) }
@@ -110,8 +114,8 @@ impl Written {
         }
     }
 
-    /// Stores the bytes of a write, and returns their piece. The pieces returned before keep their
-    /// bytes, even after an error.
+    /// Stores the bytes of a write, and returns their piece. The error is out of memory. The pieces
+    /// returned before keep their bytes, even after an error.
     pub(crate) fn push_bytes(&mut self, alloc: Global, bytes: &[u8]) -> Result<Piece, AllocError>
         ensures kept { Keeps self.old self.new }
         ensures within { IfOk result (λ piece. IsWithin self.new piece) }
@@ -121,7 +125,7 @@ impl Written {
         put_last(&mut self.blocks, bytes)
     }
 
-    /// The bytes of a piece that `push_bytes` returned.
+    /// The bytes of a piece, which `push_bytes` of the same store must have returned.
     pub(crate) fn bytes_of(&self, piece: Piece) -> &[u8]
         requires { IsWithin self.now piece }
         ensures { result.now ≡ bytes_at self.now piece }

@@ -25,7 +25,7 @@ use Rattle.cs_linux.specs.declared.rename.Step.TheVariants.{Ask, Answer}
 use Rattle.cs_linux.specs.Requests.{asks_name_alone, dot, is_directory, tclunk, tremove, tstat}
 use Rattle.cs_linux.specs.Requests.{twalk, twstat}
 
--- the server gets this request, and the rename goes on in this state
+-- the server gets this request, and the rename continues in this state
 abbrev pub Asks : Step → Renaming → Message requests → Type 0
 Asks step renaming asked = (m : TMessage) × (step ≡ Ask renaming m) × (t_view m ≡ asked)
 
@@ -42,7 +42,7 @@ abbrev pub is_taken : RBody → Bool
 is_taken (r.Error ename) = pointwise nat_eq (cow_str_bytes ename) (text_of Q7)
 is_taken other = false
 
--- a request for a new name alone that was refused so begins a rename, and any other reply is the
+-- a request for only a new name that was refused so begins a rename, and any other reply is the
 -- client's
 abbrev pub Begins : Step → ℕ → TBody → RMessage → Vec ℕ Global → Type 0
 Begins step tag (t.Wstat fid stat) reply directories =
@@ -78,7 +78,7 @@ abbrev pub Tries : Step → Rename → File → ℕ → Type 0
 Tries step rename file left =
     TriesFid step rename file left (last_untried rename.directories.items left)
 
--- the walk came to the file alone
+-- the walk found the file of that number, and no more
 abbrev pub came_to : ℕ → List Qid → Bool
 came_to number (qid ∷ []) = qid.path == number
 came_to number others = false

@@ -41,7 +41,7 @@ asks_name_alone (
     && (size == 18446744073709551615)
     && (length uid == 0) && (length gid == 0) && (length muid == 0)
 
--- the text of one dot, by which no walk goes on
+-- the name of one dot, which no walk passes
 abbrev pub dot : List ℕ
 dot = 46 ∷ []
 

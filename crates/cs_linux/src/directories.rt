@@ -7,12 +7,12 @@ use crate::requests::is_directory_qid;
 use arrayvec::ArrayVec;
 use cs_wire::{RBody, TBody};
 
-/// The most fids that are kept. A rename may try each of them by a walk, so they are few.
+/// The most fids that are kept. A rename may try each of them by a walk.
 pub const KEPT_FIDS: usize = 16;
 
-/// The fid that a walk made, if it may be on a directory: the walk found all of its names, and the
-/// last is a directory; or it had no name, so that the fid is a copy of another. None after any
-/// other walk, and for every other request or reply.
+/// The fid that a walk made, if it may be on a directory (walk(5)). Either the walk found all of
+/// its names, and the last is a directory; or it had no name, so that the fid is a copy of another.
+/// None after any other walk, and for every other request or reply.
 pub fn directory_of(request: &TBody<'_>, reply: &RBody) -> Option<u32>
     ensures { result ≡ came_to_directory request.now reply.now }
 {
@@ -31,16 +31,19 @@ pub fn directory_of(request: &TBody<'_>, reply: &RBody) -> Option<u32>
     }
 }
 
-/// The latest fids of a connection that may be on directories, the latest last, and the number of
-/// its attaches. After two attaches its fids may be of two users, or in two runs.
+/// What a rename must know of a connection's earlier requests: its fids that may be on directories,
+/// and how often it attached.
 #[derive(Drop)]
 pub struct Directories {
+    /// The latest such fids, the latest last. One may be there twice. By now one may be on another
+    /// file, or clunked: a walk from it doesn't find the file then.
     pub fids: ArrayVec<u32, KEPT_FIDS>,
+    /// How many attaches were granted. After two, the fids may be of two users, or in two runs.
     pub attaches: u32,
 }
 
 impl Directories {
-    /// No fids and no attach, as when a session begins.
+    /// No fids and no attach, as when a session begins. It takes no memory.
     pub fn new() -> Directories
         ensures fids { result.fids.items ≡ [] }
         ensures attaches { result.attaches ≡ 0 }
@@ -51,8 +54,8 @@ impl Directories {
         }
     }
 
-    /// Counts an attach that was granted. At the greatest u32 the count no longer grows: only
-    /// whether it is above 1 matters.
+    /// Counts an attach that was granted. The count stops at the greatest u32: only whether it is
+    /// above 1 matters.
     pub fn count_attach(&mut self)
         ensures fids { self.new.fids ≡ self.old.fids }
         ensures counted { self.new.attaches ≡ min (self.old.attaches + 1) (2 ^ 32 - 1) }
@@ -75,7 +78,7 @@ impl Directories {
         self.fids.push(fid);
     }
 
-    /// The fids that a rename may try: all of them, or none after a second attach.
+    /// The fids that a rename may try, the latest last: all of them, or none after a second attach.
     pub fn of_one_attach(&self) -> &[u32]
         ensures one { self.now.attaches ≤ 1 → result.now ≡ self.now.fids.items }
         ensures more { 1 < self.now.attaches → result.now ≡ [] }

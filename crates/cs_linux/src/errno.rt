@@ -5,7 +5,8 @@ ghost use Rattle.cs_linux.specs.Errors.{errno_of, text_of};
 
 use cs_names::RuleId;
 
-/// An error that Linux's client knows by a text (error(5)), and gives its program as a number.
+/// An error that Linux's client knows by a text (error(5)), and gives its program as a number: its
+/// name in errno(3) is at each.
 #[derive(Clone, Copy, Debug, PartialEq, Eq)]
 pub enum Errno {
     /// EPERM.
@@ -37,7 +38,9 @@ pub enum Errno {
 }
 
 impl Errno {
-    /// The error that Linux has for the refusal by this rule: docs/reference/9p-server.md.
+    /// The error that Linux's client gets for the refusal by this rule: the table is in
+    /// docs/reference/9p-server.md. For rules of the session and of fids, and for a file that is
+    /// gone, it is EIO.
     pub fn of(rule: RuleId) -> Errno
         ensures { result ≡ errno_of rule }
     {
@@ -114,7 +117,8 @@ impl Errno {
         }
     }
 
-    /// The text by which Linux's client knows the error. The longest has 25 bytes.
+    /// The text by which Linux's client knows the error, that of strerror(3) in English. The
+    /// longest has 25 bytes, so it fits every reply.
     pub fn text(self) -> &'static str
         ensures value { result.now ≡ text_of self }
         ensures short { length result.now ≤ 25 }

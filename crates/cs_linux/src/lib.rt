@@ -1,7 +1,7 @@
-//! What Linux's own client of 9P2000 needs of a server: errors by the texts that it knows, a wstat
-//! that asks only for what its user asked for, and renames onto a name that is taken, as the client
-//! means them: the file of that name is removed, and the other gets its name. Which client a
-//! connection has, and what it has requested so far, is kept in cs_tcp.
+//! What Linux's own client of 9P2000 needs of a server. An error has a text that the client knows.
+//! A wstat asks only for what the client's user asked for. A rename onto a name that is taken
+//! removes the file of that name, as the client expects. Nothing here sends or keeps anything;
+//! cs_serve does, for connections of `serve --client linux`.
 #![tactic(auto)]
 
 mod directories;

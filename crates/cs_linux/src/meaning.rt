@@ -16,8 +16,8 @@ fn as_user_asked(mut stat: Stat) -> Stat
 }
 
 /// The request that Linux's client means by this one: of a Twstat the atime and muid, which the
-/// client fills in unasked, become "don't touch" (stat(5)); any other request is unchanged. It
-/// allocates nothing.
+/// client fills in unasked and rule Q3 would refuse, become "don't touch" (stat(5)). So a user
+/// can't ask for them. Any other request is unchanged. It allocates nothing.
 pub fn request_of_linux(request: TMessage<'_>) -> TMessage<'_>
     ensures { t_view result ≡ as_client_means (t_view request.entry) }
 {

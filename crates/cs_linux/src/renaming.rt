@@ -1,6 +1,7 @@
-//! The steps of a rename onto a name that is taken, from one reply to the next. Nothing is sent
-//! here: each step is a request for the server or the reply for the client. If memory runs out for
-//! a request, the rename ends with the refusal of the client's own request.
+//! The steps of a rename onto a name that is taken, from one reply to the next. `rename` says what
+//! its source and its target are. Nothing is sent here: each step is a request for the server or
+//! the reply for the client. If memory runs out for a request, the rename ends with the refusal of
+//! the client's own request.
 ghost use Rattle.std.specs.Prelude.{◌≡◌, ◌<◌, IsSome};
 ghost use Rattle.cs_linux.specs.Renames.{AfterDirectory, AfterRemoval, AfterSource, AfterTarget};
 ghost use Rattle.cs_linux.specs.Renames.{Begins, Ends, Follows, FreesTarget, Refuses, Tries};
@@ -22,7 +23,7 @@ fn refuse(rename: Rename) -> Step
 }
 
 /// The last step, after a reply with which the rename can't continue: the client gets the reply if
-/// it is an Rerror, else the refusal of its own request.
+/// it is an Rerror, else the refusal of its own request. Nothing was changed.
 fn end_after(rename: Rename, reply: RMessage) -> Step
     ensures { Ends result rename reply reply.body }
 {
@@ -32,7 +33,7 @@ fn end_after(rename: Rename, reply: RMessage) -> Step
     }
 }
 
-/// The last fid that wasn't tried yet: the last of the first `left`. None if `left` is 0, or
+/// The last fid that wasn't tried yet: the last of the first `left` fids. None if `left` is 0, or
 /// greater than the number of fids.
 fn last_untried(fids: &[u32], left: usize) -> Option<u32>
     ensures value { result ≡ last_untried fids.now left }
@@ -44,8 +45,8 @@ fn last_untried(fids: &[u32], left: usize) -> Option<u32>
     fids.get(left - 1).copied()
 }
 
-/// The step that looks for the file in the last of the first `left` directories. If there is none,
-/// or memory runs out, the rename ends with its refusal.
+/// The step that looks for the source in the last of the first `left` directories. If there is
+/// none, or memory runs out, the rename ends with its refusal.
 fn try_last(alloc: Global, rename: Rename, file: File, left: usize) -> Step
     ensures { Tries result rename file left }
 {
@@ -67,8 +68,8 @@ fn try_last(alloc: Global, rename: Rename, file: File, left: usize) -> Step
     }
 }
 
-/// The step after the Tstat of the source: a file is looked for in the client's directories. A
-/// rename of a directory ends with its refusal, and after any other reply as in `end_after`.
+/// The step after the Tstat of the source: it is looked for in the client's directories. A rename
+/// of a directory ends with its refusal, and after any other reply as in `end_after`.
 fn after_source(alloc: Global, rename: Rename, reply: RMessage) -> Step
     ensures { AfterSource result rename reply reply.body }
 {
@@ -97,7 +98,7 @@ fn is_walk_to(number: u64, wqid: &[Qid]) -> bool
     }
 }
 
-/// The step after the walk in `directory`: if it found the file, a walk to the new name there.
+/// The step after the walk in `directory`: if it found the source, a walk to the new name there.
 /// After any other reply, also an error, the last of the `left` directories is tried. If none is
 /// left, or memory runs out, the rename ends with its refusal.
 fn after_directory(
@@ -123,9 +124,9 @@ fn after_directory(
     }
 }
 
-/// The step after a walk to the new name with these qids. A single qid is that of what has the
-/// name: a file is removed, and the client's request is sent again; for a directory, `OWN_FID` is
-/// clunked, and the rename is refused. With any other number of qids it is refused at once.
+/// The step after a walk to the new name with these qids. A single qid is that of the target: if it
+/// is a file, it is removed; if it is a directory, `OWN_FID` is clunked, and the rename will be
+/// refused. With any other number of qids it is refused at once.
 fn free_target(rename: Rename, wqid: &[Qid]) -> Step
     ensures { FreesTarget result rename wqid.now }
 {
@@ -148,8 +149,8 @@ fn after_target(rename: Rename, reply: RMessage) -> Step
     }
 }
 
-/// The step after the removal of the file at the new name: the client's own request again; if
-/// nothing was removed, that of `end_after`. A Tremove clunks `OWN_FID` either way (remove(5)).
+/// The step after the removal of the target: the client's own request again; if nothing was
+/// removed, that of `end_after`. A Tremove clunks `OWN_FID` either way (remove(5)).
 fn after_removal(rename: Rename, reply: RMessage) -> Step
     ensures { AfterRemoval result rename reply reply.body }
 {
@@ -162,7 +163,7 @@ fn after_removal(rename: Rename, reply: RMessage) -> Step
     }
 }
 
-/// Whether the reply is the refusal by Q7: the new name is taken.
+/// Whether the reply is the refusal by Q7: the new name is taken. It is found by the rule's text.
 fn is_taken(body: &RBody) -> bool
     ensures { result ≡ is_taken body.now }
 {
@@ -174,7 +175,8 @@ fn is_taken(body: &RBody) -> bool
 
 /// The first step after a request and its reply. If the request is a Twstat of only a new name, and
 /// was refused because that name is taken, a rename begins, and the client gets no reply yet. Else
-/// the client gets the reply. `directories` are the fids that the rename may try, from the last on.
+/// the client gets the reply. `directories` are the fids that the rename may try, from the last on:
+/// those of `Directories::of_one_attach`. It allocates nothing.
 pub fn renaming_of(request: TMessage<'_>, reply: RMessage, directories: Vec<u32>) -> Step
     ensures { Begins result request.entry.tag request.entry.body reply directories }
 {
@@ -197,7 +199,8 @@ pub fn renaming_of(request: TMessage<'_>, reply: RMessage, directories: Vec<u32>
 
 impl Renaming {
     /// The step after the reply to the rename's last request. After the client's own request, sent
-    /// again, the client gets the reply; after a clunk it gets its refusal, whatever the reply.
+    /// again, the client gets its reply: if that is an error, the target is gone nevertheless.
+    /// After a clunk it gets its refusal, whatever the reply.
     pub fn next(self, alloc: Global, reply: RMessage) -> Step
         ensures { Follows self reply result }
     {

@@ -9,11 +9,11 @@ use cs_wire::{RBody, RMessage};
 use std::borrow::CowStr;
 
 /// The text of an Rerror that reports that memory ran out: that of `memory_text` in cs_session and
-/// of `reply_of` in cs_tcp.
+/// of `reply_of` in cs_serve. Change all three.
 const OUT_OF_MEMORY: &str = "out of memory";
 
 /// The text that Linux's client gets in place of this one: that of the error for the rule with this
-/// text; of ENOMEM if it is OUT_OF_MEMORY; else of EIO.
+/// text, or of ENOMEM if it is OUT_OF_MEMORY. Any other text is EIO's.
 fn linux_text(text: &str) -> &'static str
     ensures { IsLinuxText text.now result.now }
 {
@@ -26,7 +26,8 @@ fn linux_text(text: &str) -> &'static str
 }
 
 /// The reply that Linux's client gets: for an Rerror one with a text that the client knows
-/// (error(5)); any other reply is unchanged. It allocates nothing.
+/// (error(5)), of at most 25 bytes, so it fits in every session; any other reply is unchanged. It
+/// allocates nothing.
 pub fn reply_to_linux(reply: RMessage) -> RMessage
     ensures error { (tag : ℕ) (text : List ℕ) → r_view reply ≡ error_message tag text
         → (new : List ℕ) × IsLinuxText text new × (r_view result ≡ error_message tag new) }

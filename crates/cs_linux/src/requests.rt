@@ -1,5 +1,6 @@
-//! The requests of a rename onto a name that is taken. The Tstat and the Twstat are of a fid of the
-//! client. The walks go from one to `OWN_FID`, and the Tremove and the Tclunk are of `OWN_FID`.
+//! The requests of a rename onto a name that is taken. They have the tag of the client's request.
+//! The Tstat and the Twstat are of a fid of the client. The walks go from such a fid to `OWN_FID`;
+//! the Tremove and the Tclunk are of `OWN_FID`.
 ghost use Rattle.std.specs.Prelude.{◌≡◌, IfOk, [], ◌∷◌};
 ghost use Rattle.cs_wire.specs.Messages.{stat_of, t_view};
 ghost use Rattle.cs_linux.specs.Requests.{asks_name_alone, dot, is_directory, tclunk, tremove};
@@ -8,14 +9,15 @@ ghost use Rattle.cs_linux.specs.Requests.{tstat, twalk, twstat};
 use cs_wire::{Qid, Stat, TBody, TMessage};
 use std::alloc::{AllocError, Global};
 
-/// The fid that a rename uses: the greatest except NOFID. Linux's client doesn't come to it, since
-/// it uses the least that are free.
+/// The fid that a rename uses: the greatest except NOFID. Linux's client, which uses the least fids
+/// that are free, doesn't reach it.
 pub const OWN_FID: u32 = 0xffff_fffe;
 
 /// The bit of a qid's kind that a directory has (intro(5)).
 pub const QTDIR: u8 = 0x80;
 
-/// The qid that means "don't touch" in a wstat, as `ONES_QID` of cs_permit.
+/// The qid that means "don't touch" in a wstat (stat(5)). (`ONES_QID` of cs_permit is the same,
+/// private there.)
 const NO_QID: Qid = Qid {
     kind: u8::MAX,
     vers: u32::MAX,
@@ -41,7 +43,7 @@ pub(crate) fn is_directory_qid(qid: Qid) -> bool
     QTDIR <= qid.kind
 }
 
-/// Makes a Tstat of this fid.
+/// Makes a Tstat of this fid (stat(5)).
 pub(crate) fn tstat(tag: u16, fid: u32) -> TMessage<'static>
     ensures { t_view result ≡ tstat tag fid }
 {
@@ -51,7 +53,8 @@ pub(crate) fn tstat(tag: u16, fid: u32) -> TMessage<'static>
     }
 }
 
-/// Makes a Twalk from this fid by one name, to `OWN_FID`. The only error is out of memory.
+/// Makes a Twalk from this fid by one name, to `OWN_FID` (walk(5)). The only error is that memory
+/// runs out.
 pub(crate) fn twalk(
     alloc: Global,
     tag: u16,
@@ -73,7 +76,7 @@ pub(crate) fn twalk(
 }
 
 /// Makes a Twalk from this fid by a name and then by a dot, which no walk passes: the reply shows
-/// what has the name, and `OWN_FID` isn't made. The only error is out of memory.
+/// what has the name, and `OWN_FID` isn't made. The only error is that memory runs out.
 pub(crate) fn twalk_probe(
     alloc: Global,
     tag: u16,
@@ -95,7 +98,7 @@ pub(crate) fn twalk_probe(
     })
 }
 
-/// Makes a Tremove of `OWN_FID`.
+/// Makes a Tremove of `OWN_FID` (remove(5)).
 pub(crate) fn tremove(tag: u16) -> TMessage<'static>
     ensures { t_view result ≡ tremove tag }
 {
@@ -105,7 +108,7 @@ pub(crate) fn tremove(tag: u16) -> TMessage<'static>
     }
 }
 
-/// Makes a Tclunk of `OWN_FID`.
+/// Makes a Tclunk of `OWN_FID` (clunk(5)).
 pub(crate) fn tclunk(tag: u16) -> TMessage<'static>
     ensures { t_view result ≡ tclunk tag }
 {
@@ -115,7 +118,7 @@ pub(crate) fn tclunk(tag: u16) -> TMessage<'static>
     }
 }
 
-/// Makes a Twstat of this fid.
+/// Makes a Twstat of this fid with this stat (stat(5)).
 pub(crate) fn twstat(tag: u16, fid: u32, stat: Stat) -> TMessage<'static>
     ensures { t_view result ≡ twstat tag fid (stat_of stat) }
 {

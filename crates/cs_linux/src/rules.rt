@@ -1,5 +1,5 @@
-//! The rule that a refusal names, found by its text. A new rule is added to `rules_of` too, as the
-//! clause `each` of `rule_of` demands.
+//! The rule that a refusal names, found by its text. A new rule must be added to `rules_of`, too:
+//! the clause `each` of `rule_of` requires it.
 ghost use Rattle.std.specs.Prelude.{◌≡◌, IfSome, Some};
 ghost use Rattle.cs_names.specs.Rules.{text_of};
 ghost use Rattle.cs_names.specs.declared.rule_id.RuleId.{RuleId};
@@ -30,9 +30,9 @@ fn rules_of(letter: u8) -> &'static [RuleId]
     }
 }
 
-/// The place of a rule among those of its letter, counted from 0, by the two bytes after the
-/// letter: a digit and a space, or two digits. Other bytes give any place, or 0 if the
-/// subtraction saturates; `rule_of` compares the whole text.
+/// The place of a rule among those of its letter, from 0, by the two bytes after the letter: a
+/// digit and a space, or two digits. For other bytes it is some place that means nothing; `rule_of`
+/// compares the whole text.
 #[tactic(auto, unfolding(crate::specs::Numbers::place_in_letter))]
 fn place_in_letter(first: u8, second: u8) -> usize
     ensures { result ≡ place_in_letter first second }
@@ -46,8 +46,8 @@ fn place_in_letter(first: u8, second: u8) -> usize
     }
 }
 
-/// The only rule whose text this may be, by the first three bytes; None if there are fewer, or if
-/// the letter has no rule of that number.
+/// The only rule that may have this text, by its first three bytes. None if it has fewer, or if no
+/// rule has that letter and number. The rest of the text isn't compared.
 fn rule_numbered(text: &[u8]) -> Option<RuleId>
     ensures { result ≡ rule_numbered text.now }
 {

@@ -1,3 +1,4 @@
 pub mod Added
 pub mod More
 pub mod Objects
+pub mod Slots

@@ -8,6 +8,7 @@ use Rattle.std.specs.List.{All, enumerate_from, flat_map}
 use Rattle.cs_plan.specs.Scenes.{Scene}
 use Rattle.cs_list.specs.declared.profiles.Profiles.{Profiles}
 use Rattle.cs_list.specs.Listings.{AreObjects, AreProfilesOf, AreStateObjects, op_object, state_object}
+use Rattle.cs_list.specs.Paths.{IsPathAt}
 
 enumerated_more : {X : Type 0} (n : ℕ) (xs : List X) (x : X)
     → enumerate_from n (xs ++ x ∷ []) ≡ enumerate_from n xs ++ (n + length xs, x) ∷ []
@@ -27,18 +28,29 @@ flat_more f xs count x long =
     ∙ ap (flat_map f) (sym (enumerated_more 0 xs x))
 
 pub no_objects : (s : Scene) (lines : List ℕ) → AreObjects s lines 0 []
-no_objects s lines = record { paths = []; long = refl; spelled = refl }
+no_objects s lines = record {
+  paths = [];
+  long = refl;
+  each = All-nil (λ (e : ℕ × Option (List (List ℕ))). IsPathAt s e.0 e.1);
+  spelled = refl;
+}
 
 -- one micro-operation more
 pub objects_more : (s : Scene) (lines : List ℕ) (count : ℕ) (text grown : List ℕ) (path : Option (List (List ℕ)))
-    → AreObjects s lines count text → grown ≡ text ++ op_object s lines (count, path) → AreObjects s lines (count + 1) grown
-objects_more s lines count text grown path so e =
+    → AreObjects s lines count text → IsPathAt s count path → grown ≡ text ++ op_object s lines (count, path)
+    → AreObjects s lines (count + 1) grown
+objects_more s lines count text grown path so is e =
     let f = op_object s lines in
     let long = so.long in
     let more = length-append so.paths (path ∷ []) in
+    let here : count ≡ 0 + length so.paths = omega (arith, long) in
+    let Is : ℕ × Option (List (List ℕ)) → Type 0 = λ p. IsPathAt s p.0 p.1 in
+    let there : IsPathAt s (0 + length so.paths) path = subst (λ k. IsPathAt s k path) here is in
     record {
       paths = so.paths ++ path ∷ [];
       long = omega (arith, long, more);
+      each = subst (All Is) (sym (enumerated_more 0 so.paths path))
+          (All-push Is (enumerate_from 0 so.paths) (0 + length so.paths, path) so.each there);
       spelled = e ∙ ap (λ t. t ++ f (count, path)) so.spelled ∙ flat_more f so.paths count path long;
     }
 

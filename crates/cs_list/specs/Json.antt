@@ -122,7 +122,7 @@ fields_text version path (WriteBlock file block start at bytes) =
 fields_text version path (SetAttr target rights) = set_attr_fields path target rights
 fields_text version path Say = codes "\"kind\":\"say\""
 
--- with commas between
+-- places as a JSON array, with commas between them
 abbrev pub places_array : List ℕ → List ℕ
 places_array [] = codes "[]"
 places_array (place ∷ places) = codes "[" ++ (places_text (place ∷ places) ++ codes "]")

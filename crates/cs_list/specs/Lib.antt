@@ -1,5 +1,6 @@
 pub mod Json
 pub mod Lines
 pub mod Listings
+pub mod Paths
 pub mod Printed
 pub mod Profiles

@@ -6,6 +6,7 @@ use Rattle.cs_sets.specs.Orders.{needs_in}
 use Rattle.cs_apm.specs.Rules.{op_at}
 use Rattle.cs_list.specs.Json.{op_line, state_line}
 use Rattle.cs_list.specs.Lines.{lines_of}
+use Rattle.cs_list.specs.Paths.{IsPathAt}
 use Rattle.cs_picks.specs.Families.{least_with}
 use Rattle.cs_plan.specs.Plans.{set_in}
 use Rattle.cs_list.specs.Profiles.{HasProfiles}
@@ -22,7 +23,7 @@ use Rattle.cs_plan.specs.Scenes.{Scene, micros_of, order_in}
 abbrev pub asks_family : ListOptions → Bool
 asks_family options = options.lost || options.files
 
--- with more picks, if a family is asked for
+-- the scene of the inputs, with more picks if a family is asked for
 abbrev pub IsSceneIf : Bool → Inputs → Scene → Type 0
 IsSceneIf false inputs scene = IsScene inputs scene
 IsSceneIf true inputs scene = (more : List (List ℕ)) × IsSceneWith inputs more scene
@@ -39,7 +40,7 @@ op_object s lines e =
     op_line s.trace.version e.0 (op_at (micros_of s).ops e.0) e.1 (slice_index lines e.0)
     (least_with (needs_in (order_in s)) e.0)
 
--- those of all micro-operations
+-- the objects of all micro-operations
 abbrev pub op_objects : Scene → List ℕ → List (Option (List (List ℕ))) → List ℕ
 op_objects s lines paths = flat_map (op_object s lines) (enumerate_from 0 paths)
 
@@ -49,7 +50,7 @@ abbrev pub state_object : Scene → List ℕ → ℕ × Profiles → List ℕ
 state_object s firsts e =
     state_line e.0 (recipe_at s e.0) (says_by s (recipe_at s e.0)) (slice_index firsts e.0) e.1
 
--- those of all states
+-- the objects of all states
 abbrev pub state_objects : Scene → List ℕ → List Profiles → List ℕ
 state_objects s firsts profiles = flat_map (state_object s firsts) (enumerate_from 0 profiles)
 
@@ -58,10 +59,11 @@ abbrev pub AreProfilesOf : Scene → ℕ → Profiles → Type 0
 AreProfilesOf s number profiles =
     HasProfiles (micros_of s) (set_in (order_in s) (recipe_at s number)) profiles
 
--- the text is the objects of the first micro-operations, each with some path
+-- the text is the objects of the first micro-operations, each with its path
 pub record AreObjects (s : Scene) (lines : List ℕ) (count : ℕ) (text : List ℕ) : Type 0 where
   pub paths : List (Option (List (List ℕ)))
   pub long : length paths ≡ count
+  pub each : All (λ (e : ℕ × Option (List (List ℕ))). IsPathAt s e.0 e.1) (enumerate_from 0 paths)
   pub spelled : text ≡ op_objects s lines paths
 
 -- the text is the objects of the first states, each with its profiles
@@ -71,7 +73,8 @@ pub record AreStateObjects (s : Scene) (firsts : List ℕ) (count : ℕ) (text :
   pub each : All (λ (e : ℕ × Profiles). AreProfilesOf s e.0 e.1) (enumerate_from 0 profiles)
   pub spelled : text ≡ state_objects s firsts profiles
 
--- both, with the line of each micro-operation, and a state with an equal tree for each state
+-- the text is the objects of all micro-operations and of all states, with the line of each
+-- micro-operation, and a state with an equal tree for each state
 pub record IsJson (trace : List ℕ) (s : Scene) (text : List ℕ) : Type 0 where
   pub objects : List ℕ
   pub states : List ℕ

@@ -19,7 +19,7 @@ pub record MayBeLeftByJournal (m : Micros) (places : List ℕ) : Type 0 where
   pub fourth : is_fourth m.version ≡ true
   pub left : MayBeLeft m Journal places
 
--- a set has just those profiles whose file systems may leave it
+-- a set has exactly the profiles whose file systems may leave it
 pub record HasProfiles (m : Micros) (places : List ℕ) (profiles : Profiles) : Type 0 where
   pub blocks : IsTrue profiles.blocks ↔ MayBeLeft m Blocks places
   pub ordered : IsTrue profiles.ordered ↔ MayBeLeft m Ordered places

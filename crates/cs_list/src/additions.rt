@@ -13,7 +13,8 @@ use cs_plan::members::is_kept;
 use cs_plan::{Places, Recipe, Scene};
 use std::alloc::Global;
 
-/// Appends the sets of a family to the text of a picks file. The error is out of memory.
+/// Appends the sets of a family to the text of a picks file. The error is out of memory; the text
+/// may have some of them then.
 fn push_family(
     alloc: Global,
     scene: &Scene,
@@ -30,7 +31,7 @@ fn push_family(
 }
 
 /// The sets of the families that the options ask for, as a picks file: those of `--lost` come
-/// first. The error is out of memory.
+/// first. Empty if they ask for none. The error is out of memory.
 fn text_of_families(
     alloc: Global,
     scene: &Scene,
@@ -48,7 +49,9 @@ fn text_of_families(
     Ok(text)
 }
 
-/// The sets of these families. The error is out of memory.
+/// The sets of the families that the options ask for, those of `--lost` first; a set may be there
+/// twice. Empty if they ask for none. The error is out of memory. The sets are written as a text,
+/// which is read again; that text has no fault.
 fn sets_of_families(
     alloc: Global,
     scene: &Scene,
@@ -72,7 +75,9 @@ fn is_prefix(places: &[u32], end: u32) -> bool {
     (0..end).all(|place| places.get(place as usize).copied() == Some(place))
 }
 
-/// Whether the places are those of a hole: all before `end` that stay without `missing`.
+/// Whether the places are those of a hole: all before `end` that stay in a state without `missing`,
+/// in ascending order. The recipe is of the order: `missing` is before `end`, which is at most its
+/// length.
 fn is_hole(order: &Order, places: &[u32], missing: u32, end: u32) -> bool
     requires first { missing < end }
     requires second { end ≤ length order.now }
@@ -93,7 +98,8 @@ fn is_hole(order: &Order, places: &[u32], missing: u32, end: u32) -> bool
     next == places.len()
 }
 
-/// Whether a state of this recipe has just these places.
+/// Whether a state of this recipe has exactly these places. The recipe must be one of a plan of the
+/// order.
 fn is_set_of(order: &Order, recipe: &Recipe, places: &[u32]) -> bool
     requires { IsWithin (length order.now) recipe.now }
 {
@@ -104,7 +110,8 @@ fn is_set_of(order: &Order, recipe: &Recipe, places: &[u32]) -> bool
     }
 }
 
-/// Whether a state of one of these recipes has just these places.
+/// Whether a state of one of these recipes has exactly these places. The recipes must be those of a
+/// plan of the order.
 fn has_set(order: &Order, recipes: &[Recipe], places: &[u32]) -> bool
     requires { All (IsWithin (length order.now)) recipes.now }
 {
@@ -116,8 +123,8 @@ fn has_set(order: &Order, recipes: &[Recipe], places: &[u32]) -> bool
     false
 }
 
-/// Those of the sets that the scene's plan doesn't have, each once, in their order. The error is
-/// out of memory.
+/// Those of the sets that the scene's plan doesn't have, each once, in their order. Each set is
+/// compared with every state of the plan. The error is out of memory.
 fn missing_sets(
     alloc: Global,
     scene: &Scene,
@@ -147,7 +154,8 @@ fn asks_family(options: ListOptions) -> bool
 }
 
 /// The scene of the inputs, whose plan has at its end the sets of the families that the options ask
-/// for, each that it lacks once. `scene` is the one without them.
+/// for, each that it lacks once. `scene` is the one without them. An error is as in
+/// `scene_with_families`. The caller has asked `asks_family`.
 fn scene_with_sets(
     alloc: Global,
     inputs: &Inputs,

@@ -1,5 +1,6 @@
 //! One micro-operation, or one state, as a line of JSON. The whole list is made of them in
-//! `json_listing`; the lines without JSON are in `printed`.
+//! `json_listing`; the lines without JSON are in `printed`. The only error of these functions is
+//! out of memory.
 ghost use Rattle.std.specs.Prelude.{◌≡◌, IfOk, Some, string_bytes};
 ghost use Rattle.std.specs.Option.{option_copied};
 ghost use Rattle.cs_micro.specs.Texts.{kind_text, mode_text};
@@ -56,8 +57,9 @@ fn quoted_text(alloc: Global, bytes: &[u8]) -> Result<String, AllocError>
     }
 }
 
-/// JSON fields without braces: `node`, what a new entry is of; of a file and of a symbolic link
-/// `file`, its number; and of a symbolic link `target`, which is `bytes`.
+/// JSON fields without braces: `node` is what a new entry is of; `file`, for a file or a symbolic
+/// link, is its number; `target`, for a symbolic link only, is `bytes`, or `null` if they are no
+/// text.
 fn fields_of_node(alloc: Global, node: Node, bytes: &[u8]) -> Result<String, AllocError>
     ensures { IfOk result (λ text. string_bytes text ≡ node_fields node bytes.now) }
 {
@@ -73,7 +75,8 @@ fn fields_of_node(alloc: Global, node: Node, bytes: &[u8]) -> Result<String, All
     }
 }
 
-/// JSON fields without braces: the kind, the path of a new entry, and what the entry is of.
+/// JSON fields without braces: the kind, the path of a new entry, and what the entry is of. `bytes`
+/// is the target of a symbolic link; for other nodes it isn't looked at.
 fn fields_of_create(
     alloc: Global,
     path: &Path,
@@ -87,7 +90,8 @@ fn fields_of_create(
     format!(in alloc; "\"kind\":\"create_dir_entry\",\"path\":{quoted},{fields}")
 }
 
-/// The word for what an entry holds or held: `dir`, `file` or `symlink`.
+/// The word for what an entry holds or held: `dir`, `file` or `symlink`. (`node_word` of cs_micro
+/// has the same body.)
 fn kind_word(node: Node) -> &'static str
     ensures { result.now ≡ kind_text node }
 {
@@ -117,7 +121,7 @@ fn fields_of_paths(alloc: Global, from: &Path, to: &Path) -> Result<String, Allo
 }
 
 /// JSON fields without braces: those of `fields_of_paths`, and in a trace of the fourth version
-/// `node`, what is moved. In earlier versions only files are.
+/// `node`, what is moved. Earlier versions move only files, so they have no `node`.
 fn fields_of_move(
     alloc: Global,
     version: Version,
@@ -208,6 +212,7 @@ fn fields_of_target(
 /// The permissions of owner, group and others.
 #[derive(Clone, Copy)]
 struct Mode {
+    /// Nine bits: r, w and x of the owner, the group and others.
     permissions: u16,
 }
 
@@ -250,8 +255,8 @@ fn fields_of_set_attr(
 }
 
 /// JSON fields without braces: the kind of a micro-operation of a trace of this version, and the
-/// fields of that kind. `path` is one path of the file whose size, block or rights it changes, and
-/// counts only if it changes one.
+/// fields of that kind. `path` is one path of the file whose size, block or rights it changes, None
+/// if the file has no path; for other kinds it isn't looked at.
 fn fields_of(
     alloc: Global,
     version: Version,
@@ -286,9 +291,11 @@ fn fields_of(
     }
 }
 
-/// Places that are shown as a JSON array, as `write_pick` of cs_every writes them.
+/// Places that are shown as a JSON array. `write_pick` of cs_every writes a line of a picks file in
+/// the same form: change both.
 #[derive(Clone, Copy)]
 struct PlacesArray<'a> {
+    /// In ascending order.
     places: &'a Places,
 }
 
@@ -305,8 +312,9 @@ impl fmt::Display for PlacesArray<'_> {
 }
 
 /// A JSON object and a line feed: the place of a micro-operation, its kind and fields, `line`,
-/// which is the number of the trace's line that it came from, and `needs`, the places of all that
-/// it needs by any chain and its own. `path` is as in `fields_of`.
+/// which is the number of the trace's line that it came from, and `needs`: its own place, and the
+/// places of all that it needs, directly or through others. `path` is as in `fields_of`. The error
+/// is out of memory.
 pub fn op_line(
     alloc: Global,
     version: Version,
@@ -324,9 +332,10 @@ pub fn op_line(
     format!(in alloc; "{{\"op\":{place},{fields},\"line\":{line},\"needs\":{array}}}\n")
 }
 
-/// A recipe: which micro-operations a state has.
+/// A recipe, which says which micro-operations a state has, shown as JSON fields.
 #[derive(Clone, Copy)]
 struct RecipeFields<'a> {
+    /// Of a state of the plan.
     recipe: &'a Recipe,
 }
 
@@ -349,8 +358,8 @@ impl fmt::Display for RecipeFields<'_> {
 }
 
 /// A JSON object and a line feed: the number of a state, the kind and fields of its recipe, how
-/// many acknowledged lines it has, `first`, the number of the first state with an equal tree, which
-/// may be its own, and the profiles whose file systems may leave it.
+/// many acknowledged lines it has, as `same` the number `first` of the first state with an equal
+/// tree, which may be its own, and the profiles whose file systems may leave it.
 pub fn state_line(
     alloc: Global,
     number: usize,

@@ -4,6 +4,7 @@
 #![tactic(auto)]
 
 mod additions;
+mod entries;
 mod json;
 mod json_listing;
 mod lines;
@@ -13,6 +14,7 @@ mod paths;
 mod printed;
 mod profiles;
 mod text;
+mod tree_paths;
 
 pub use cs_options::ListOptions;
 pub use lines::lines_of;

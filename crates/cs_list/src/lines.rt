@@ -14,7 +14,8 @@ use cs_trace_lines::is_blank;
 use std::alloc::{AllocError, Global};
 
 /// Adds the number of the line at the place, which is one more than the place, unless the line is
-/// blank. After an error the numbers are unchanged.
+/// blank (`is_blank` of cs_trace_lines). The error is out of memory; the numbers are unchanged
+/// then.
 fn push_unless_blank(numbers: &mut Vec<usize>, place: usize, line: &str) -> Result<(), AllocError>
     requires { place ≤ 2 ^ 63 }
     ensures { OnOk result
@@ -26,7 +27,8 @@ fn push_unless_blank(numbers: &mut Vec<usize>, place: usize, line: &str) -> Resu
     Ok(())
 }
 
-/// The numbers of a text's lines that aren't blank, in their order.
+/// The numbers of a text's lines that aren't blank, in their order. Empty if all are blank. The
+/// error is out of memory.
 fn numbers_not_blank(alloc: Global, text: &str) -> Result<Vec<usize>, AllocError>
     ensures { IfOk result (λ numbers. numbers.items ≡ numbers_not_blank (lines_in text.now)) }
 {
@@ -37,14 +39,16 @@ fn numbers_not_blank(alloc: Global, text: &str) -> Result<Vec<usize>, AllocError
     Ok(numbers)
 }
 
-/// The number at the place; 0, which is no line's number, if the place is past the end.
+/// The line number at the place in the list; 0, which is no line's number, if the place is past the
+/// end.
 pub fn number_at(numbers: &[usize], place: usize) -> usize
     ensures { result ≡ slice_index numbers.now place }
 {
     numbers.get(place).copied().unwrap_or(0)
 }
 
-/// Adds the number of a line `count` times. After an error the lines are unchanged.
+/// Adds the number of a line `count` times. The error is out of memory; the lines are unchanged
+/// then.
 fn push_repeated(
     alloc: Global,
     lines: &mut Vec<usize>,
@@ -59,6 +63,8 @@ fn push_repeated(
 
 /// For each micro-operation that the operations make, the number of its operation's line. `numbers`
 /// has those of all lines that aren't blank; the one at the place `first` is the first operation's.
+/// The error is out of memory. The operations are those of a trace, which bounds their sizes and
+/// `first`.
 fn lines_of_operations(
     alloc: Global,
     version: Version,
@@ -79,9 +85,10 @@ fn lines_of_operations(
     Ok(lines)
 }
 
-/// For each micro-operation of a trace, the number of the line that it came from. The text is the
-/// trace's. Of its lines that aren't blank, the header and the lines of the start come first, as
-/// many as the trace has records; each line after them is an operation's.
+/// For each micro-operation of a trace, the number of the line that it came from. `text` is what
+/// `trace` was read from, which isn't checked. Of its lines that aren't blank, the header and the
+/// lines of the start come first, as many as the trace has records (the header's is the root); each
+/// line after them is an operation's. The error is out of memory.
 pub fn lines_of(alloc: Global, text: &str, trace: &Trace) -> Result<Vec<usize>, AllocError>
     ensures { IfOk result (λ lines. lines.items ≡ lines_of text.now trace.now) }
 {

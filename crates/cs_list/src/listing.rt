@@ -16,7 +16,7 @@ use std::io::Write;
 use std::sync::Arc;
 
 /// The text of the list of the inputs, with what the options ask for. An error is a fault of the
-/// inputs or of the plan that the options give, or out of memory.
+/// inputs, PlanTooLarge if the options' families make the plan too large, or out of memory.
 fn listing_of(alloc: Global, inputs: &Inputs, options: ListOptions) -> Result<Vec<u8>, ProgramFault>
     ensures { IfOk result (λ text. IsListing inputs.now options text.items) }
 {
@@ -27,8 +27,8 @@ fn listing_of(alloc: Global, inputs: &Inputs, options: ListOptions) -> Result<Ve
     text_of(alloc, inputs.trace, &scene, options)
 }
 
-/// Writes the list to a writer. Nothing is written before all of the text is made; after an error
-/// nothing was written, or some of the text, from the front.
+/// Writes the list to a writer. Nothing is written before all of the text is made. After a fault of
+/// the output a first part of the text is written; after any other error nothing is.
 fn print_list<W: Write>(
     alloc: Global,
     inputs: &Inputs,
@@ -70,7 +70,7 @@ fn plain_listing_of(alloc: Global, inputs: &Inputs) -> Result<Vec<u8>, ProgramFa
     plain_text(alloc, &scene)
 }
 
-/// Writes the list without options to a writer, as `print_list` does.
+/// Writes the list without options to a writer, as `print_list` does, with the same errors.
 fn print_plain<W: Write>(alloc: Global, inputs: &Inputs, out: &mut W) -> Result<(), ProgramFault>
     ensures { WritesSuch (IsTextOf inputs.now list_text) result
         (W.contents out.old) (W.contents out.new) }
@@ -79,7 +79,8 @@ fn print_plain<W: Write>(alloc: Global, inputs: &Inputs, out: &mut W) -> Result<
     print_to(out, &text)
 }
 
-/// The command `list` without options, as `list_with` does it.
+/// Library surface: no command calls it. It is the command `list` without options: it writes to
+/// `out`, and returns the exit status, as `list_with` does.
 pub fn list_of<W: Write, E: Write>(alloc: Global, inputs: &Inputs, out: &mut W, err: &mut E) -> u8
     ensures status { result ≤ 1 }
     ensures printed { WritesSuch (IsTextOf inputs.now list_text) (reported result)
@@ -89,9 +90,10 @@ pub fn list_of<W: Write, E: Write>(alloc: Global, inputs: &Inputs, out: &mut W, 
     exit_status(done, ProgramFault::Output, out, err)
 }
 
-/// The list without options, to a stream, whose counts show what a fault blames. Memory for the
-/// whole text is taken before any of it is written. After an error nothing was written, or some of
-/// the text, from the front.
+/// Library surface: no command calls it. It writes the list without options to a stream, whose
+/// counts of faults say whether an error is the stream's. An error is a fault of the inputs, of the
+/// output, or out of memory. Memory for the whole text is taken before any of it is written. After
+/// an error nothing was written, or some of the text, from the front.
 pub fn list_to<S: Stream>(
     alloc: Global,
     inputs: &Inputs,

@@ -4,14 +4,15 @@ ghost use Rattle.std.specs.Prelude.{IfErr};
 ghost use Rattle.cs_inputs.specs.Written.{IsOfNoStream};
 
 use crate::lines::number_at;
-use crate::paths::FilePaths;
 use crate::printed::{OpLine, Origin, StateLine};
+use crate::tree_paths::TreePaths;
 use cs_inputs::ProgramFault;
 use cs_plan::Scene;
 use std::alloc::Global;
 use std::io::Write;
 
-/// The number of the trace's line of the micro-operation at the place. None if it isn't asked for.
+/// The number of the trace's line that the micro-operation at the place came from, of `lines`. None
+/// if it isn't asked for.
 fn line_at(lines: &[usize], place: usize, is_asked: bool) -> Option<usize> {
     if is_asked {
         Some(number_at(lines, place))
@@ -21,8 +22,8 @@ fn line_at(lines: &[usize], place: usize, is_asked: bool) -> Option<usize> {
 }
 
 /// Adds a line for each micro-operation to the text. If `has_lines`, each has the number of the
-/// trace's line that it came from, of `lines`, and the path of a file that it changes. After an
-/// error the text has the lines that were made before, and perhaps a part of the next.
+/// trace's line that it came from, of `lines`, and the path of a file that it changes. The error is
+/// out of memory; the text has the lines that were made before, and perhaps a part of the next.
 pub fn push_op_lines(
     alloc: Global,
     scene: &Scene,
@@ -32,7 +33,7 @@ pub fn push_op_lines(
 ) -> Result<(), ProgramFault>
     ensures { IfErr result IsOfNoStream }
 {
-    let Ok(mut paths) = FilePaths::of(alloc, scene.micros()) else {
+    let Ok(mut paths) = TreePaths::of(alloc, scene) else {
         return Err(ProgramFault::Memory);
     };
     for (place, op) in scene.micros().ops().iter().enumerate() {
@@ -47,7 +48,8 @@ pub fn push_op_lines(
     Ok(())
 }
 
-/// The number of the first state with the tree of this one. None if it isn't asked for.
+/// The number of the first state whose tree is equal to that of the state `number`, of `firsts`.
+/// None if it isn't asked for.
 fn first_at(firsts: &[u32], number: usize, is_asked: bool) -> Option<u32> {
     if is_asked {
         firsts.get(number).copied()
@@ -57,8 +59,8 @@ fn first_at(firsts: &[u32], number: usize, is_asked: bool) -> Option<u32> {
 }
 
 /// Adds a line for each state to the text. If `has_firsts`, each has the number of the first state
-/// with an equal tree, of `firsts`. After an error the text has the lines that were made before,
-/// and perhaps a part of the next.
+/// with an equal tree, of `firsts`. The error is out of memory; the text has the lines that were
+/// made before, and perhaps a part of the next.
 pub fn push_state_lines(
     scene: &Scene,
     firsts: &[u32],

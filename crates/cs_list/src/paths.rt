@@ -1,26 +1,31 @@
-//! The paths that each file has after the first micro-operations of a trace.
+//! The paths that each file has after the first micro-operations of a trace. They are kept by the
+//! files' numbers, the oldest first, which the entries of a tree don't show. The only error of
+//! these functions is out of memory.
 use cs_entries::Node;
 use cs_entries::entry::copy_name;
 use cs_micro::{MicroOp, Micros};
 use cs_names::{Name, Path};
-use cs_same_states::changed_file;
 use std::alloc::{AllocError, Global};
 
 /// A path of a file: one of the trace's own, or one that the file has since a directory above it
 /// was moved.
 #[derive(Drop)]
 enum FilePath<'a> {
+    /// As an operation of the trace, or its start, names it.
     Named(&'a Path),
+    /// Made here, when a directory above the file was moved.
     Moved(Path),
 }
 
 /// The paths of each file, by its number, the oldest first. A file that was deleted has none.
 #[derive(Drop)]
 pub struct FilePaths<'a> {
+    /// At the place of a file's number, its paths.
     files: Vec<Vec<FilePath<'a>>>,
 }
 
 impl<'a> FilePath<'a> {
+    /// The path, of whichever kind.
     fn path(&self) -> &Path {
         match self {
             FilePath::Named(path) => path,
@@ -38,8 +43,8 @@ fn replace<'a>(paths: &mut [FilePath<'a>], old: &Path, new: &'a Path) {
     }
 }
 
-/// Appends copies of a path's names, but for the first `skipped` of them. After an error some are
-/// there.
+/// Appends copies of a path's names, but for the first `skipped` of them. After an error some of
+/// them are appended.
 fn push_names(
     alloc: Global,
     path: &Path,
@@ -52,7 +57,8 @@ fn push_names(
     Ok(())
 }
 
-/// The path with the names of `to` in place of its first names, which are those of `from`.
+/// The path with the names of `to` in place of its first names, which the caller has found to be
+/// those of `from`.
 fn path_below(alloc: Global, path: &Path, from: &Path, to: &Path) -> Result<Path, AllocError> {
     let mut names = Vec::new(alloc);
     push_names(alloc, to, 0, &mut names)?;
@@ -61,7 +67,7 @@ fn path_below(alloc: Global, path: &Path, from: &Path, to: &Path) -> Result<Path
 }
 
 /// Gives each path that begins with `from` the names of `to` in place of these. After an error some
-/// have them.
+/// of the paths have changed.
 fn move_below(
     alloc: Global,
     paths: &mut [FilePath<'_>],
@@ -77,7 +83,8 @@ fn move_below(
 }
 
 impl<'a> FilePaths<'a> {
-    /// The paths of the files with which a trace starts, before its first micro-operation.
+    /// The paths of the files with which a trace starts, before its first micro-operation. The
+    /// error is out of memory.
     pub fn of(alloc: Global, micros: &'a Micros) -> Result<FilePaths<'a>, AllocError> {
         let mut files = FilePaths {
             files: Vec::new(alloc),
@@ -107,10 +114,9 @@ impl<'a> FilePaths<'a> {
         Ok(())
     }
 
-    /// The oldest path of the file whose size, block or rights the micro-operation changes. None if
-    /// it changes no file, or one that has no path any more.
-    pub fn path_of_changed_file(&self, op: &MicroOp) -> Option<&Path> {
-        let file = changed_file(op)?;
+    /// The oldest path of the file of the number. None if it has no path, and if there is no such
+    /// file.
+    pub fn path_of_file(&self, file: u32) -> Option<&Path> {
         let paths = self.files.get(file as usize)?;
         let first = paths.first()?;
         Some(first.path())
@@ -123,7 +129,8 @@ impl<'a> FilePaths<'a> {
         }
     }
 
-    /// Adds a path of a file. What was there before loses it.
+    /// Adds a path of a file. Callers know the file to be there already; to another number no path
+    /// is added. A file that had the path loses it, also if an error follows.
     fn link_path(&mut self, path: &'a Path, file: u32) -> Result<(), AllocError> {
         self.remove_path(path);
         // a link is of a file that is there already
@@ -133,8 +140,8 @@ impl<'a> FilePaths<'a> {
         Ok(())
     }
 
-    /// Gives the file at `from` the path `to` instead. A file that was at `to` loses that path,
-    /// even if no file is at `from`.
+    /// Gives the file that has the path `from` the path `to` instead. A file that had the path `to`
+    /// loses it, even if no file has the path `from`.
     fn move_path(&mut self, from: &Path, to: &'a Path) {
         self.remove_path(to);
         for paths in self.files.iter_mut() {
@@ -142,7 +149,8 @@ impl<'a> FilePaths<'a> {
         }
     }
 
-    /// Moves all files below the directory at `from` to the same places below `to`.
+    /// Moves all files below the directory at `from` to the same places below `to`. After an error
+    /// some of them are moved.
     fn move_directory(&mut self, alloc: Global, from: &Path, to: &Path) -> Result<(), AllocError> {
         for paths in self.files.iter_mut() {
             move_below(alloc, paths, from, to)?;

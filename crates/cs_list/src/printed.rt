@@ -10,11 +10,12 @@ use cs_names::Path;
 use cs_plan::Recipe;
 use std::fmt;
 
-/// Where a micro-operation came from: the number of the trace's line, None if no option wants it,
-/// and the path of the file that it changes, None if it changes none or the file has no path.
+/// Where a micro-operation came from, for the end of its line.
 #[derive(Clone, Copy)]
 pub struct Origin<'a> {
+    /// The number of the trace's line, from 1; None if no option asks for it.
     pub line: Option<usize>,
+    /// One path of the file that it changes; None if it changes none, or the file has no path.
     pub path: Option<&'a Path>,
 }
 
@@ -35,8 +36,11 @@ impl fmt::Display for Origin<'_> {
 /// that of the plain list, which cs_plan's `Listing` writes: change both.
 #[derive(Clone, Copy)]
 pub struct OpLine<'a> {
+    /// Its place among the trace's micro-operations, from 0.
     pub place: usize,
+    /// The micro-operation.
     pub op: &'a MicroOp,
+    /// Where it came from; nothing is printed of it if its line is None.
     pub origin: Origin<'a>,
 }
 
@@ -48,15 +52,16 @@ impl fmt::Display for OpLine<'_> {
         ++ (op_text l.op.now
         ++ (origin_text l.origin.line (option_copied l.origin.path) ++ codes "\n"))))) };
 
-    /// Writes the line, with its line feed.
+    /// Writes `op `, the place, the micro-operation and its origin, with a line feed.
     fn fmt<W: fmt::Write>(&self, f: &mut fmt::Formatter<W>) -> fmt::Result {
         write!(f, "op {} {}{}\n", self.place, self.op, self.origin)
     }
 }
 
-/// The number of the first state with an equal tree. None if no option wants it.
+/// The number of the first state with an equal tree, for the end of a state's line.
 #[derive(Clone, Copy)]
 struct Same {
+    /// None if no option asks for it.
     first: Option<u32>,
 }
 
@@ -72,14 +77,18 @@ impl fmt::Display for Same {
     }
 }
 
-/// A state: its number, its recipe, how many acknowledged lines it has, and the number of the first
-/// state with an equal tree, None if no option wants it. Without the last its line is that of the
-/// plain list, which cs_plan's `Listing` writes: change both.
+/// A state of the plan. Without `first` its line is that of the plain list, which cs_plan's
+/// `Listing` writes: change both.
 #[derive(Clone, Copy)]
 pub struct StateLine<'a> {
+    /// From 0.
     pub number: usize,
+    /// Which micro-operations it has.
     pub recipe: &'a Recipe,
+    /// How many acknowledged lines it has.
     pub says: u32,
+    /// The number of the first state with an equal tree, which may be its own; None if no option
+    /// asks for it.
     pub first: Option<u32>,
 }
 
@@ -91,7 +100,8 @@ impl fmt::Display for StateLine<'_> {
         ++ (recipe_text l.recipe.now
         ++ (codes " says " ++ (decimal l.says ++ (same_text l.first ++ codes "\n"))))))) };
 
-    /// Writes the line, with its line feed.
+    /// Writes `state `, the number, the recipe, ` says ` and how many acknowledged lines, and `
+    /// same ` if asked for, with a line feed.
     fn fmt<W: fmt::Write>(&self, f: &mut fmt::Formatter<W>) -> fmt::Result {
         let same = Same { first: self.first };
         write!(

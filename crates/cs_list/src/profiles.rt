@@ -11,9 +11,12 @@ use std::alloc::{AllocError, Global};
 /// Which profiles a set has: those whose file systems may leave it.
 #[derive(Clone, Copy, Debug, PartialEq, Eq)]
 pub struct Profiles {
+    /// A file system that keeps only changes of the same directory entry in order may leave it.
     pub blocks: bool,
+    /// So may one that keeps all changes of entries in order.
     pub ordered: bool,
-    /// Of a trace of the fourth version.
+    /// So may one with one journal, in which a sync makes earlier changes of entries durable, too.
+    /// False for a trace of an earlier version than the fourth, which has no such profile.
     pub journal: bool,
 }
 
@@ -38,13 +41,16 @@ impl Profiles {
 /// The order of a trace's micro-operations on a file system of each profile.
 #[derive(Drop)]
 pub struct Orders {
+    /// That of the profile `blocks`.
     pub blocks: Order,
+    /// That of the profile `ordered`.
     pub ordered: Order,
+    /// That of the profile `journal`.
     pub journal: Order,
 }
 
 impl Orders {
-    /// All three orders.
+    /// All three orders. The error is out of memory.
     pub fn of(alloc: Global, micros: &Micros) -> Result<Orders, AllocError>
         ensures { IfOk result (λ orders. AreOrders micros.now orders) }
     {
@@ -57,7 +63,8 @@ impl Orders {
 }
 
 /// Whether the trace is one of the fourth version, and a file system of the profile `journal` may
-/// leave the set. Earlier versions have no such profile.
+/// leave the set. Earlier versions have no such profile. `orders` are those of the same
+/// micro-operations.
 fn may_be_left_by_journal(micros: &Micros, orders: &Orders, places: &[u32]) -> bool
     requires { AreOrders micros.now orders.now }
     ensures { IsTrue result ↔ MayBeLeftByJournal micros.now places.now }
@@ -65,7 +72,8 @@ fn may_be_left_by_journal(micros: &Micros, orders: &Orders, places: &[u32]) -> b
     micros.version().is_fourth() && may_be_left(micros, Profile::Journal, &orders.journal, places)
 }
 
-/// The profiles of the set of micro-operations at these places.
+/// The profiles of the set of micro-operations at these places. `orders` are those of the same
+/// micro-operations.
 pub fn profiles_of(micros: &Micros, orders: &Orders, places: &[u32]) -> Profiles
     requires { AreOrders micros.now orders.now }
     ensures { HasProfiles micros.now places.now result }

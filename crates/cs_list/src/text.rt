@@ -45,8 +45,8 @@ fn lines_in(alloc: Global, trace: &[u8], scene: &Scene) -> Result<Vec<usize>, Pr
     }
 }
 
-/// For each state, the number of the first one with an equal tree, which may be its own; none if
-/// the options don't ask for them. The error is out of memory.
+/// For each state, the number of the first one with an equal tree, which may be its own; an empty
+/// list if the options don't ask for them. The error is out of memory.
 fn firsts_in(
     alloc: Global,
     scene: &Arc<Scene>,
@@ -58,7 +58,8 @@ fn firsts_in(
     first_same(alloc, scene)
 }
 
-/// The text as JSON, for these lines and first equal states. The error is out of memory.
+/// The text as JSON. `lines` has for each micro-operation the number of the trace's line, `firsts`
+/// for each state the first one with an equal tree. The error is out of memory.
 fn json_objects(
     alloc: Global,
     scene: &Scene,
@@ -92,7 +93,8 @@ fn json_text(alloc: Global, trace: &[u8], scene: &Arc<Scene>) -> Result<Vec<u8>,
     }
 }
 
-/// The plain text with lines or equal states. The error is as that of `json_text`.
+/// The plain text, with the trace's lines, the first equal states, or both, as the options ask. The
+/// error is as that of `json_text`.
 fn marked_text(
     alloc: Global,
     trace: &[u8],

@@ -6,7 +6,7 @@ use std::fmt;
 use std::io::Write;
 
 /// Prints one line: the connection's number, the arrow, and what is shown: a request or a reply, or
-/// why its bytes are neither. A failed write is passed over.
+/// why its bytes are neither. A failed write is ignored.
 fn print_one<M: fmt::Display, E: Write>(
     conn: u32,
     arrow: &str,
@@ -20,7 +20,8 @@ fn print_one<M: fmt::Display, E: Write>(
 }
 
 /// Prints a connection's request and its reply as two lines of text, with the connection's number
-/// and `<-` or `->` before them. A failed write is passed over.
+/// and `<-` or `->` before them. A failed write is ignored. For bytes that aren't a message, also
+/// because memory ran out for it, the fault is printed.
 pub fn print_exchange<R: fmt::Display, E: Write>(
     conn: u32,
     request: &Result<TMessage<'_>, WireFault>,

@@ -22,14 +22,14 @@ abbrev pub touched_blocks : ℕ → ℕ → List ℕ → List ℕ
 touched_blocks size offset bytes =
     from_to (block_of size offset) (block_of size (offset + length bytes - 1))
 
--- where those that fall into a block begin in the file, and where they end
+-- the offsets in the file at which the bytes that fall into a block begin and end
 abbrev pub begin_in : ℕ → ℕ → ℕ → ℕ
 begin_in size block offset = max offset (start_of size block)
 
 abbrev pub end_in : ℕ → ℕ → ℕ → List ℕ → ℕ
 end_in size block offset bytes = min (offset + length bytes) (start_of size (block + 1))
 
--- those that fall into a block
+-- the bytes that fall into a block
 abbrev pub bytes_in : ℕ → ℕ → ℕ → List ℕ → List ℕ
 bytes_in size block offset bytes =
     slice_range bytes (begin_in size block offset - offset)
@@ -42,7 +42,7 @@ block_write size file offset bytes block =
     WriteBlock file block (start_of size block) (begin_in size block offset - start_of size block)
     (bytes_in size block offset bytes)
 
--- and in all of them
+-- a write's parts in all blocks that it touches
 unfoldable pub block_writes : ℕ → ℕ → ℕ → List ℕ → List MicroOp
 block_writes size file offset bytes =
     map (block_write size file offset bytes) (touched_blocks size offset bytes)

@@ -80,8 +80,8 @@ IsNew version m e (File Symlink file) bytes =
 IsNew version m e (Directory number) bytes =
     (number ≡ number_for version m.homes e) × (bytes ≡ [])
 
--- a link is a file's that has an entry already. The first half of a rename may be of a symbolic
--- link, and replaces what is there; any other is of a regular file, and nothing is there
+-- a link is of a file that has an entry already. The first half of a rename may be of a symbolic
+-- link, and replaces what is there; any other link is of a regular file, where nothing is
 abbrev pub IsLink : Made → Entry → FileKind → ℕ → Option Node → Bool → Type 0
 IsLink m e kind file old half =
     (file < m.files) × Stands (held_in m.entries) kind file × (get m.entries e ≡ old)
@@ -105,9 +105,9 @@ IsFitting version m (SetAttr (targets.File file) rights) =
 IsFitting version m (SetAttr (targets.Directory number path) rights) = IsOctal rights
 IsFitting version m Say = Unit {0}
 
--- it is legal in what was made so far: of entries; bytes lie in their block, whose place in the
--- file is that of its number, and no file is too large; what is changed is there, and permissions
--- are three octal digits
+-- it is legal after what was made so far: by the rules of entries; bytes are in their block, which
+-- begins in the file as its number says, and no file is too large; what is changed is there; and
+-- permissions are three octal digits
 pub record IsLegal (version : Version) (m : Made) (o : MicroOp) : Type 0 where
   pub named : AreNamed (held_in m.entries) o
   pub entry : IsLegalEntryOp (held_in m.entries) (entry_op o)

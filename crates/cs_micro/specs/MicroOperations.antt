@@ -126,7 +126,7 @@ micros_of version (SetAttr target before after) = set_attr_micros target before 
 micros_of version (Sync covers) = []
 micros_of version Say = micro.Say ∷ []
 
--- those of all operations, one after another
+-- the micro-operations of all operations, one operation after another
 unfoldable pub micro_operations_of : Version → List Operation → List MicroOp
 micro_operations_of version operations = flat_map (micros_of version) operations
 

@@ -29,7 +29,7 @@ linked_to file links = map (λ l. l.0) (filter (λ l. l.1 == file) links)
 abbrev pub paths_of_file : List Path → List (Path × ℕ) → ℕ → List Path
 paths_of_file files links file = slice_index_or files file [] ∷ linked_to file links
 
--- those of each of them
+-- the paths of each of the start's files
 unfoldable pub paths_of_files : List Path → List (Path × ℕ) → List (List Path)
 paths_of_files files links = map (paths_of_file files links) (range_with_len 0 (length files))
 
@@ -42,7 +42,7 @@ micros_in t = record {
   version = t.version;
 }
 
--- it has something to keep
+-- there is at least one micro-operation, sync point or file at the start
 abbrev pub HoldsAny : Micros → Type 0
 HoldsAny m = 0 < length m.ops + length m.syncs + length m.starts
 

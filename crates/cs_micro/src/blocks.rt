@@ -1,5 +1,5 @@
 //! The blocks of a file that a write touches, and what it writes into each. Here `block` is the
-//! number of a block, from 0, and offsets are in bytes from the start of the file.
+//! number of a block in its file, from 0, and offsets are in bytes from the start of the file.
 ghost use Rattle.std.specs.Prelude.{◌≡◌, ◌++◌, ◌+◌, ◌<◌, ◌≤◌, length, IfOk, OnOk};
 ghost use Rattle.std.specs.List.{flat_map};
 ghost use Rattle.cs_trace_lines.specs.Versions.{block_bytes};
@@ -11,7 +11,8 @@ use cs_names::Bytes;
 use cs_trace::{BlockSize, LARGE_FILE_BYTES};
 use std::alloc::{AllocError, Global};
 
-/// The number, from 0, of the block that has the byte at this offset of a file.
+/// The number, from 0, of the block that has the byte at this offset of a file, if blocks have this
+/// size.
 pub fn block_of(block_size: BlockSize, offset: u64) -> u64
     ensures value { result ≡ block_of (block_bytes block_size) offset }
     ensures few { result ≤ offset }
@@ -19,8 +20,8 @@ pub fn block_of(block_size: BlockSize, offset: u64) -> u64
     offset / block_size.bytes()
 }
 
-/// The micro-operation that writes into one block those of the bytes that fall into it; the bytes
-/// must touch the block. The first byte's offset in the file is `offset`.
+/// The micro-operation that writes into one block those of the bytes that fall into it. At least
+/// one must. The first of `bytes` has the offset `offset` in the file.
 fn write_block(
     alloc: Global,
     block_size: BlockSize,
@@ -49,7 +50,7 @@ fn write_block(
 }
 
 /// Appends a write of at least one byte at the offset, as one micro-operation for each block that
-/// it touches, in their order. After an error, some of them may have been appended.
+/// it touches, in ascending order. After an error, some of them may have been appended.
 pub fn push_blocks(
     alloc: Global,
     ops: &mut Vec<MicroOp>,
@@ -71,8 +72,8 @@ pub fn push_blocks(
     Ok(())
 }
 
-/// A law: the parts of a write in the blocks that it touches, one after another, are its bytes, of
-/// which there must be at least one. The call does nothing.
+/// A law: the bytes that a write puts into the blocks that it touches, one block after another, are
+/// the bytes of the write, of which there must be at least one. The call does nothing.
 pub fn blocks_make_up_a_write(block_size: BlockSize, offset: u64, bytes: &[u8])
     requires { 0 < length bytes.now }
     ensures { flat_map (λ block. bytes_in (block_bytes block_size) block offset bytes.now)

@@ -1,5 +1,5 @@
-//! Breaks a list of operations into micro-operations and sync points. An error is that memory ran
-//! out; the lists are dropped then, with what was appended so far.
+//! Breaks a list of operations into micro-operations and sync points. After an error, some may have
+//! been appended; `micros_and_syncs` then drops both lists.
 ghost use Rattle.std.specs.Prelude.{◌≡◌, ◌++◌, ◌∷◌, [], ◌+◌, ◌<◌, length, IfOk, IsErr, OnOk};
 ghost use Rattle.std.specs.List.{All};
 ghost use Rattle.cs_micro.specs.MicroOperations.{IsWithinLimit, micro_operations_of, micros_of};
@@ -16,7 +16,8 @@ use cs_entries::{FileKind, Node};
 use cs_trace::{Operation, Rights, Target, Version};
 use std::alloc::{AllocError, Global};
 
-/// Appends a change of the target's rights from `before` to `after`; nothing if they are the same.
+/// Appends a change of the target's owner, group and permissions from `before` to `after`; nothing
+/// if they are equal. The micro-operation has all three as they are after it.
 fn push_set_attr(
     alloc: Global,
     ops: &mut Vec<MicroOp>,
@@ -38,7 +39,7 @@ fn push_set_attr(
     Ok(())
 }
 
-/// Appends an acknowledgement to the application's users, without its text.
+/// Appends an acknowledged line, without its text.
 fn push_say(ops: &mut Vec<MicroOp>) -> Result<(), AllocError>
     ensures { OnOk result (ops.new.items ≡ ops.old.items ++ MicroOp.Say ∷ []) }
 {
@@ -46,8 +47,8 @@ fn push_say(ops: &mut Vec<MicroOp>) -> Result<(), AllocError>
     Ok(())
 }
 
-/// Appends the micro-operations of one operation; `micro_count` counts the same. After an error,
-/// some of them may have been appended.
+/// Appends the micro-operations of one operation, as many as `micro_count` says; none for a sync.
+/// After an error, some of them may have been appended.
 fn push_micros(
     alloc: Global,
     ops: &mut Vec<MicroOp>,
@@ -113,7 +114,7 @@ fn push_micros(
     }
 }
 
-/// Appends the sync point of the operation, before which `count` micro-operations come; nothing if
+/// Appends the sync point of the operation, which comes after `count` micro-operations; nothing if
 /// the operation is no sync.
 fn push_sync(
     alloc: Global,

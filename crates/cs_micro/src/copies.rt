@@ -1,4 +1,5 @@
 //! Copies of parts of a trace's operations, for its micro-operations and sync points.
+//! An error is that memory ran out for a path.
 ghost use Rattle.std.specs.Prelude.{◌≡◌, IfOk};
 
 use cs_trace::{Covers, Target};

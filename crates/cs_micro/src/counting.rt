@@ -1,5 +1,6 @@
-//! How many micro-operations operations break into, counted before the first of them is made. Here
-//! `size` is the size of a file before the operation. Nothing here allocates.
+//! How many micro-operations operations break into, counted before the first is made, so that
+//! TooMany takes no memory. Here `size` is the size of a file before the operation, in bytes.
+//! Nothing here allocates.
 ghost use Rattle.std.specs.Prelude.{◌≡◌, ◌+◌, ◌<◌, ◌≤◌, ◌↔◌, length, IsTrue, List, Option, ℕ};
 ghost use Rattle.std.specs.List.{All};
 ghost use Rattle.cs_entries.specs.declared.node.Node.{Node};
@@ -17,7 +18,7 @@ use cs_entries::{DirEntry, Node};
 use cs_names::limits::MICRO_OPERATIONS;
 use cs_trace::{BlockSize, LARGE_FILE_BYTES, Operation, Profile, Rights, Version};
 
-/// How many blocks so many bytes from the offset on touch. There must be at least one byte.
+/// How many blocks `count` bytes from the offset on touch. There must be at least one byte.
 fn count_of_blocks(block_size: BlockSize, offset: u64, count: usize) -> usize
     requires some { 0 < count }
     requires end { offset + count ≤ LARGE_FILE_BYTES }
@@ -29,8 +30,8 @@ fn count_of_blocks(block_size: BlockSize, offset: u64, count: usize) -> usize
     (block_of(block_size, last) + 1 - block_of(block_size, offset)) as usize
 }
 
-/// How many changes of size a write is that ends at `end`: none if the file doesn't grow, and two
-/// if it grows past the end of its last page in the fourth version.
+/// How many changes of size a write becomes that ends at `end`: none if the file doesn't grow; two
+/// if, in version 4, it grows past the end of a last page that is partly used; else one.
 fn count_of_growth(version: Version, size: u64, end: u64) -> usize
     requires { end ≤ LARGE_FILE_BYTES }
     ensures value { (file : ℕ) → result ≡ length (growth_micros version file size end) }
@@ -59,8 +60,8 @@ fn count_of_write(version: Version, size: u64, offset: u64, bytes: &[u8]) -> usi
     changes + count_of_blocks(version.block_size(), offset, bytes.len())
 }
 
-/// How many micro-operations `push_zeros` appends: one for each block in which a file that is cut
-/// to `to` is zeroed first; none before the fourth version.
+/// How many micro-operations `push_zeros` appends: one for each block into which zeros are written
+/// before a file is cut to `to`; none before version 4.
 fn count_of_zeros(version: Version, size: u64, to: u64) -> usize
     requires { to ≤ LARGE_FILE_BYTES }
     ensures value { (file : ℕ) → result ≡ length (zero_micros version file size to) }
@@ -76,7 +77,8 @@ fn count_of_zeros(version: Version, size: u64, to: u64) -> usize
     count_of_blocks(version.block_size(), to, count)
 }
 
-/// How many micro-operations `push_truncate` appends: one, after the zeros, if the size changes.
+/// How many micro-operations `push_truncate` appends: those of the zeros and one change of size;
+/// none if the size stays.
 fn count_of_truncate(version: Version, size: u64, to: u64) -> usize
     requires { to ≤ most_bytes version }
     ensures { (file : ℕ) → result ≡ length (truncate_micros version file size to) }
@@ -87,16 +89,16 @@ fn count_of_truncate(version: Version, size: u64, to: u64) -> usize
     count_of_zeros(version, size, to) + 1
 }
 
-/// Whether a rename of a file or a symbolic link reaches the disk as a link and an unlink: in the
-/// fourth version, into another directory, on a file system that keeps no order.
+/// Whether a rename of a file or a symbolic link has two halves, which reach the disk one by one:
+/// in version 4 with the profile `blocks`, into another directory. A directory's never has.
 pub fn comes_in_halves(version: Version, from: &DirEntry, to: &DirEntry) -> bool
     ensures { result ≡ comes_in_halves version from.now to.now }
 {
     version.is_fourth() && version.profile() == Profile::Blocks && from.directory != to.directory
 }
 
-/// How many micro-operations `push_rename` appends: one or two, and none for a rename of an entry
-/// to itself.
+/// How many micro-operations `push_rename` appends: two for a rename in halves, one for any other,
+/// and none for a rename of an entry to itself.
 fn count_of_rename(version: Version, from: &DirEntry, to: &DirEntry, node: Node) -> usize
     ensures { (replaced : Option Node)
         → result ≡ length (rename_micros version from.now to.now node replaced) }
@@ -120,7 +122,7 @@ pub fn is_no_change(before: &Rights, after: &Rights) -> bool
 
 /// How many micro-operations an operation breaks into, as `push_micros` appends them: 0 for a sync,
 /// a write of no bytes, a rename of an entry to itself, and a truncate or a change of rights that
-/// changes nothing.
+/// changes nothing. Each operation of a trace that was read is within the limit that this requires.
 pub fn micro_count(version: Version, operation: &Operation) -> usize
     requires { IsWithinLimit version operation.now }
     ensures { result ≡ length (micros_of version operation.now) }
@@ -146,7 +148,7 @@ pub fn micro_count(version: Version, operation: &Operation) -> usize
     }
 }
 
-/// Whether the operations break into at most MICRO_OPERATIONS micro-operations together.
+/// Whether the operations break into at most MICRO_OPERATIONS micro-operations, all together.
 pub fn has_room(version: Version, operations: &[Operation]) -> bool
     requires { All (IsWithinLimit version) operations.now }
     ensures { IsTrue result

@@ -1,4 +1,4 @@
-//! Why a trace can't be broken into micro-operations.
+//! Why a trace can't be broken into micro-operations. Then nothing is left of what was made.
 ghost use Rattle.std.specs.Prelude.{◌≡◌, Some};
 ghost use Rattle.cs_micro.specs.Texts.{fault_text};
 ghost use Rattle.cs_micro.specs.declared.fault.MicroFault.TheVariants.{Memory};
@@ -9,7 +9,8 @@ use std::fmt;
 /// Why a trace can't be broken into micro-operations.
 #[derive(Clone, Copy, Debug, PartialEq, Eq)]
 pub enum MicroFault {
-    /// It has more than MICRO_OPERATIONS micro-operations.
+    /// The trace has more than MICRO_OPERATIONS micro-operations. It is found before memory is
+    /// taken.
     TooMany,
     /// Out of memory.
     Memory,
@@ -18,7 +19,7 @@ pub enum MicroFault {
 impl fmt::Display for MicroFault {
     ghost output = { λ fault. Some (fault_text fault) };
 
-    /// Prints the fault as the program reports it.
+    /// Prints `too many micro-operations` or `out of memory`.
     fn fmt<W: fmt::Write>(&self, f: &mut fmt::Formatter<W>) -> fmt::Result {
         f.write_str(match self {
             MicroFault::TooMany => "too many micro-operations",

@@ -10,8 +10,8 @@ ghost use Rattle.cs_micro.specs.Micros.{micros_in};
 use cs_names::laws::know;
 use cs_trace::Trace;
 
-/// In the first three versions, a trace breaks into the micro-operations and the sync points that
-/// it broke into before version 4, by the definitions of then.
+/// For a trace of versions 1 to 3, the definitions of today (`specs`) and those from before version
+/// 4 (`specs/Earlier`) agree on the micro-operations and the sync points.
 pub fn earlier_versions_break_up_as_before(trace: &Trace)
     requires { is_fourth trace.now.version ≡ false }
     ensures { micros_as_before (micros_in trace.now) ≡ micros_before (trace_before trace.now) }

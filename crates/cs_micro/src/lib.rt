@@ -1,4 +1,6 @@
-//! The operations of a trace, broken into the steps that reach the disk one by one.
+//! The operations of a trace, broken into micro-operations: steps that reach the disk whole or not
+//! at all. docs/MODEL.md, "Micro-operations", has the table. Each error but TooMany is that memory
+//! ran out; what was made so far is then dropped.
 #![tactic(auto)]
 
 mod attributes;

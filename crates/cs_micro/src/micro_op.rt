@@ -8,54 +8,67 @@ use cs_names::Bytes;
 use cs_trace::{Rights, Target};
 use std::fmt;
 
-/// A micro-operation: a step that reaches the disk by itself. It names files and directories by
-/// their numbers, and an entry by its directory's number and a name.
+/// A micro-operation: a step that reaches the disk whole or not at all. It names files and
+/// directories by their numbers, and an entry by its directory's number and a name: the last name
+/// of the path in the entry, whose other names are only for printing.
 #[derive(Debug, Drop)]
 pub enum MicroOp {
-    /// A new entry of what is made with it.
+    /// A file, a symbolic link or a directory is made, with its entry.
     CreateDirEntry {
+        /// The new entry.
         entry: DirEntry,
+        /// What is made.
         node: Node,
+        /// Its owner, group and permissions.
         rights: Rights,
         /// The bytes that it is made with: a symbolic link's target. A file or a directory has
         /// none.
         bytes: Bytes,
     },
-    /// An entry is removed.
+    /// An entry is removed. A file stays while it has another entry.
     DeleteDirEntry {
+        /// The entry.
         entry: DirEntry,
         /// What it held.
         node: Node,
     },
     /// What an entry holds moves to another entry, and replaces what is there.
     MoveDirEntry {
+        /// The old entry.
         from: DirEntry,
+        /// The new entry.
         to: DirEntry,
-        /// What is moved.
+        /// What is moved. By P2, each allowed set that has the move has what put it at `from`.
         node: Node,
-        /// What it replaces.
+        /// What it replaces at `to`; None if nothing is there.
         replaced: Option<Node>,
     },
     /// A new entry of a file that exists: one more path for it.
     LinkDirEntry {
+        /// The new entry.
         entry: DirEntry,
+        /// Whether the file is a regular file or a symbolic link.
         kind: FileKind,
+        /// The number of the file.
         file: u32,
-        /// What it replaces, which only the first half of a rename does.
+        /// What it replaces; only the first half of a rename replaces something.
         replaced: Option<Node>,
-        /// Whether it is the first half of a rename into another directory. The micro-operation
-        /// behind it is the other half: it removes the old entry.
+        /// Whether it is the first half of a rename into another directory. The next
+        /// micro-operation is the second half: it removes the old entry.
         is_half: bool,
     },
     /// The file has `length` bytes from now on: it grows by zeros, or is cut.
     ChangeFileSize {
+        /// The number of the file.
         file: u32,
+        /// The new size, in bytes.
         length: u64,
     },
     /// Bytes are written into one block of a file.
     WriteBlock {
+        /// The number of the file.
         file: u32,
-        /// The block's number, from 0.
+        /// The block's number in the file, from 0.
         block: u64,
         /// The offset of the block in the file.
         start: u64,
@@ -64,16 +77,19 @@ pub enum MicroOp {
         /// At least one byte; all of them are in the block.
         bytes: Bytes,
     },
-    /// A file or a directory has these rights from now on.
+    /// A file, a symbolic link or a directory has this owner, group and permissions from now on.
     SetAttr {
+        /// What it is of.
         target: Target,
+        /// All three, also if the operation set only some of them.
         rights: Rights,
     },
-    /// A text that the application acknowledges to its users.
+    /// A line that the application acknowledges to its users, without its text.
     Say,
 }
 
-/// The word for what a new entry is of: `dir`, `file` or `symlink`.
+/// The word for what is made: `dir`, `file` or `symlink`. (`kind_word` of cs_list has the same
+/// body.)
 fn node_word(node: Node) -> &'static str
     ensures { result.now ≡ kind_text node }
 {
@@ -85,9 +101,10 @@ fn node_word(node: Node) -> &'static str
 }
 
 /// Prints the micro-operation as the list of a trace's micro-operations does, without its place:
-/// its kind, and then its fields. Those are the path or paths, with what a new entry is of or a
-/// linked file's number; the file's number and length; the file's number, the block, the offset in
-/// it and the number of bytes; or whose rights are set, and the rights.
+/// its kind, and then its fields. The fields of an entry operation are its path or paths, with the
+/// word for what is made or the number of the file that is linked; those of a change of size, the
+/// file's number and the length; those of a write, the file's number, the block, the offset in it
+/// and the number of bytes; and those of a `set_attr`, what it is of and the rights.
 impl fmt::Display for MicroOp {
     ghost output = { λ op. Some (op_text op) };
 

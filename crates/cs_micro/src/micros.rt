@@ -1,4 +1,4 @@
-//! A trace that is broken into micro-operations.
+//! A trace that is broken into micro-operations: the lists, and how they are made.
 ghost use Rattle.std.specs.Prelude.{◌≡◌, ◌<◌, ◌≤◌, ◌↔◌, length, map, IfOk, IsErrOf};
 ghost use Rattle.cs_micro.specs.MicroOperations.{micro_operations_of};
 ghost use Rattle.cs_micro.specs.Micros.{AreLegalFromStart, HoldsAny, micros_in};
@@ -20,9 +20,13 @@ use std::marker::Model;
 /// the files at its start, and its version. Contracts see the three lists and the version.
 #[derive(Debug, Drop)]
 pub struct Micros {
+    /// The micro-operations, in the trace's order. Their places are their indices.
     ops: Vec<MicroOp>,
+    /// The sync points, in the trace's order.
     syncs: Vec<SyncPoint>,
+    /// The paths of each file and symbolic link at the start, by its number.
     starts: Vec<Vec<Path>>,
+    /// The trace's version.
     version: Version,
 }
 
@@ -44,7 +48,7 @@ impl Model for Micros {
 }
 
 impl Micros {
-    /// The micro-operations in the trace's order.
+    /// The micro-operations in the trace's order. The place of one is its index.
     pub fn ops(&self) -> &[MicroOp]
         ensures value { result.now ≡ self.now.ops }
         ensures few { length result.now ≤ MICRO_OPERATIONS }
@@ -52,22 +56,22 @@ impl Micros {
         self.ops.as_slice()
     }
 
-    /// The sync points in the trace's order.
+    /// The sync points in the trace's order. Several may have the same place.
     pub fn syncs(&self) -> &[SyncPoint]
         ensures { result.now ≡ self.now.syncs }
     {
         self.syncs.as_slice()
     }
 
-    /// The paths of each file at the start, in the order of the files' numbers: first the path that
-    /// its start line gives, and then those of the start lines that link it.
+    /// The paths of each file and symbolic link at the start, in the order of their numbers: first
+    /// the path that its start line gives, and then those of the start lines that link it.
     pub fn starts(&self) -> &[Vec<Path>]
         ensures { map (λ paths. paths.items) result.now ≡ self.now.starts }
     {
         self.starts.as_slice()
     }
 
-    /// The trace's version: the size of a block, and what the file system keeps in order.
+    /// The trace's version, with the size of a block and the profile.
     pub fn version(&self) -> Version
         ensures { result ≡ self.now.version }
     {
@@ -75,9 +79,9 @@ impl Micros {
     }
 }
 
-/// Breaks the trace's operations into micro-operations, and collects its sync points. The result is
-/// TooMany if there are more than MICRO_OPERATIONS micro-operations. It is Memory only if there is
-/// at least one micro-operation, sync point or file at the start.
+/// Breaks the trace's operations into micro-operations, and collects its sync points. TooMany
+/// exactly if there are more than MICRO_OPERATIONS micro-operations. Memory only if there is at
+/// least one micro-operation, sync point or file at the start.
 pub fn break_up(alloc: Global, trace: &Trace) -> Result<Micros, MicroFault>
     ensures value { IfOk result (λ micros. micros ≡ micros_in trace.now) }
     ensures many { IsErrOf result MicroFault.TooMany

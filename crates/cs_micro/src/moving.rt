@@ -1,5 +1,5 @@
-//! Appends what changes entries of directories. An error is that memory ran out; some of the
-//! micro-operations may have been appended then.
+//! Appends what changes entries of directories. After an error, some of the micro-operations may
+//! have been appended.
 ghost use Rattle.std.specs.Prelude.{◌≡◌, ◌++◌, ◌∷◌, [], ◌<◌, length, IsErr, None, OnOk, true};
 ghost use Rattle.std.specs.Prelude.{false};
 ghost use Rattle.cs_entries.specs.declared.node.FileKind.TheVariants.{Regular};
@@ -12,8 +12,8 @@ use cs_names::Bytes;
 use cs_trace::{Rights, Version};
 use std::alloc::{AllocError, Global};
 
-/// Appends the making of an entry: of a new directory, or of a new file or symbolic link, which has
-/// these bytes from the beginning.
+/// Appends the making of a directory, a file or a symbolic link with its entry. It has these bytes
+/// from the beginning: the target of a symbolic link, none for others.
 pub fn push_create(
     alloc: Global,
     ops: &mut Vec<MicroOp>,
@@ -51,7 +51,7 @@ pub fn push_delete(
     Ok(())
 }
 
-/// Appends one more entry of a regular file, where nothing is.
+/// Appends one more entry of a regular file (a hard link). The entry holds nothing before.
 pub fn push_link(
     alloc: Global,
     ops: &mut Vec<MicroOp>,
@@ -95,7 +95,7 @@ fn push_halves(
     push_delete(alloc, ops, from, Node::File(kind, file))
 }
 
-/// Appends a move to another entry as a whole.
+/// Appends a move to another entry as one micro-operation. `replaced` is what that entry holds.
 fn push_move(
     alloc: Global,
     ops: &mut Vec<MicroOp>,
@@ -116,8 +116,8 @@ fn push_move(
     Ok(())
 }
 
-/// Appends the rename of an entry, as a whole or in two halves; nothing if both are one entry. A
-/// directory always moves as a whole.
+/// Appends the rename of an entry: two halves if `comes_in_halves` says so, else one move; nothing
+/// if `from` and `to` are the same entry. A directory always has one move.
 pub fn push_rename(
     alloc: Global,
     ops: &mut Vec<MicroOp>,

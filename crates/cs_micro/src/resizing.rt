@@ -1,6 +1,5 @@
 //! Appends what changes the size or the bytes of a file. Here `size` is the size of the file before
-//! the operation. An error is that memory ran out; some of the micro-operations may have been
-//! appended then.
+//! the operation, in bytes. After an error, some of the micro-operations may have been appended.
 ghost use Rattle.std.specs.Prelude.{◌≡◌, ◌++◌, ◌+◌, ◌<◌, ◌≤◌, length, IsErr, OnOk};
 ghost use Rattle.cs_trace.specs.Limits.{most_bytes};
 ghost use Rattle.cs_micro.specs.MicroOperations.{growth_micros, truncate_micros, write_micros};
@@ -13,7 +12,7 @@ use cs_trace::{LARGE_FILE_BYTES, Version};
 use std::alloc::{AllocError, Global};
 
 /// Appends the changes of size of a write that ends at `end`: nothing if the file doesn't grow. In
-/// the fourth version it grows to the end of its last page first.
+/// version 4 a file that grows past the end of a partly used last page grows to that end first.
 fn push_growth(
     ops: &mut Vec<MicroOp>,
     version: Version,
@@ -38,7 +37,7 @@ fn push_growth(
 }
 
 /// Appends the micro-operations of a write: its changes of size, and then the write into each block
-/// that it touches. Nothing if the write has no bytes. `count_of_write` counts the same.
+/// that it touches. Nothing if the write has no bytes. `count_of_write` counts them.
 pub fn push_write(
     alloc: Global,
     ops: &mut Vec<MicroOp>,
@@ -60,8 +59,8 @@ pub fn push_write(
     push_blocks(alloc, ops, version.block_size(), file, offset, bytes)
 }
 
-/// Appends the writes of zeros that come before a cut to `to` bytes: up to the end of the page or
-/// of the file. Nothing before the fourth version, or if the file isn't cut inside a page.
+/// Appends the writes of zeros that come before a cut to `to` bytes: from there to the end of the
+/// page or of the file. Nothing before version 4, or if the file isn't cut inside a page.
 fn push_zeros(
     alloc: Global,
     ops: &mut Vec<MicroOp>,
@@ -84,8 +83,8 @@ fn push_zeros(
     push_blocks(alloc, ops, version.block_size(), file, to, &zeros)
 }
 
-/// Appends a change of a file's size to `to` bytes, and before it the zeros behind a cut; nothing
-/// if the file has that size.
+/// Appends the micro-operations of a truncate to `to` bytes: first the zeros of a cut
+/// (`push_zeros`), then the change of size. Nothing if the file has that size.
 pub fn push_truncate(
     alloc: Global,
     ops: &mut Vec<MicroOp>,

@@ -1,4 +1,4 @@
-//! The paths of the files at the start of a trace.
+//! The paths of the files and symbolic links at the start of a trace.
 ghost use Rattle.std.specs.Prelude.{◌≡◌, ℕ, List, ◌∷◌, [], ◌<◌, length, map, IfOk, IsErr};
 ghost use Rattle.std.specs.FinMap.{get};
 ghost use Rattle.cs_trace.specs.Traces.{IsFileNumbered, start_paths};
@@ -8,8 +8,8 @@ use cs_names::Path;
 use cs_trace::Trace;
 use std::alloc::{AllocError, Global};
 
-/// For each file at the start, by its number, a list of one path: the path that it was made at.
-/// The number of each file there is below how many there are.
+/// For each file at the start, by its number, a list of one path: that of its start line. The
+/// contract also says that the number of each file at the start is below how many there are.
 #[tactic(auto, using(crate::proofs::Linking::numbers_below))]
 fn own_paths(alloc: Global, trace: &Trace) -> Result<Vec<Vec<Path>>, AllocError>
     ensures value { IfOk result (λ starts. map (λ paths. paths.items) starts.items
@@ -31,8 +31,8 @@ fn own_paths(alloc: Global, trace: &Trace) -> Result<Vec<Vec<Path>>, AllocError>
     Ok(starts)
 }
 
-/// The paths of each file at the start, in the order of the files' numbers: the path that it was
-/// made at, and then those of the trace's links that have its number, in their order.
+/// The paths of each file at the start, in the order of the files' numbers: that of its start line,
+/// and then those of the start lines that link it, in their order.
 pub fn paths_of_files(alloc: Global, trace: &Trace) -> Result<Vec<Vec<Path>>, AllocError>
     ensures value { IfOk result (λ starts. map (λ paths. paths.items) starts.items
         ≡ paths_of_files trace.now.files trace.now.links) }

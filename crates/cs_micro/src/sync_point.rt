@@ -1,11 +1,12 @@
 //! Points of a trace at which an application waits for the disk.
 use cs_trace::Covers;
 
-/// A sync point: what an fsync or a sync waits for.
+/// A sync point: an fsync, an fdatasync, an fsync_range or a sync that succeeded. What it covers of
+/// what comes before it is on the disk after it. It is no micro-operation.
 #[derive(Debug, Drop)]
 pub struct SyncPoint {
-    /// How many micro-operations come before it.
+    /// Its place: how many micro-operations come before it.
     pub at: usize,
-    /// What it covers: one file or a range of it, the entries of one directory, or everything.
+    /// What it covers: a file, its data or a range of it, a directory, or everything.
     pub covers: Covers,
 }

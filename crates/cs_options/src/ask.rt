@@ -7,11 +7,11 @@ use crate::tar::TarOptions;
 /// Which crash states a command is about.
 #[derive(Clone, Copy, Debug)]
 pub struct Wanted<'a> {
-    /// The path of the trace.
+    /// The path of the trace; `-` is standard input.
     pub trace: &'a str,
     /// Whether the states of prefixes with a hole are among them.
     pub holes: bool,
-    /// The path of a file of further sets.
+    /// The path of a file of further sets; None without `--picks`.
     pub picks: Option<&'a str>,
 }
 
@@ -33,10 +33,13 @@ pub enum Job<'a> {
 /// What the command line asks for.
 #[derive(Debug, Drop)]
 pub struct Ask<'a> {
+    /// The trace, and its states.
     pub wanted: Wanted<'a>,
-    /// The path of the users file, of a command that has users.
+    /// The path of the users file. None if the command has no `--users`, and for `serve` without
+    /// it.
     pub users: Option<&'a str>,
-    /// Whether messages are printed as text on standard error.
+    /// Whether messages are printed as text on standard error: of `script` and `serve`.
     pub verbose: bool,
+    /// The command, with its own options.
     pub job: Job<'a>,
 }

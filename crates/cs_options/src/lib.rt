@@ -10,6 +10,6 @@ mod tar;
 
 pub use ask::{Ask, Job, Wanted};
 pub use list::ListOptions;
-pub use picks::{PicksOptions, Sample};
+pub use picks::{PicksOptions, ProfileName, Sample};
 pub use serve::{Client, Serving};
 pub use tar::{StateRange, States, TarOptions};

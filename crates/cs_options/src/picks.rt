@@ -3,8 +3,21 @@
 /// How many sets are drawn, and by which seed.
 #[derive(Clone, Copy, Debug, PartialEq, Eq)]
 pub struct Sample {
+    /// How many sets.
     pub count: u32,
+    /// The same seed draws the same sets.
     pub seed: u64,
+}
+
+/// A profile of file systems, by the name that the header of a trace has for it.
+#[derive(Clone, Copy, Debug, PartialEq, Eq)]
+pub enum ProfileName {
+    /// Only changes of the same directory entry are kept in order.
+    Blocks,
+    /// All changes of directory entries are kept in order.
+    Ordered,
+    /// As Ordered, and a sync makes earlier ones durable; of version 4 of traces.
+    Journal,
 }
 
 /// Which sets `picks` prints: those of families, or all of them, or some that are drawn.
@@ -16,12 +29,15 @@ pub struct PicksOptions {
     pub files: bool,
     /// All sets that a crash may leave.
     pub every: bool,
-    /// Of these only the first of those that leave equal states.
+    /// Of all sets only those that a file system of this profile may leave too; None for the
+    /// trace's own profile. Only with `every`.
+    pub profile: Option<ProfileName>,
+    /// Of all sets only the first of those that leave equal states. Only with `every`.
     pub different: bool,
-    /// Only how many there are.
+    /// Prints only how many sets there are. Only with `every`.
     pub count: bool,
-    /// No set is printed if there are more than this many.
+    /// No set is printed if there are more than this many. For `every`.
     pub most: u32,
-    /// Sets that are drawn.
+    /// Sets that are drawn at random; None without `--sample`.
     pub sample: Option<Sample>,
 }

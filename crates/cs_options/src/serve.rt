@@ -16,7 +16,8 @@ pub struct Serving<'a> {
     /// The address to listen on: an IP address or a host's name, a colon and a port. With the port
     /// 0 the system chooses one.
     pub listen: &'a str,
-    /// How many threads make the states. With 0 publishing fails.
+    /// How many threads make the states, from 1 to 64. The command line gives 0 without
+    /// `--workers`, which the program replaces: with 0 publishing fails.
     pub workers: u32,
     /// How many connections are served before the end; with `again`, how many at once.
     pub connections: u32,
@@ -30,6 +31,7 @@ pub struct Serving<'a> {
     pub reload: Option<&'a str>,
     /// Which kind of client connects.
     pub client: Client,
-    /// Whether it prints how many states are published so far.
+    /// Whether it prints how many states are published so far. The program sets it if standard
+    /// error is a terminal.
     pub progress: bool,
 }

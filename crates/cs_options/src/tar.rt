@@ -3,6 +3,7 @@
 /// The states from one number of the plan to another.
 #[derive(Clone, Copy, Debug, PartialEq, Eq)]
 pub struct StateRange {
+    /// The first number, from 0.
     pub first: u32,
     /// The last number. If it is less than the first one, the range is empty.
     pub last: u32,
@@ -11,6 +12,7 @@ pub struct StateRange {
 /// What `tar` writes.
 #[derive(Debug, Drop)]
 pub struct TarOptions {
+    /// Which states are written, and what of them.
     pub states: States,
     /// Whether files with many zeros are written in pieces, without the zeros.
     pub sparse: bool,

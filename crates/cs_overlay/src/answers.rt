@@ -16,10 +16,12 @@ use std::marker::Model;
 pub struct Answer {
     /// The map's key as a `Name`, so that a listing can lend it.
     pub name: Name,
+    /// The number of the file that has the name; None if no file has it.
     pub number: Option<u64>,
 }
 
-/// A directory's own answers by name. For all other names the lower directory decides.
+/// A directory's own answers by name, each under the name that it has itself. For all other names
+/// the lower directory decides.
 #[derive(Drop)]
 pub struct Answers {
     entries: BTreeMap<String, Answer>,
@@ -85,8 +87,8 @@ impl Answers {
         Some((&answer.name, answer.number))
     }
 
-    /// Sets the answer for a name, which may have one already. After an error the answers are
-    /// unchanged.
+    /// Sets the answer for a name, which may have one already. The only error is that memory runs
+    /// out; then the answers are unchanged.
     pub fn insert(&mut self, name: Name, number: Option<u64>) -> Result<(), AllocError>
         ensures ok { OnOk result (self.new ≡ map.insert self.old name number) }
         ensures err { OnErr result (self.new ≡ self.old) }
@@ -96,8 +98,8 @@ impl Answers {
         Ok(())
     }
 
-    /// Replaces the answer for a name, which the caller knows to have one. So, unlike `insert`, it
-    /// takes no memory.
+    /// Replaces the answer for a name, which the caller knows to have one. It takes no memory,
+    /// unlike `insert`.
     pub fn replace(&mut self, name: &str, number: Option<u64>)
         requires { IsSome (map.get self.old name.now) }
         ensures { self.new ≡ map.insert self.old name.now number }

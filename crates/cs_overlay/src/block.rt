@@ -1,4 +1,4 @@
-//! A block of a file that an overlay changed.
+//! A block of a file that an overlay changed: the file's bytes from a multiple of 4,096 on.
 ghost use Rattle.std.specs.Prelude.{◌≡◌, ◌+◌, ◌++◌, ◌≤◌, ◌<◌, ◌^◌, ℕ, length, map, replicate, take};
 ghost use Rattle.std.specs.Prelude.{drop, slice_index, OnOk};
 ghost use Rattle.std.specs.List.{range_with_len};
@@ -7,7 +7,7 @@ ghost use Rattle.cs_overlay.specs.Patch.{put_in};
 use std::alloc::AllocError;
 use std::marker::Model;
 
-/// The bytes of one block; what is past them reads as zero.
+/// The bytes of one block, from its start; what is past them, up to 4,096, reads as zero.
 #[derive(Drop)]
 pub struct Block {
     bytes: Vec<u8>,
@@ -22,7 +22,7 @@ impl Model for Block {
 }
 
 impl Block {
-    /// The block that has these bytes.
+    /// The block that has these bytes, at most 4,096.
     pub fn of(bytes: Vec<u8>) -> Block
         ensures { result ≡ bytes.items }
     {
@@ -65,7 +65,7 @@ impl Block {
 }
 
 /// At most `count` bytes from `start` on: fewer if the bytes end before, none at their end or past
-/// it.
+/// it. (`part_of` of cs_tree and `piece_at` of cs_state do the same.)
 fn part_of(bytes: &[u8], start: usize, count: usize) -> &[u8]
     ensures { result.now ≡ take count (drop start bytes.now) }
 {
@@ -76,7 +76,7 @@ fn part_of(bytes: &[u8], start: usize, count: usize) -> &[u8]
 }
 
 /// Appends exactly `count` bytes: those of the source from `start` on, and zeros for those past its
-/// end. After an error `out` may have some of them.
+/// end. `out` stays below 2^63 bytes. After an error it may have some of them.
 pub fn append_part(
     out: &mut Vec<u8>,
     source: &[u8],
@@ -94,7 +94,8 @@ pub fn append_part(
     Ok(())
 }
 
-/// Does what `Block::overwrite` does, to the bytes of a block.
+/// Replaces the bytes from `start` on by the piece, which ends within them. It is the body of
+/// `Block::overwrite`. (`put_at` of cs_apm and `overwrite` of cs_tree do the same.)
 fn overwrite_bytes(bytes: &mut [u8], start: usize, piece: &[u8])
     requires { start + length piece.now ≤ length bytes.old }
     ensures bytes { bytes.new ≡ put_in start piece.now bytes.old }

@@ -1,5 +1,6 @@
-//! Reads of one number. The overlay's entry there decides: a node, or None if the file was removed.
-//! If there is no entry, the lower tree is read.
+//! Reads of one number. In each function `entry` is what the overlay has at the number: a node, or
+//! `Some(None)` if the file was removed. If it is None, the overlay has nothing there, and the
+//! lower tree is read.
 ghost use Rattle.std.specs.Prelude.{◌≡◌, ◌≢◌, [], IfOk, IsErr, IsSomeAnd, take, drop};
 ghost use Rattle.std.specs.Option.{option_copied, option_map};
 ghost use Rattle.cs_tree_model.specs.Record.{metadata_of_ref};
@@ -11,7 +12,7 @@ use cs_names::Name;
 use cs_tree_model::{Metadata, TreeRead};
 use std::alloc::{AllocError, Global};
 
-/// The record's fields without its bytes; None if no file has the number.
+/// The fields of the record without its bytes; None if no file has the number.
 pub fn record<'a, L: TreeRead>(
     lower: &'a L,
     entry: Option<&'a Option<Node>>,
@@ -76,7 +77,8 @@ pub fn name<'a, L: TreeRead>(
 }
 
 /// At most `count` bytes of the file from `offset` on, none at its end or past it. None if the
-/// number is a directory's, or no file has it. If no byte is returned, it takes no memory.
+/// number is a directory's, or no file has it. The only error is that memory runs out; if no byte
+/// is returned, none is taken.
 pub fn read<L: TreeRead>(
     alloc: Global,
     lower: &L,

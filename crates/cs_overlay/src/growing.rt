@@ -1,7 +1,7 @@
 //! Copies of the lower file's blocks, made before a write changes them. No read shows the
-//! difference. `kept` is the number of the lower file's first bytes that still show. `number` is
-//! that of the lower file; if the lower tree has no such file, nothing shows. Block k has the 4,096
-//! bytes from 4,096 k on.
+//! difference. In each function `number` is that of the lower file (if the lower tree has no such
+//! file, nothing shows), and `kept` is the number of its first bytes that still show. Block k has
+//! the 4,096 bytes from 4,096 k on, and ends within 2^63 bytes: k is below 2^51.
 ghost use Rattle.std.specs.Prelude.{◌≡◌, ◌≤◌, ◌<◌, ◌^◌, ℕ, List, Some, length, IfOk, IfSome};
 ghost use Rattle.std.specs.Prelude.{IsSome, OnOk};
 ghost use Rattle.std.specs.Ordering.{nat_cmp};
@@ -13,9 +13,8 @@ use cs_tree_model::TreeRead;
 use std::alloc::{AllocError, Global};
 use std::collections::BTreeMap;
 
-/// What still shows of the lower file in a block that the file has no copy of: 4,096 bytes, fewer
-/// if what shows ends in the block, none if it ends before. The caller's index is below 2^51, so
-/// that the block ends within 2^63 bytes.
+/// What shows of the lower file in a block that the file has no copy of: 4,096 bytes, fewer if what
+/// shows ends in the block, none if it ends before. The only error is that memory runs out.
 fn shown_block<L: TreeRead>(
     alloc: Global,
     lower: &L,
@@ -35,9 +34,9 @@ fn shown_block<L: TreeRead>(
     Ok(Block::of(bytes))
 }
 
-/// Appends zeros to the file's copy of a block until the copy has at least `needed` bytes. Without
-/// a copy it does nothing, but the caller has made one. After an error some of the zeros may be
-/// there.
+/// Appends zeros to the file's copy of a block until the copy has at least `needed` bytes. The
+/// caller has made the copy; without one nothing happens. After an error some of the zeros may be
+/// there, which no read shows.
 fn lengthen_block(
     blocks: &mut BTreeMap<u64, Block>,
     index: u64,
@@ -53,7 +52,7 @@ fn lengthen_block(
 }
 
 /// Copies a block of the lower file up, unless the file has a copy of it already. After an error
-/// the file has no copy of it.
+/// the blocks are unchanged.
 fn copy_block_up<L: TreeRead>(
     alloc: Global,
     lower: &L,

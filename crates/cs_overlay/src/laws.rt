@@ -1,5 +1,5 @@
 //! Laws: no call that changes an overlay changes the lower tree. Each law is the contract of a
-//! function that makes the call.
+//! function that makes the call; no command calls them.
 ghost use Rattle.std.specs.Prelude.{◌≡◌, ◌≢◌, ◌+◌, ◌<◌, ◌^◌, ℕ, List, None, IfOk, IfSome, IsSome};
 ghost use Rattle.std.specs.Prelude.{length};
 ghost use Rattle.std.specs.Arc.{arc_value};
@@ -16,8 +16,8 @@ use std::alloc::{AllocError, Global};
 use std::sync::Arc;
 
 /// A write into an overlay doesn't change the lower tree: a second overlay, made over it
-/// afterwards, starts with the same tree as the first. Returns both, the written one first, unless
-/// memory runs out.
+/// afterwards, starts with the same tree as the first did. Returns both, the written one first. The
+/// only error is that memory runs out.
 pub fn lower_stays<L: TreeRead + Drop>(
     alloc: Global,
     lower: &Arc<L>,
@@ -40,7 +40,9 @@ pub fn lower_stays<L: TreeRead + Drop>(
     Ok((first, second))
 }
 
-/// An `add` in an overlay doesn't change the lower tree, as `lower_stays` says of a write.
+/// An `add` to an overlay doesn't change the lower tree: a second overlay, made over it afterwards,
+/// starts with the same tree as the first did. Returns both, the one with the new file first. The
+/// only error is that memory runs out.
 pub fn lower_stays_after_add<L: TreeRead + Drop>(
     alloc: Global,
     lower: &Arc<L>,
@@ -63,7 +65,9 @@ pub fn lower_stays_after_add<L: TreeRead + Drop>(
     Ok((first, second))
 }
 
-/// A `remove` from an overlay doesn't change the lower tree, as `lower_stays` says of a write.
+/// A `remove` from an overlay doesn't change the lower tree: a second overlay, made over it
+/// afterwards, starts with the same tree as the first did. Returns both, the one without the file
+/// first. The only error is that memory runs out.
 pub fn lower_stays_after_remove<L: TreeRead + Drop>(
     alloc: Global,
     lower: &Arc<L>,
@@ -84,7 +88,9 @@ pub fn lower_stays_after_remove<L: TreeRead + Drop>(
     Ok((first, second))
 }
 
-/// A `change` in an overlay doesn't change the lower tree, as `lower_stays` says of a write.
+/// A `change` in an overlay doesn't change the lower tree: a second overlay, made over it
+/// afterwards, starts with the same tree as the first did. Returns both, the changed one first. The
+/// only error is that memory runs out.
 pub fn lower_stays_after_change<L: TreeRead + Drop>(
     alloc: Global,
     lower: &Arc<L>,

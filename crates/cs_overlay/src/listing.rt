@@ -12,9 +12,9 @@ use crate::node::{Body, Node};
 use cs_names::Name;
 use cs_tree_model::{ListedEntry, TreeRead};
 
-/// The next entry of a directory that has these own answers. Each step of the
-/// loop looks at one answer: an entry of the lower directory before the answer's name comes first,
-/// and a name that no file has is passed over.
+/// The next entry of a directory that has these own answers. Each step of the loop looks at one
+/// answer: an entry of the lower directory before the answer's name comes first, and a name that no
+/// file has is passed over.
 fn next_of_both<'a, L: TreeRead>(
     lower: &'a L,
     answers: &'a Answers,
@@ -45,8 +45,8 @@ fn next_of_both<'a, L: TreeRead>(
     }
 }
 
-/// The next entry of a directory whose node has this body; None if there is none. The body of a
-/// file has no answers, so then it is the lower tree's next entry.
+/// The next entry of a directory whose node has this body; None if there is none. Callers list only
+/// directories; if the body is a file's, it is the lower tree's next entry.
 fn next_in_node<'a, L: TreeRead>(
     lower: &'a L,
     body: &'a Body,

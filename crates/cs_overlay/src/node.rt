@@ -16,10 +16,12 @@ use cs_names::{Name, UserName};
 use cs_tree_model::{Change, Kind, MetadataBuf, New, Stamp, TreeRead, is_directory_mode};
 use std::alloc::{AllocError, Global};
 
-/// A directory's own answers, or a file's bytes.
+/// What a node has of its own: a directory's answers for names, or a file's blocks and length.
 #[derive(Drop)]
 pub enum Body {
+    /// For some names, which file has them; the lower directory has the rest.
     Directory(Answers),
+    /// The file's length, and the blocks that changed.
     File(Patched),
 }
 
@@ -50,18 +52,23 @@ impl Body {
 }
 
 /// A file or directory that may differ from the lower tree's of its number, or whose number the
-/// lower tree doesn't have. The root's directory is the root itself, and the root's name is None.
+/// lower tree doesn't have.
 #[derive(Drop)]
 pub struct Node {
+    /// The number of its directory; the root's is the root.
     pub parent: u64,
+    /// Its name in that directory; None only for the root.
     pub name: Option<Name>,
+    /// All fields of its record, its kind included.
     pub metadata: MetadataBuf,
+    /// What it has over the lower tree's file or directory of its number.
     pub body: Body,
 }
 
 impl Node {
     /// A node that shows what the lower tree has at the number; None if the lower tree has nothing
-    /// there. It copies no byte of a file, and no entry of a directory.
+    /// there. It copies the record's fields and the name, but no byte of a file and no entry of a
+    /// directory. The only error is that memory runs out.
     pub fn copy_of<L: TreeRead>(
         alloc: Global,
         lower: &L,
@@ -90,8 +97,8 @@ impl Node {
     }
 
     /// The node of a new file, or of a new directory if the mode has DMDIR, which the stamp's user
-    /// made at the stamp's moment. It has no bytes or entries, and version 0. The lower tree has no
-    /// file of the caller's number.
+    /// made at the stamp's moment. It has no bytes or entries, and version 0; the user is its owner
+    /// and last writer. The caller's number is one that the lower tree doesn't have.
     pub fn of_new(
         alloc: Global,
         number: u64,
@@ -133,7 +140,7 @@ impl Node {
     }
 
     /// Sets the directory's answer for a name: the number of its file, or None if no file has it.
-    /// A file's node would be unchanged, but names are only in directories. After an error the node
+    /// Callers pass the node of a directory; that of a file stays as it is. After an error the node
     /// is unchanged.
     pub fn insert_answer(&mut self, name: Name, answer: Option<u64>) -> Result<(), AllocError>
         ensures ok { OnOk result (self.new ≡ with_answer self.old name answer) }
@@ -145,8 +152,8 @@ impl Node {
         Ok(())
     }
 
-    /// Replaces the directory's answer for a name, which the caller knows to have one, so that the
-    /// node is no file's. Unlike `insert_answer` it takes no memory.
+    /// Replaces the directory's answer for a name, which the caller knows to have one (so the node
+    /// is a directory's). It takes no memory, unlike `insert_answer`.
     pub fn set_answer(&mut self, name: &str, answer: Option<u64>)
         requires { IsSome (own_in self.old.body name.now) }
         ensures { self.new ≡ with_answer self.old name.now answer }
@@ -160,8 +167,8 @@ impl Node {
 
     /// Writes bytes, at least one, into the file at an offset, and stamps the node. `number` is the
     /// file's, here and in the lower tree. Only the blocks that the bytes touch are copied. After
-    /// an error no read shows a difference. A directory's node would only be stamped, but the store
-    /// writes to files only.
+    /// an error no read shows a difference. Callers pass the node of a file; that of a directory is
+    /// only stamped.
     pub fn write<L: TreeRead>(
         &mut self,
         alloc: Global,
@@ -190,9 +197,9 @@ impl Node {
         Ok(())
     }
 
-    /// Sets the file's length, and its mtime and muid to the stamp's. The version is unchanged.
-    /// After an error no read shows a difference. A directory would get only mtime and muid, but no
-    /// change sets a directory's length.
+    /// Sets the file's length in bytes, and its mtime and muid to the stamp's. The version is
+    /// unchanged. After an error no read shows a difference. Callers pass the node of a file; that
+    /// of a directory gets only mtime and muid.
     fn set_length(&mut self, length: u64, stamp: Stamp) -> Result<(), AllocError>
         ensures ok { OnOk result
             ((low : Option (List ℕ)) (m : ℕ) → IsNode low m self.old
@@ -213,9 +220,9 @@ impl Node {
         Ok(())
     }
 
-    /// Sets the fields that a change has, except the name. `group` is a copy of the change's group,
-    /// which the caller makes before it changes anything. Only setting a length can fail, and then
-    /// no read shows a difference.
+    /// Sets the fields that a change has, except the name, and counts the change in the version.
+    /// `group` is a copy of the change's group, which the caller makes before it changes anything.
+    /// Only setting a length can fail, and then no read shows a difference.
     pub fn change(
         &mut self,
         fields: &Change,
@@ -241,7 +248,8 @@ impl Node {
     }
 }
 
-/// Copies a name; None if there is none, as of the root or of a change that renames nothing.
+/// A copy of a name; None if there is none. The only error is that memory runs out.
+/// (`try_clone_name` of cs_run has the same body.)
 pub fn try_clone_name(name: Option<&Name>) -> Result<Option<Name>, AllocError>
     ensures { IfOk result (λ copy. copy ≡ option_copied name.entry) }
 {

@@ -22,8 +22,8 @@ use std::sync::Arc;
 
 /// A tree that differs from a lower one, which is shared and never changes. It takes memory only
 /// for what differs: the first change of a file copies its record's fields, and no entry of a
-/// directory. A write copies the blocks that it touches. A look-up of a name makes at most one in
-/// the lower tree.
+/// directory. A write copies the blocks that it touches. To look up a name it asks the lower tree
+/// at most once.
 #[derive(Drop)]
 pub struct Overlay<L: TreeRead> {
     lower: Arc<L>,
@@ -69,10 +69,10 @@ impl<L: TreeRead> Overlay<L> {
         }
     }
 
-    /// The tree, read as if nothing had ever changed it: the same paths and contents, with fresh
-    /// numbers, versions and times, and the owner as the last writer. No record and no byte of a
-    /// file is copied: it allocates tables of numbers, and for a time the paths. If memory runs
-    /// out, the error returns the overlay.
+    /// No command calls this. The tree, read as if nothing had ever changed it: the same paths and
+    /// contents, with fresh numbers, versions and times, and the owner as the last writer. No
+    /// record and no byte of a file is copied: it allocates tables of numbers, and for a time the
+    /// paths. If memory runs out, the error returns the overlay.
     pub fn freeze(self, alloc: Global) -> Result<Lower<Overlay<L>>, (Overlay<L>, AllocError)>
         ensures ok { IfOk result (λ lower. lower ≡ fresh self.files) }
         ensures err { IfErr result (λ back. back.0 ≡ self) }
@@ -80,9 +80,9 @@ impl<L: TreeRead> Overlay<L> {
         cs_frozen::freeze(alloc, self)
     }
 
-    /// Sets the length, mode, group and mtime that a change has; the caller's doesn't rename.
-    /// `group` is a copy of the change's group, made before anything changes, so that after an
-    /// error the tree is unchanged.
+    /// Sets the length, mode, group and mtime that a change has. The caller's change has no name,
+    /// and its file is there. `group` is a copy of the change's group, made before anything
+    /// changes, so that after an error the tree is unchanged.
     fn set_fields(
         &mut self,
         alloc: Global,
@@ -106,8 +106,8 @@ impl<L: TreeRead> Overlay<L> {
 
     /// Renames a file in its directory, and sets what else the change has. The caller's file isn't
     /// the root, and the new name is free. `group` and `name` are copies of the change's, made
-    /// before anything changes, so that after an error the tree is unchanged. Answers for both
-    /// names are inserted first, so that after `change_entry` nothing can fail.
+    /// before anything changes. Answers for both names are inserted first, so that nothing can fail
+    /// after `change_entry`. After an error the tree is unchanged.
     fn rename(
         &mut self,
         alloc: Global,
@@ -196,7 +196,7 @@ impl<L: TreeRead> TreeRead for Overlay<L> {
         listing::entry_after(&*self.lower, entry, directory, last, bound)
     }
 
-    /// The number of records, the root's included, which the overlay keeps in a field.
+    /// The number of records, the root's included. The overlay keeps it in a field.
     fn count(&self) -> usize {
         self.count
     }
@@ -256,7 +256,7 @@ impl<L: TreeRead> TreeStore for Overlay<L> {
     }
 
     /// Marks the number as removed, and its name as one that no file has, and stamps the directory.
-    /// After an error the tree is unchanged.
+    /// The caller's file isn't the root and has no entries. After an error the tree is unchanged.
     fn remove(&mut self, alloc: Global, number: u64, stamp: Stamp) -> Result<(), AllocError> {
         let Some(directory) = self.parent_of(number) else {
             // the caller names a file of the tree
@@ -316,8 +316,8 @@ impl<L: TreeRead> TreeStore for Overlay<L> {
     }
 }
 
-/// Copies the name of a user or group; None if there is none. cs_tree has the same function, for
-/// its own store.
+/// A copy of the name of a user or group; None if there is none. The only error is that memory runs
+/// out. (cs_tree has the same function, private, for its own store.)
 fn try_clone_user(name: &Option<UserName>) -> Result<Option<UserName>, AllocError>
     ensures { IfOk result (λ again. again ≡ name.now) }
 {

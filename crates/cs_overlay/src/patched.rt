@@ -12,15 +12,17 @@ use std::alloc::{AllocError, Global};
 use std::collections::BTreeMap;
 
 /// A file over a lower one: its own blocks of 4,096 bytes, and between them what still shows of the
-/// lower file. Only its own blocks take memory.
+/// lower file. Only its own blocks take memory. Each call keeps it so that past the end there is
+/// nothing that would show if the file grew (`NothingHidden`).
 #[derive(Drop)]
 pub struct Patched {
-    /// The number of bytes of the file.
+    /// The number of bytes of the file, as a stat shows it.
     pub size: u64,
     /// The number of the lower file's first bytes that still show, unless the file has its own
     /// block there.
     pub kept: u64,
-    /// The file's own blocks by number: block k has the bytes from 4,096 k on.
+    /// The file's own blocks by number: block k has the bytes from 4,096 k on. What a block doesn't
+    /// have, up to its 4,096 bytes, reads as zero.
     pub blocks: BTreeMap<u64, Block>,
 }
 
@@ -39,8 +41,8 @@ impl Patched {
         }
     }
 
-    /// Sets the length: new bytes read as zero, and bytes that were cut off never show again. After
-    /// an error no read shows a difference.
+    /// Sets the length in bytes: new bytes read as zero, and bytes that were cut off never show
+    /// again. After an error no read shows a difference.
     pub fn resize(&mut self, size: u64) -> Result<(), AllocError>
         ensures size { OnOk result (self.new.size ≡ size) }
         ensures hides { (lower : List ℕ) → NothingHidden lower self.old
@@ -61,8 +63,8 @@ impl Patched {
         Ok(())
     }
 
-    /// Sets the length; the caller's isn't above the present one. After an error no read shows a
-    /// difference.
+    /// Sets the length to `size` bytes, which the caller knows not to be above the present length.
+    /// Bytes that are cut off never show again. After an error no read shows a difference.
     fn shrink(&mut self, size: u64) -> Result<(), AllocError>
         requires shorter { size ≤ self.old.size }
         ensures size { OnOk result (self.new.size ≡ size) }
@@ -81,7 +83,8 @@ impl Patched {
         Ok(())
     }
 
-    /// Sets the length; the caller's isn't below the present one. The new bytes read as zero.
+    /// Sets the length to `size` bytes, which the caller knows not to be below the present length.
+    /// The new bytes read as zero. It takes no memory.
     fn grow(&mut self, size: u64)
         requires longer { self.old.size ≤ size }
         ensures size { self.new.size ≡ size }
@@ -96,7 +99,8 @@ impl Patched {
 }
 
 /// Drops what the blocks have from the file's byte `size` on: the rest of the block with that byte,
-/// and all blocks after it. After an error the blocks are unchanged.
+/// and all blocks after it. A block whose bytes are all dropped stays, if it has byte `size`. After
+/// an error the blocks are unchanged.
 fn truncate_blocks(blocks: &mut BTreeMap<u64, Block>, size: u64) -> Result<(), AllocError>
     ensures ok { OnOk result
         ((k : ℕ) → get nat_cmp blocks.new k ≡ cut_blocks size (get nat_cmp blocks.old) k) }

@@ -15,9 +15,9 @@ use std::alloc::{AllocError, Global};
 
 impl Patched {
     /// At most `count` bytes of the file, from `offset` on: fewer if the file ends before, none at
-    /// its end or past it. `number` is the lower file's. If no byte is returned, it takes no
-    /// memory. If the file has no block of its own and all the bytes show from the lower file, they
-    /// are copied only once.
+    /// its end or past it. `number` is the lower file's. The only error is that memory runs out; if
+    /// no byte is returned, none is taken. If the file has no block of its own and all the bytes
+    /// show from the lower file, they are copied only once.
     pub fn read_at<L: TreeRead>(
         &self,
         alloc: Global,
@@ -47,8 +47,9 @@ impl Patched {
         Ok(bytes)
     }
 
-    /// The `n` bytes from `offset` on, joined block by block. `shown` is what shows of the lower
-    /// file from `offset` on. The error may also mean that no memory has room for `n` bytes.
+    /// The `n` bytes from `offset` on, which the file has, joined block by block. `shown` is what
+    /// shows of the lower file from `offset` on. The error may also mean that no memory has room
+    /// for `n` bytes.
     fn join_pieces(
         &self,
         alloc: Global,
@@ -79,9 +80,10 @@ impl Patched {
     }
 }
 
-/// Appends `count` bytes of the file from its byte `at` on; the caller's are all in one block. They
-/// come from the file's own block, or if there is none from `shown`: what shows of the lower file
-/// from its byte `shown_from` on. After an error `out` may have some of them.
+/// Appends `count` bytes of the file from its byte `at` on, which are all in one block. They come
+/// from the file's own block; if it has none, from `shown`, which is what shows of the lower file
+/// from its byte `shown_from` on. What neither has is zero. After an error `out` may have some of
+/// the bytes.
 fn append_piece(
     out: &mut Vec<u8>,
     block: Option<&Block>,
@@ -105,7 +107,8 @@ fn append_piece(
 }
 
 /// At most `count` bytes of what shows of the lower file, from `offset` on: fewer if that ends
-/// before, none at its end or past it, or if there is no lower file.
+/// before, none at its end or past it, or if there is no lower file. `kept` is how many of the
+/// lower file's first bytes still show.
 fn lower_part<L: TreeRead>(
     alloc: Global,
     lower: &L,

@@ -1,5 +1,6 @@
 //! The entries of an overlay by number, and how each call changes them. An entry is a node, or None
 //! if the file of the number was removed. A number without an entry shows what the lower tree has.
+//! "The table" is the map of all entries.
 ghost use Rattle.std.specs.Prelude.{◌≡◌, ◌≢◌, ◌+◌, ◌<◌, ◌^◌, ℕ, List, nat_eq, Option, None, Some};
 ghost use Rattle.std.specs.Prelude.{OnOk, OnErr, IfSome, IsSome, IsSomeAnd, length};
 ghost use Rattle.std.specs.Option.{option_map};
@@ -18,8 +19,9 @@ use cs_tree_model::{Change, Stamp, TreeRead};
 use std::alloc::{AllocError, Global};
 use std::collections::HashMap;
 
-/// Makes a node for a file of the lower tree, unless the table has an entry for it. The caller's
-/// file is there, so its entry is a node. No read shows the difference, even after an error.
+/// Makes a node for a file of the lower tree, unless the table has an entry for it. The caller
+/// knows the file to be there, so an entry that the table has is a node. No read shows the
+/// difference, even after an error.
 pub fn copy_up<L: TreeRead>(
     alloc: Global,
     lower: &L,
@@ -42,8 +44,8 @@ pub fn copy_up<L: TreeRead>(
     Ok(())
 }
 
-/// Copies a directory's node up, and reserves memory for one more entry of the table. No read shows
-/// the difference, even after an error.
+/// Copies a directory's node up, and reserves memory for one more entry of the table. The caller
+/// knows the directory to be there. No read shows the difference, even after an error.
 pub fn copy_directory_up<L: TreeRead>(
     alloc: Global,
     lower: &L,
@@ -60,8 +62,8 @@ pub fn copy_directory_up<L: TreeRead>(
     Ok(())
 }
 
-/// Sets the answer for a name in a directory's entry, which the caller knows to be a node. After an
-/// error the entry is unchanged.
+/// Sets the answer for a name in an entry, which the caller knows to be a directory's node. After
+/// an error the entry is unchanged.
 fn insert_node_answer(
     entry: &mut Option<Node>,
     name: Name,
@@ -100,7 +102,7 @@ pub fn insert_answer(
     }
 }
 
-/// Stamps the node of an entry. Does nothing if the file was removed, but the callers' wasn't.
+/// Stamps the node of an entry. Callers pass no entry of a removed file; it would be left as it is.
 fn stamp_entry(entry: &mut Option<Node>, stamp: Stamp)
     requires { IfSome entry.old (λ d. d.metadata.vers + 1 < 2 ^ 32) }
     ensures { entry.new ≡ option_map (λ d. with_stamp d stamp) entry.old }
@@ -110,8 +112,8 @@ fn stamp_entry(entry: &mut Option<Node>, stamp: Stamp)
     }
 }
 
-/// Stamps a directory after a change of its names. Does nothing if it has no node, but the callers
-/// have copied it up.
+/// Stamps a directory after a change of its names. Callers have copied it up; without a node
+/// nothing happens. Its version must be below the greatest u32.
 pub fn stamp_directory(nodes: &mut HashMap<u64, Option<Node>>, number: u64, stamp: Stamp)
     requires { CanStampNode (get nat_eq nodes.old) number }
     ensures step { SameNodes (step_at (get nat_eq nodes.old) number (λ d. with_stamp d stamp))
@@ -124,7 +126,7 @@ pub fn stamp_directory(nodes: &mut HashMap<u64, Option<Node>>, number: u64, stam
 }
 
 /// Sets the entry at a number: a node, or None if the file was removed. The caller has reserved
-/// room for it.
+/// room for it, so it takes no memory.
 pub fn set_entry(nodes: &mut HashMap<u64, Option<Node>>, number: u64, node: Option<Node>)
     requires { 0 < spare nodes.old }
     ensures { SameNodes (with_at (get nat_eq nodes.old) number (Some node)) (get nat_eq nodes.new) }
@@ -136,8 +138,8 @@ pub fn set_entry(nodes: &mut HashMap<u64, Option<Node>>, number: u64, node: Opti
     }
 }
 
-/// Writes bytes, at least one, into a file's entry, which the caller knows to be a node, and stamps
-/// it. After an error no read shows a difference.
+/// Writes bytes, at least one, into an entry, which the caller knows to be a file's node, and
+/// stamps it. After an error no read shows a difference. (`write_to_entry` finds the entry.)
 fn write_node<L: TreeRead>(
     alloc: Global,
     lower: &L,
@@ -171,7 +173,7 @@ fn write_node<L: TreeRead>(
 }
 
 /// Writes bytes, at least one, into a file, which the caller knows to have a node, and stamps it.
-/// After an error no read shows a difference.
+/// Its version must be below the greatest u32. After an error no read shows a difference.
 pub fn write_to_entry<L: TreeRead>(
     alloc: Global,
     lower: &L,
@@ -201,6 +203,7 @@ pub fn write_to_entry<L: TreeRead>(
 
 /// Sets the fields that a change has, except the name, in an entry, which the caller knows to be a
 /// node. `group` is a copy of the change's group. After an error no read shows a difference.
+/// (`change_entry` finds the entry.)
 fn change_node(
     entry: &mut Option<Node>,
     fields: &Change,
@@ -230,8 +233,8 @@ fn change_node(
 }
 
 /// Sets the fields that a change has, except the name, of a file, which the caller knows to have a
-/// node. `group` is a copy of the change's group, made before anything changes. After an error no
-/// read shows a difference.
+/// node. `group` is a copy of the change's group, made before anything changes. Its version must be
+/// below the greatest u32. After an error no read shows a difference.
 pub fn change_entry(
     nodes: &mut HashMap<u64, Option<Node>>,
     number: u64,
@@ -286,9 +289,9 @@ pub fn insert_both_answers<L: TreeRead>(
     Ok(())
 }
 
-/// Exchanges the answers for the old and the new name in a directory's entry, so that the file has
-/// the new name and no file has the old one, and stamps the directory. Does nothing if the
-/// directory was removed, but the caller's wasn't.
+/// Exchanges the answers for a file's old and new name in a directory's entry: the file gets the
+/// new name, and no file has the old one. Stamps the directory. The entry has own answers for both
+/// names. Callers know the entry to be a node; that of a removed directory would be left as it is.
 fn exchange_answers(entry: &mut Option<Node>, old: &str, new: &str, number: u64, stamp: Stamp)
     requires vers { IfSome entry.old (λ d. d.metadata.vers + 1 < 2 ^ 32) }
     requires old { IfSome entry.old (λ d. IsSome (own_in d.body old.now)) }
@@ -305,8 +308,8 @@ fn exchange_answers(entry: &mut Option<Node>, old: &str, new: &str, number: u64,
     }
 }
 
-/// Sets the name in the node of an entry. Does nothing if the file was removed, but the caller's
-/// wasn't.
+/// Sets the name in the node of an entry. Callers know the entry to be a node; that of a removed
+/// file would be left as it is.
 fn set_node_name(entry: &mut Option<Node>, name: Name)
     ensures { entry.new ≡ option_map (λ d. with_name d name) entry.old }
 {
@@ -315,9 +318,9 @@ fn set_node_name(entry: &mut Option<Node>, name: Name)
     }
 }
 
-/// Renames a file in its directory, which the caller has given own answers for both names, and
-/// stamps the directory. `name` is the new name. Does nothing to a node that isn't there, but the
-/// caller has copied up both. It takes no memory.
+/// Renames a file in its directory, and stamps the directory. `name` is the new name. The caller
+/// has copied both nodes up, and given the directory own answers for both names; one that isn't
+/// there would be left out. It takes no memory.
 pub fn move_name(
     nodes: &mut HashMap<u64, Option<Node>>,
     directory: u64,

@@ -18,7 +18,7 @@ use std::collections::BTreeMap;
 impl Patched {
     /// Writes bytes, at least one, into the file. `number` is the lower file's. If the offset is
     /// past the end, the bytes between are zeros. Only the blocks that the bytes touch are copied.
-    /// After an error no read shows a difference.
+    /// After an error no read shows a difference, but some blocks may be copied.
     pub fn write_at<L: TreeRead>(
         &mut self,
         alloc: Global,
@@ -55,9 +55,9 @@ impl Patched {
         Ok(())
     }
 
-    /// Writes bytes, at least one, into a file; the caller has given it an own copy of each block
-    /// that they touch, long enough for them. If the offset is past the end, the bytes between are
-    /// zeros. It takes no memory.
+    /// Writes bytes, at least one, into a file. The caller has given the file its own copy of each
+    /// block that they touch, long enough for them. If the offset is past the end, the bytes
+    /// between are zeros. It takes no memory.
     fn write_in_place(&mut self, offset: u64, bytes: &[u8])
         requires reaches { Reaches (get nat_cmp self.old.blocks) offset
             (offset + length bytes.now) }
@@ -75,8 +75,8 @@ impl Patched {
     }
 }
 
-/// Replaces the file's bytes from `offset` on by these. The caller's blocks are there for all of
-/// them, and long enough. It takes no memory.
+/// Replaces the file's bytes from `offset` on by these. The caller has made a block for each of
+/// them, long enough. It takes no memory.
 fn write_blocks(blocks: &mut BTreeMap<u64, Block>, offset: u64, bytes: &[u8])
     requires reaches { Reaches (get nat_cmp blocks.old) offset (offset + length bytes.now) }
     requires room { offset + length bytes.now < 2 ^ 63 }
@@ -94,8 +94,8 @@ fn write_blocks(blocks: &mut BTreeMap<u64, Block>, offset: u64, bytes: &[u8])
     }
 }
 
-/// Writes a piece at the file's byte `at` into the only block that it touches. The caller's block
-/// is there, and long enough.
+/// Writes a piece at the file's byte `at` into the only block that it touches. The caller has made
+/// this block, long enough.
 fn write_block(blocks: &mut BTreeMap<u64, Block>, at: u64, piece: &[u8])
     requires there { IsSome (get nat_cmp blocks.old (at / 4096)) }
     requires reaches { IfSome (get nat_cmp blocks.old (at / 4096))

@@ -8,7 +8,7 @@ kept_at kept k = slice_index_or kept k 0
 abbrev pub mark_at : List Bool → ℕ → Bool
 mark_at marks i = slice_index_or marks i false
 
--- those of the first n that pass the test
+-- the numbers below n that pass the test, ascending
 abbrev pub numbers_that_pass : (ℕ → Bool) → ℕ → List ℕ
 numbers_that_pass f zero = []
 numbers_that_pass f (suc n) = numbers_that_pass f n ++ cond (f n) (n ∷ []) []
@@ -17,7 +17,7 @@ numbers_that_pass f (suc n) = numbers_that_pass f n ++ cond (f n) (n ∷ []) []
 abbrev pub IsKept : List ℕ → ℕ → Type 0
 IsKept kept id = (k : ℕ) × (k < length kept) × (kept_at kept k ≡ id)
 
--- how many of the list are below y
+-- how many elements of the list have a key below y
 abbrev pub count_with_key_below : {X : Type 0} → (X → ℕ) → List X → ℕ → ℕ
 count_with_key_below f [] y = 0
 count_with_key_below f (x ∷ xs) y = cond (nat_lt (f x) y) 1 0 + count_with_key_below f xs y

@@ -32,7 +32,7 @@ use Rattle.cs_paths.specs.Marks.{IsKept, kept_at, mark_at, numbers_that_pass}
 abbrev pub directory_moves : List MicroOp → List ℕ
 directory_moves ops = numbers_that_pass (λ k. moves_directory (entry_op_at ops k)) (length ops)
 
--- the directory that it moves
+-- the directory that the micro-operation moves
 abbrev pub moved_directory : MicroOp → Option ℕ
 moved_directory (MoveDirEntry a b (Directory d) old) = Some d
 moved_directory _ = None
@@ -50,7 +50,7 @@ KeepsFirst ops places t =
 
 -- ---- where directories are
 
--- the place is noted as the home of what is put there, if that is a directory
+-- the homes with this place noted as that of the node there, if it is a directory
 abbrev pub with_home : List ℕ → ℕ → Slot → List ℕ
 with_home homes place (Some (Directory d)) = slice_set homes d place
 with_home homes place _ = homes
@@ -60,13 +60,13 @@ abbrev pub homes_from : List ℕ → ℕ → List Slot → List ℕ
 homes_from homes place [] = homes
 homes_from homes place (s ∷ ss) = homes_from (with_home homes place s) (place + 1) ss
 
--- a directory is at home where a step puts it: that makes it
+-- the homes after a step: one that puts a directory into a slot makes the directory there
 abbrev pub home_after : List ℕ → Step → List ℕ
 home_after homes (Set i s) = with_home homes i s
 home_after homes _ = homes
 
--- the home of each directory, of which there are so many: the place of its entry at the start, or
--- of that in which it is made
+-- the home of each of `count` directories: the place of its entry at the start, or of the entry at
+-- which it is made
 abbrev pub homes_in : ℕ → List Slot → List Step → List ℕ
 homes_in count slots steps = fold home_after (homes_from (replicate count 0) 0 slots) steps
 
@@ -92,12 +92,13 @@ abbrev pub AreAtPositions : Table → List Entry → List ℕ → Type 0
 AreAtPositions table entries positions =
     (e : Entry) (d : ℕ) → get table e ≡ Some (Directory d) → position_by entries positions d ≡ e
 
--- there is one of each directory, and if there are entries, each is the place of one
+-- there is a position for each directory, and if there are entries, each position is the place of
+-- one
 abbrev pub ArePositions : ℕ → ℕ → List ℕ → Type 0
 ArePositions entries directories positions =
     (length positions ≡ directories) × (0 < entries → (d : ℕ) → kept_at positions d < entries)
 
--- what is put there is no directory past so many
+-- the node, if it is a directory, has a number below `directories`
 abbrev pub IsBelow : ℕ → Slot → Type 0
 IsBelow directories (Some (Directory d)) = d < directories
 IsBelow directories _ = Unit {0}
@@ -128,15 +129,15 @@ abbrev pub path_of_id : (ℕ → Entry) → ℕ → List Entry → List ℕ → 
 path_of_id at deep entries places zero = []
 path_of_id at deep entries places (suc k) = path_of_place at deep entries (kept_at places k)
 
--- each of so many places is there, once
+-- each place below `entries` is in the list, once
 pub record ArePlaces (entries : ℕ) (places : List ℕ) : Type 0 where
   pub long : length places ≡ entries
   pub low : All (λ place. place < entries) places
   pub once : (i j : ℕ) → i < j → j < length places → kept_at places i ≢ kept_at places j
   pub there : (place : ℕ) → place < entries → IsKept places place
 
--- their paths don't descend: two places may have one path, of which at most one holds something in
--- a state
+-- the paths of the places don't descend. Two places may have the same path; at most one of them
+-- holds something in a state
 abbrev pub AreInOrder : (ℕ → Entry) → ℕ → List Entry → List ℕ → Type 0
 AreInOrder at deep entries places =
     (i j : ℕ) → i < j → j < length places
@@ -168,7 +169,7 @@ homes_of tables =
 abbrev pub positions_of : List MicroOp → Tables → ℕ → List ℕ
 positions_of ops tables t = positions_in ops tables.steps.items (homes_of tables) t
 
--- what was found is of the tables: for each number of moves there is an order
+-- the orders are those of the tables: for each number of moves there is one
 pub record ArePathOrders (ops : List MicroOp) (tables : Tables) (found : PathOrders) : Type 0 where
   pub moves : found.moves.items ≡ directory_moves ops
   pub long : length found.orders.items ≡ length found.moves.items + 1
@@ -194,6 +195,6 @@ ids_after = in_order (λ o. o.ids.items)
 abbrev pub slots_by_path : List ℕ → List Slot → List Slot
 slots_by_path places slots = Some (Directory 0) ∷ map (slot_at slots) places
 
--- a mark of each id: none of the root, and then those at the places
+-- the mark of each id: false for the root, and then the marks at the places
 abbrev pub marks_by_path : List ℕ → List Bool → List Bool
 marks_by_path places marks = false ∷ map (mark_at marks) places

@@ -1,4 +1,5 @@
-//! Entries in the order of their paths, by the positions of directories.
+//! Entries in the order of their paths, which depend on the positions of directories: for each
+//! directory, by its number, the place of the entry at which it is.
 ghost use Rattle.std.specs.Prelude.{◌≡◌, ◌<◌, ◌^◌, ℕ, length, map, IfOk};
 ghost use Rattle.cs_entries.specs.Positions.{climb};
 ghost use Rattle.cs_paths.specs.Marks.{kept_at};
@@ -9,16 +10,16 @@ use cs_entries::Entry;
 use cs_names::Path;
 use std::alloc::{AllocError, Global};
 
-/// The place of the entry at which the directory is. (Each directory of a state has one; 0 for any
-/// other.)
+/// The place of the entry at which the directory is; 0 for a number that no directory has.
 fn position_of(positions: &[u32], directory: u32) -> u32
     ensures { result ≡ kept_at positions.now directory }
 {
     positions.get(directory as usize).copied().unwrap_or(0)
 }
 
-/// The path of the directory, so many names up: by the entry at which it is, and so on up to the
-/// root. `positions` has the place of that entry of each directory.
+/// The path of the directory: its own name, that of the directory above it, and so on up to the
+/// root. At most `deep` names are taken, the lowest ones; a directory of a tree has fewer names
+/// than there are directories.
 fn climb(
     alloc: Global,
     entries: &[Entry],
@@ -39,7 +40,8 @@ fn climb(
     above.child(alloc, entry.name.as_str())
 }
 
-/// The path of each entry, with its place, in the order of entries.
+/// The path of each entry, with its place, in the order of places. `deep` is how many names a
+/// directory's path has at most.
 fn paths_of_entries(
     alloc: Global,
     entries: &[Entry],
@@ -61,7 +63,7 @@ fn paths_of_entries(
     Ok(paths)
 }
 
-/// The places of these paths.
+/// The places of these pairs of a path and a place, in order.
 fn places_of(alloc: Global, paths: &[(Path, u32)]) -> Result<Vec<u32>, AllocError>
     ensures { IfOk result (λ places. places.items ≡ map (λ path. path.1) paths.now) }
 {
@@ -72,8 +74,9 @@ fn places_of(alloc: Global, paths: &[(Path, u32)]) -> Result<Vec<u32>, AllocErro
     Ok(places)
 }
 
-/// The places of the entries in the order of their paths. Entries with one path are in the order of
-/// entries.
+/// The places of the entries in the order of their paths; those of entries with the same path are
+/// ascending. `deep` is how many names a directory's path has at most: as many as there are
+/// directories are enough.
 pub fn places_by_path(
     alloc: Global,
     entries: &[Entry],
@@ -91,7 +94,8 @@ pub fn places_by_path(
     places_of(alloc, &paths)
 }
 
-/// The id of each entry, by its place: one more than where its place is in the list.
+/// The id of each entry, by its place: one more than the index of the place in the list. The list
+/// must have each place below its length once.
 pub fn ids_of(alloc: Global, places: &[u32]) -> Result<Vec<u32>, AllocError>
     requires few { length places.now < 2 ^ 20 }
     requires each { ArePlaces (length places.now) places.now }

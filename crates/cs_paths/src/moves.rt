@@ -1,5 +1,7 @@
-//! Where the directories of a trace are after each of its moves of directories. A place is one
-//! among all entries.
+//! Where the directories of a trace are after each of its moves of directories. The position of a
+//! directory is the place of the entry at which it is, among all entries of the tables; its home is
+//! its position before any move. (In `directory_moves` and `move_at`, places are those of
+//! micro-operations.)
 ghost use Rattle.std.specs.Prelude.{◌≡◌, ◌<◌, ◌^◌, fold, length, IfOk, IfSome};
 ghost use Rattle.std.specs.List.{All};
 ghost use Rattle.std.specs.Option.{is_some};
@@ -31,7 +33,7 @@ fn moved_directory(op: &MicroOp) -> Option<u32>
     }
 }
 
-/// The places of the micro-operations that move a directory.
+/// The places of the micro-operations that move a directory, ascending. None in versions 1 to 3.
 pub fn directory_moves(alloc: Global, ops: &[MicroOp]) -> Result<Vec<u32>, AllocError>
     requires { length ops.now < 2 ^ 20 }
     ensures { IfOk result (λ moves. moves.items ≡ directory_moves ops.now) }
@@ -43,7 +45,7 @@ pub fn directory_moves(alloc: Global, ops: &[MicroOp]) -> Result<Vec<u32>, Alloc
     Ok(moves)
 }
 
-/// Notes the place as the home of what is put there, if that is a directory.
+/// Notes the place as the home of the node there, if it is a directory. If not, nothing changes.
 fn note_home(homes: &mut [u32], place: u32, node: Option<Node>)
     requires { IsBelow (length homes.old) node }
     ensures { homes.new ≡ with_home homes.old place node }
@@ -53,7 +55,7 @@ fn note_home(homes: &mut [u32], place: u32, node: Option<Node>)
     }
 }
 
-/// Notes the home of each directory that a slot has at the start.
+/// Notes the home of each directory that a slot has at the start: the slot's place.
 fn note_start_homes(homes: &mut [u32], slots: &[Option<Node>])
     requires few { length slots.now < 2 ^ 20 }
     requires known { All (IsBelow (length homes.old)) slots.now }
@@ -64,7 +66,8 @@ fn note_start_homes(homes: &mut [u32], slots: &[Option<Node>])
     }
 }
 
-/// Notes the home of each directory that a step puts into a slot: those that are made.
+/// Notes the home of each directory that a `Step::Set` puts into a slot, which are those that are
+/// made: the slot's place. A move of a directory changes no home.
 fn note_made_homes(homes: &mut [u32], steps: &[Step])
     requires { All (StepIsBelow (length homes.old)) steps.now }
     ensures { homes.new ≡ fold home_after homes.old steps.now }
@@ -76,8 +79,8 @@ fn note_made_homes(homes: &mut [u32], steps: &[Step])
     }
 }
 
-/// The home of each directory, by its number: the place of the entry that has it at the start, or
-/// in which it is made; 0 for the root, which has none. There are `count` directories.
+/// The home of each of the first `count` directories, by its number: the place of the entry that
+/// has it at the start, or at which it is made; 0 for the root, which has no entry.
 pub fn homes_of(
     alloc: Global,
     count: usize,
@@ -95,7 +98,8 @@ pub fn homes_of(
     Ok(homes)
 }
 
-/// Moves the directory that the micro-operation moves, if it moves one, to where its step does.
+/// Changes the position of the directory that the micro-operation moves to the place that its step
+/// moves it to. If it moves no directory, nothing changes.
 fn move_directory(positions: &mut [u32], op: &MicroOp, step: Step)
     requires { IfSome (moved_directory op.now) (λ d. d < length positions.old) }
     ensures { positions.new ≡ moved_to positions.old op.now step }
@@ -107,7 +111,8 @@ fn move_directory(positions: &mut [u32], op: &MicroOp, step: Step)
     }
 }
 
-/// Moves the directory that the micro-operation at the place moves, if it moves one.
+/// Changes the position of the directory that the micro-operation at the place moves. If it moves
+/// none, nothing changes. `steps` has the step of each micro-operation.
 pub fn move_at(positions: &mut [u32], ops: &[MicroOp], steps: &[Step], place: u32)
     requires there { place < length ops.now }
     requires steps { length steps.now ≡ length ops.now }

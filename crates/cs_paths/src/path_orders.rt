@@ -1,4 +1,4 @@
-//! The orders of paths of a trace: one for each number of moves of directories that a state keeps.
+//! The orders of paths of a trace: one for each number of moves of directories that a state has.
 ghost use Rattle.std.specs.Prelude.{◌≡◌, ◌+◌, ◌<◌, ◌^◌, ℕ, Some, length, slice_get, IfOk};
 ghost use Rattle.std.specs.Prelude.{IfSome};
 ghost use Rattle.cs_apm.specs.Atlases.{IsAtlas, atlas_in};
@@ -16,18 +16,19 @@ use cs_names::laws::know;
 use cs_trace::Trace;
 use std::alloc::{AllocError, Global};
 
-/// The moves of directories of a trace, and the orders of paths before and after them.
+/// The moves of directories of a trace, and the orders of paths before and after each of them.
 #[derive(Debug, Drop)]
 pub struct PathOrders {
-    /// The places of the micro-operations that move a directory, ascending. A state keeps the first
+    /// The places of the micro-operations that move a directory, ascending. A state has the first
     /// so many of them.
     pub moves: Vec<u32>,
-    /// For each number of them from 0 on, the order of paths in the states that keep so many.
+    /// The order of paths in the states with 0 of these moves, with 1, and so on up to all: one
+    /// more than there are moves.
     pub orders: Vec<PathOrder>,
 }
 
-/// The order of paths after each of the moves of directories, from none of them on. `homes` has
-/// where the directories are before the first of them.
+/// The order of paths before the first of the moves of directories, and after each of them.
+/// `homes` has the positions of the directories before the first.
 fn orders_of(
     alloc: Global,
     tables: &Tables,
@@ -63,7 +64,8 @@ fn orders_of(
 impl PathOrders {
     ghost use Rattle.cs_paths.specs.PathOrders.{ArePathOrders};
 
-    /// The orders of paths of a trace, from its micro-operations and its tables.
+    /// The orders of paths of a trace, from its micro-operations and its tables. Each order has two
+    /// numbers for each entry, so many moves take much memory.
     pub fn of(
         alloc: Global,
         trace: &Trace,

@@ -10,9 +10,9 @@ use cs_apm::tables::Tables;
 use cs_micro::Micros;
 use cs_trace::Trace;
 
-/// Of the moves of directories, an allowed set keeps the first so many. In what it leaves, each
-/// directory is where these moves put it: at the entry that the order of paths for this number of
-/// moves has for it.
+/// Of the moves of directories, an allowed set has the first so many. In what it leaves, each
+/// directory that is there is at the entry to which these moves put it: the one that
+/// `PathOrder::positions` has for it, in the order for this number of moves.
 pub fn directories_are_where_moves_put_them(trace: &Trace, micros: &Micros, tables: &Tables)
     requires { IsAtlas trace.now micros.now (atlas_in tables.now) }
     ensures first { (places : List ℕ)

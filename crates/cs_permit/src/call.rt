@@ -1,5 +1,6 @@
 //! The calls that a session makes on a run after the message passed the connection's rules. A call
-//! names a file by its number.
+//! names a file by its number, which may be gone by now: then the call's first rule denies it.
+//! `user` is the user of the fid.
 ghost use Rattle.std.specs.Prelude.{◌≡◌, IfOk};
 
 use crate::sent_bytes::SentBytes;
@@ -18,64 +19,75 @@ pub struct AttachCall {
 /// Walks from a file, by a name at a time (walk(5)).
 #[derive(Debug, Drop)]
 pub struct WalkCall {
+    /// The number of the file from which the walk begins.
     pub number: u64,
     pub user: UserName,
     /// The names as they came: the run's rules decide whether they are legal.
     pub names: Texts,
 }
 
-/// Opens a file (open(5)).
+/// Opens a file (open(5)). The connection's rules have checked that the mode has no unknown bit.
 #[derive(Debug, Drop)]
 pub struct OpenCall {
     pub number: u64,
     pub user: UserName,
+    /// The mode of the open, with its bits OTRUNC and ORCLOSE.
     pub mode: u8,
 }
 
-/// Makes a file in a directory, and opens it (open(5)).
+/// Makes a file in a directory, and opens it (open(5)). The connection's rules have checked name,
+/// permissions and mode by themselves.
 #[derive(Debug, Drop)]
 pub struct CreateCall {
     /// The directory.
     pub number: u64,
     pub user: UserName,
     pub name: Name,
+    /// The permissions and high bits that the client wants. Those of the directory restrict them.
     pub perm: u32,
+    /// The mode of the open, with its bits OTRUNC and ORCLOSE.
     pub mode: u8,
 }
 
-/// Reads an open file, or the entries of an open directory (read(5)).
+/// Reads an open file, or the entries of an open directory (read(5)). It has no user: the rights
+/// were asked when the file was opened.
 #[derive(Debug, Drop)]
 pub struct ReadCall {
     pub number: u64,
+    /// The first byte to return, from 0. In a directory it is 0 or the end of the last read.
     pub offset: u64,
-    /// The number of bytes that the client wants and that fit a reply.
+    /// The most bytes to return: what the client asks for, or what fits a reply if that is less.
     pub count: u32,
-    /// The place at which the fid's reads of a directory go on.
+    /// The place at which the fid's reads of a directory continue; of no use for a file.
     pub place: Place,
 }
 
-/// Writes into an open file (read(5)).
+/// Writes into an open file (read(5)). The rights were asked when the file was opened; `user`
+/// becomes the file's last writer.
 #[derive(Debug, Drop)]
 pub struct WriteCall<'a> {
     pub number: u64,
     pub user: UserName,
+    /// Where the bytes go, unless the file is append-only: then they go to its end.
     pub offset: u64,
+    /// What is written, as it came.
     pub bytes: SentBytes<'a>,
 }
 
-/// Ends an open (clunk(5)).
+/// Ends an open, which may remove the file (clunk(5)).
 #[derive(Debug, Drop)]
 pub struct CloseCall {
+    /// The number of the open in the run.
     pub open_number: u32,
     pub user: UserName,
 }
 
-/// Removes a file (remove(5)).
+/// Removes a file, and ends the open of its fid even if the file can't be removed (remove(5)).
 #[derive(Debug, Drop)]
 pub struct RemoveCall {
     pub number: u64,
     pub user: UserName,
-    /// The fid's open, if it is open.
+    /// The number of the fid's open in the run; None if the fid isn't open.
     pub open_number: Option<u32>,
 }
 
@@ -90,11 +102,11 @@ pub struct StatCall {
 pub struct WstatCall {
     pub number: u64,
     pub user: UserName,
-    /// The stat as it came: all ones in a number, or an empty text, say "don't touch".
+    /// The stat as it came: a number with all bits set, or an empty text, says "don't touch".
     pub stat: SentStat,
 }
 
-/// A call on a run.
+/// A call on a run. Only a write may borrow: its bytes, from the message.
 #[derive(Debug, Drop)]
 pub enum Call<'a> {
     Attach(AttachCall),
@@ -109,17 +121,20 @@ pub enum Call<'a> {
     Wstat(WstatCall),
 }
 
-/// An open of a run: its number, its file's number, its mode, and the pass that it is under.
+/// An open of a run, which a create or an open makes and a close or a remove ends.
 #[derive(Clone, Copy, Debug, PartialEq, Eq)]
 pub struct OpenFile {
+    /// Its number, by which a close names it.
     pub number: u32,
+    /// The number of its file.
     pub file: u64,
     pub mode: u8,
+    /// The pass under which it was made: only calls of this pass can end it.
     pub pass: u32,
 }
 
 impl AttachCall {
-    /// A copy of the call.
+    /// A copy of the call and its text. The only error is that memory runs out.
     fn try_clone(&self) -> Result<AttachCall, AllocError>
         ensures { IfOk result (λ copy. copy ≡ self.now) }
     {
@@ -130,7 +145,7 @@ impl AttachCall {
 }
 
 impl WalkCall {
-    /// A copy of the call.
+    /// A copy of the call, its user and its names. The only error is that memory runs out.
     fn try_clone(&self, alloc: Global) -> Result<WalkCall, AllocError>
         ensures { IfOk result (λ copy. copy ≡ self.now) }
     {
@@ -143,7 +158,7 @@ impl WalkCall {
 }
 
 impl OpenCall {
-    /// A copy of the call.
+    /// A copy of the call and its user. The only error is that memory runs out.
     fn try_clone(&self) -> Result<OpenCall, AllocError>
         ensures { IfOk result (λ copy. copy ≡ self.now) }
     {
@@ -156,7 +171,7 @@ impl OpenCall {
 }
 
 impl CreateCall {
-    /// A copy of the call.
+    /// A copy of the call, its user and its name. The only error is that memory runs out.
     fn try_clone(&self) -> Result<CreateCall, AllocError>
         ensures { IfOk result (λ copy. copy ≡ self.now) }
     {
@@ -171,7 +186,7 @@ impl CreateCall {
 }
 
 impl ReadCall {
-    /// A copy of the call.
+    /// A copy of the call and its place. The only error is that memory runs out.
     fn try_clone(&self) -> Result<ReadCall, AllocError>
         ensures { IfOk result (λ copy. copy ≡ self.now) }
     {
@@ -185,7 +200,7 @@ impl ReadCall {
 }
 
 impl WriteCall<'_> {
-    /// A copy of the call, which borrows nothing.
+    /// A copy of the call, which borrows nothing. The only error is that memory runs out.
     fn try_clone(&self, alloc: Global) -> Result<WriteCall<'static>, AllocError>
         ensures { IfOk result (λ copy. copy ≡ self.now) }
     {
@@ -199,7 +214,7 @@ impl WriteCall<'_> {
 }
 
 impl CloseCall {
-    /// A copy of the call.
+    /// A copy of the call and its user. The only error is that memory runs out.
     fn try_clone(&self) -> Result<CloseCall, AllocError>
         ensures { IfOk result (λ copy. copy ≡ self.now) }
     {
@@ -211,7 +226,7 @@ impl CloseCall {
 }
 
 impl RemoveCall {
-    /// A copy of the call.
+    /// A copy of the call and its user. The only error is that memory runs out.
     fn try_clone(&self) -> Result<RemoveCall, AllocError>
         ensures { IfOk result (λ copy. copy ≡ self.now) }
     {
@@ -224,7 +239,7 @@ impl RemoveCall {
 }
 
 impl WstatCall {
-    /// A copy of the call.
+    /// A copy of the call, its user and its stat. The only error is that memory runs out.
     fn try_clone(&self) -> Result<WstatCall, AllocError>
         ensures { IfOk result (λ copy. copy ≡ self.now) }
     {
@@ -237,7 +252,8 @@ impl WstatCall {
 }
 
 impl<'a> Call<'a> {
-    /// A copy of the call, which borrows nothing.
+    /// A copy of the call, which borrows nothing. The only error is that memory runs out; a part of
+    /// a copy is dropped then.
     pub fn try_clone(&self, alloc: Global) -> Result<Call<'static>, AllocError>
         ensures { IfOk result (λ copy. copy ≡ self.now) }
     {

@@ -24,7 +24,7 @@ fn new_u16(present: u16, sent: u16) -> Option<u16>
 }
 
 /// The new value of a field of four bytes; None for "don't touch" (all ones) and for the present
-/// value. As `new_u16`.
+/// value. (`new_u16` and `new_u64` do the same for other widths.)
 fn new_u32(present: u32, sent: u32) -> Option<u32>
     ensures { result ≡ new_number ones_4 present sent }
 {
@@ -36,7 +36,7 @@ fn new_u32(present: u32, sent: u32) -> Option<u32>
 }
 
 /// The new value of a field of eight bytes; None for "don't touch" (all ones) and for the present
-/// value. As `new_u16`.
+/// value. (`new_u16` and `new_u32` do the same for other widths.)
 fn new_u64(present: u64, sent: u64) -> Option<u64>
     ensures { result ≡ new_number ones_8 present sent }
 {
@@ -77,28 +77,29 @@ pub fn new_length(call: &WstatCall, file: &Metadata) -> Option<u64>
     new_u64(shown_length(file.kind), call.stat.as_stat().length)
 }
 
-/// The new mode; None if the wstat doesn't change the mode.
+/// The new mode; None if the wstat doesn't change the mode. The rules accept no new mode with
+/// DMSYMLINK, so a symbolic link of the trace becomes a plain file by it.
 pub fn new_mode(call: &WstatCall, file: &Metadata) -> Option<u32>
     ensures { result ≡ new_mode call.now (metadata_of_ref file.now) }
 {
     new_u32(file.mode, call.stat.as_stat().mode)
 }
 
-/// The new mtime; None if the wstat doesn't change the mtime.
+/// The new mtime in seconds since 1970; None if the wstat doesn't change the mtime.
 pub fn new_mtime(call: &WstatCall, file: &Metadata) -> Option<u32>
     ensures { result ≡ new_mtime call.now (metadata_of_ref file.now) }
 {
     new_u32(file.mtime, call.stat.as_stat().mtime)
 }
 
-/// The new group; None if the wstat doesn't change the group.
+/// The new group, from the field gid; None if the wstat doesn't change the group.
 pub fn new_group<'a>(call: &'a WstatCall, file: &Metadata) -> Option<&'a str>
     ensures { option_copied result ≡ new_group call.now (metadata_of_ref file.now) }
 {
     new_text(file.group.as_str(), call.stat.as_stat().gid.as_str())
 }
 
-/// The qid of a wstat that says "don't touch".
+/// The qid by which a wstat says "don't touch": 13 bytes of ones.
 const ONES_QID: Qid = Qid {
     kind: u8::MAX,
     vers: u32::MAX,

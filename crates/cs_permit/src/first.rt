@@ -1,6 +1,7 @@
 //! The first rule of a run that a call fails, found without allocating. Each `first_of_` function
-//! has the rules of one kind of call, in their order, and returns None if all of them pass. The
-//! rules of a read, of a name of a walk and of a wstat are in files of their own.
+//! has the rules of one kind of call, in their order, and returns None if all of them pass. What a
+//! rule says is the text of its `RuleId`. The rules of a read, of a name of a walk and of a wstat
+//! are in files of their own.
 ghost use Rattle.std.specs.Prelude.{◌≡◌, if◌then◌else◌};
 ghost use Rattle.cs_tree_model.specs.Record.{metadata_of_ref};
 ghost use Rattle.cs_permit.specs.Attaches.{attach_rules};
@@ -52,14 +53,16 @@ pub fn first_of_walk<T: TreeRead>(call: &WalkCall, tree: &T, users: &Users) -> O
     first_of_element(tree, users, &call.user, call.number, name.as_str())
 }
 
-/// Whether one of the opens is of this file. As `is_on` of cs_run.
+/// Whether one of the opens is of this file, of any pass. (cs_run has the same test, its `is_on`,
+/// which is private there.)
 fn is_file_open(opens: &[OpenFile], file: u64) -> bool
     ensures { result ≡ is_open opens.now file }
 {
     opens.iter().any(|open_file| open_file.file == file)
 }
 
-/// The first of O4 to O10 that fails; None if none does.
+/// The first of O4 to O10 that fails; None if none does (open(5)). A directory can be opened only
+/// in mode 0, without OTRUNC or ORCLOSE. Mode 3 asks for x only.
 fn first_of_open<T: TreeRead>(
     call: &OpenCall,
     tree: &T,
@@ -94,7 +97,8 @@ fn first_of_open<T: TreeRead>(
     None
 }
 
-/// The first of C6 to C10 that fails; None if none does.
+/// The first of C6 to C10 that fails; None if none does (open(5)). It asks for w on the directory;
+/// the permissions of the new file restrict only later opens.
 fn first_of_create<T: TreeRead>(call: &CreateCall, tree: &T, users: &Users) -> Option<RuleId>
     ensures { result ≡ first_failing (create_rules (T.tree tree.now) users.now call.now) }
 {
@@ -116,8 +120,8 @@ fn first_of_create<T: TreeRead>(call: &CreateCall, tree: &T, users: &Users) -> O
     None
 }
 
-/// Whether `count` bytes from `start` on end above FILE_BYTES, the greatest length of a file. If
-/// `count` is 0, they end at `start`.
+/// Whether `count` bytes from `start` on end above FILE_BYTES, the greatest length that a write
+/// gives a file. If `count` is 0, they end at `start`.
 fn ends_too_late(start: u64, count: u64) -> bool
     ensures { result ≡ ends_too_late start count }
 {
@@ -136,7 +140,8 @@ pub fn write_start(call: &WriteCall<'_>, file: &Metadata) -> u64
     }
 }
 
-/// The first of E3 and E4 that fails; None if neither does. A write without bytes can't fail E4.
+/// The first of E3 and E4 that fails; None if neither does. The rights were asked when the fid was
+/// opened. A write without bytes can't fail E4.
 fn first_of_write<T: TreeRead>(call: &WriteCall<'_>, tree: &T) -> Option<RuleId>
     ensures { result ≡ first_failing (write_rules (T.tree tree.now) call.now) }
 {
@@ -158,7 +163,8 @@ fn has_entries<T: TreeRead>(tree: &T, number: u64) -> bool
     tree.entry_after(number, None, None).is_some()
 }
 
-/// The first of M2 to M5 that fails; None if none does.
+/// The first of M2 to M5 that fails; None if none does (remove(5)). It asks for w on the file's
+/// directory, and for no right on the file.
 fn first_of_remove<T: TreeRead>(call: &RemoveCall, tree: &T, users: &Users) -> Option<RuleId>
     ensures { result ≡ first_failing (remove_rules (T.tree tree.now) users.now call.now) }
 {
@@ -188,8 +194,8 @@ fn first_of_stat<T: TreeRead>(call: &StatCall, tree: &T) -> Option<RuleId>
     None
 }
 
-/// The first rule of the run that the call fails; None if all pass. A close has no rule. The search
-/// allocates nothing.
+/// The first rule of the run that the call fails; None if all pass. A close has no rule. It changes
+/// nothing and allocates nothing. The connection's rules (`first_table_rule`) were asked before.
 #[tactic(auto, unfolding(crate::specs::Calls::failing_rule))]
 pub fn failing_rule<T: TreeRead>(
     call: &Call<'_>,

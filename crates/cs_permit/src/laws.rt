@@ -23,8 +23,8 @@ pub fn first_rule_that_fails()
     ensures granted { (checks : List Check) → first_failing checks ≡ None → AllPass checks }
 {}
 
-/// The first failing rule of two lists in a row is that of the first list, or else that of the
-/// second. If all rules of both pass, all of each do.
+/// The first rule that fails in two lists, one after the other, is that of the first list; if none
+/// fails there, it is that of the second. If all rules of both pass, all of each do.
 pub fn first_rule_of_two_lists()
     ensures first { (xs ys : List Check) → first_failing (xs ++ ys)
         ≡ first_failing_or (first_failing xs) (first_failing ys) }

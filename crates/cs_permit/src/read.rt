@@ -1,5 +1,5 @@
-//! The rules of a read. A read of a directory begins at its first entry or at the end of the last
-//! read, and gives whole entries (read(5)).
+//! The rules of a read. A read of a directory begins at its first entry or at the end of the fid's
+//! last read, and gives whole entries (read(5)).
 ghost use Rattle.std.specs.Prelude.{◌≡◌, option_copied};
 ghost use Rattle.cs_permit.specs.Reads.{is_good_offset, name_before, needs_more, read_rules};
 ghost use Rattle.cs_permit.specs.Refusals.{first_failing};
@@ -18,7 +18,9 @@ fn is_good_offset(call: &ReadCall) -> bool
     call.offset == 0 || call.offset == call.place.end
 }
 
-/// The name after which a read of a directory begins; None if the read begins at the first entry.
+/// The name after which a read of a directory begins; None if it begins at the first entry. At
+/// offset 0 that is always so. At any other offset it is the fid's last name: `is_good_offset` has
+/// compared the offset.
 pub fn name_before(call: &ReadCall) -> Option<&Name>
     ensures { option_copied result ≡ name_before call.now }
 {
@@ -29,7 +31,8 @@ pub fn name_before(call: &ReadCall) -> Option<&Name>
     }
 }
 
-/// Whether the next entry has more bytes than the read asks for; false if no entry is left.
+/// Whether the next entry of the directory has more bytes than the read asks for, so that not one
+/// fits; false if no entry is left.
 fn needs_more<T: TreeRead>(tree: &T, call: &ReadCall) -> bool
     ensures { result ≡ needs_more (T.tree tree.now) call.now }
 {
@@ -39,8 +42,8 @@ fn needs_more<T: TreeRead>(tree: &T, call: &ReadCall) -> bool
     }
 }
 
-/// The first of G3 to G5 that fails; None if none does. Only a read of a directory can fail G4 or
-/// G5.
+/// The first of G3 to G5 that fails; None if none does. A read of a file that is there fails none:
+/// at its end or past it, the reply has no bytes. G4 and G5 are for directories.
 pub fn first_of_read<T: TreeRead>(call: &ReadCall, tree: &T) -> Option<RuleId>
     ensures { result ≡ first_failing (read_rules (T.tree tree.now) call.now) }
 {

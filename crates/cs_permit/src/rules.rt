@@ -9,7 +9,7 @@ use cs_names::UserName;
 use cs_tree_model::{DMAPPEND, DMEXCL, Kind, Metadata, TreeRead};
 use cs_users::{Right, Users, has_bit};
 
-/// Whether the file is a directory, by its kind; the mode isn't looked at.
+/// Whether the file is a directory. Its kind says so; the mode isn't looked at.
 pub fn is_directory(file: &Metadata) -> bool
     ensures { result ≡ is_directory (metadata_of_ref file.now) }
 {
@@ -40,7 +40,8 @@ pub fn is_gone<T: TreeRead>(tree: &T, number: u64) -> bool
     tree.record(number).is_none()
 }
 
-/// Whether the user has the right on the file, by its owner, its group and its mode.
+/// Whether the user has the right on the file, by its owner, its group and its mode: any of the
+/// three may grant it, and `none` has the rights of others only.
 pub fn may_access(users: &Users, user: &UserName, right: Right, file: &Metadata) -> bool
     ensures { result ≡ may_access users.now user.now right (metadata_of_ref file.now) }
 {
@@ -55,7 +56,7 @@ pub fn may_access(users: &Users, user: &UserName, right: Right, file: &Metadata)
 }
 
 /// Whether the user lacks the right on the file's directory; the root is its own directory. False
-/// if no file has the number.
+/// if no file has the number, so callers look for the file first.
 pub fn parent_lacks<T: TreeRead>(
     tree: &T,
     users: &Users,
@@ -70,7 +71,7 @@ pub fn parent_lacks<T: TreeRead>(
     };
     match tree.record(parent) {
         Some(directory) => !may_access(users, user, right, &directory),
-        // never so: the tree has a record of each parent
+        // it is never None: the tree has a record of each parent
         None => false,
     }
 }

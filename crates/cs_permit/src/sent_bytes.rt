@@ -1,11 +1,12 @@
-//! The bytes that a Twrite sends, borrowed or copied. Contracts see them as a list.
+//! The bytes that a Twrite sends (read(5)).
 ghost use Rattle.std.specs.Prelude.{◌≡◌, IfOk, length};
 
 use std::alloc::{AllocError, Global};
 use std::borrow::CowSlice;
 use std::marker::Model;
 
-/// The bytes of a write as they came, borrowed or copied. Contracts see them as a list.
+/// The bytes of a write as they came: borrowed from the message, or a copy of them. Contracts see a
+/// list of bytes, and don't see which of the two it is.
 #[derive(Debug, Drop)]
 pub struct SentBytes<'a> {
     bytes: CowSlice<'a, u8>,
@@ -30,7 +31,7 @@ impl<'a> SentBytes<'a> {
         }
     }
 
-    /// A copy of these bytes, which borrows nothing.
+    /// A copy of these bytes, which borrows nothing. The only error is that memory runs out.
     pub fn copy_of(alloc: Global, bytes: &[u8]) -> Result<SentBytes<'static>, AllocError>
         ensures { IfOk result (λ copy. copy ≡ bytes.now) }
     {
@@ -53,7 +54,8 @@ impl<'a> SentBytes<'a> {
         self.bytes.len()
     }
 
-    /// A copy that borrows nothing, even if these bytes are borrowed.
+    /// A copy that borrows nothing, even if these bytes are borrowed. The only error is that memory
+    /// runs out.
     pub fn try_clone(&self, alloc: Global) -> Result<SentBytes<'static>, AllocError>
         ensures { IfOk result (λ copy. copy ≡ self.now) }
     {

@@ -1,4 +1,4 @@
-//! The stat that a Twstat sends. Contracts see the values of its fields.
+//! The stat that a Twstat sends (stat(5)).
 ghost use Rattle.std.specs.Prelude.{◌≡◌, IfOk};
 ghost use Rattle.cs_permit.specs.Sent.{sent_of};
 
@@ -6,7 +6,7 @@ use cs_wire::Stat;
 use std::alloc::AllocError;
 use std::marker::Model;
 
-/// The stat that a Twstat sends. Contracts see its fields, with each text as bytes.
+/// The stat that a Twstat sends, as it came. Contracts see its fields, with each text as bytes.
 #[derive(Debug, Drop)]
 pub struct SentStat {
     stat: Stat,
@@ -35,7 +35,8 @@ impl SentStat {
         &self.stat
     }
 
-    /// A copy of the stat, with its texts.
+    /// A copy of the stat, with its texts. The only error is that memory runs out; then the texts
+    /// that were copied are dropped.
     pub fn try_clone(&self) -> Result<SentStat, AllocError>
         ensures { IfOk result (λ copy. copy ≡ self.now) }
     {
@@ -45,7 +46,9 @@ impl SentStat {
     }
 }
 
-/// A copy of a message's stat and its texts.
+/// A copy of a message's stat and its texts. The only error is that memory runs out; then the texts
+/// that were copied are dropped. (`StatRef::to_stat` of cs_wire lists the same fields, and copies
+/// borrowed texts: change both.)
 fn copy_stat(stat: &Stat) -> Result<Stat, AllocError>
     ensures { IfOk result (λ copy. sent_of copy ≡ sent_of stat.now) }
 {

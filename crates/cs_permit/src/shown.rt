@@ -20,7 +20,7 @@ use cs_wire::{Qid, StatRef};
 /// cs_run's `FileStat` writes this number out as 600.
 pub const STAT_BYTES: usize = 600;
 
-/// The qid of a file (intro(5)).
+/// The qid of a file (intro(5)): the high byte of its mode, its version and its number.
 pub fn qid_of(file: &Metadata) -> Qid
     ensures value { result ≡ qid_of (metadata_of_ref file.now) }
     ensures fits { IsQid result }
@@ -57,8 +57,8 @@ pub fn qid_or_zeros(file: Option<Metadata>) -> Qid
     }
 }
 
-/// The qid of the file of a number, which is looked up; zeros if no file has the number. A run
-/// passes only numbers of files that are there, as for `qid_or_zeros`.
+/// The qid of the file of a number, which is looked up; zeros if no file has the number. A run asks
+/// only for files that are there, so no client sees the zeros.
 pub fn qid_at<T: TreeRead>(tree: &T, number: u64) -> Qid
     ensures value { result ≡ qid_at (T.tree tree.now) number }
     ensures fits { IsQid result }
@@ -66,7 +66,7 @@ pub fn qid_at<T: TreeRead>(tree: &T, number: u64) -> Qid
     qid_or_zeros(tree.record(number))
 }
 
-/// The name of a file as a text. By the clause `shown` a message can have this text.
+/// The name of a file as a text. A message can have this text: it is short, and has no NUL.
 pub fn name_text(name: &Name) -> &str
     ensures value { result.now ≡ name.now }
     ensures shown { IsShown NAME_BYTES result.now }
@@ -85,7 +85,7 @@ pub fn shown_name<T: TreeRead>(tree: &T, number: u64) -> &str
     }
 }
 
-/// The length that a stat shows; 0 for a directory.
+/// The length that a stat shows; 0 for a directory. (`size_of` of cs_tar has the same body.)
 pub fn shown_length(kind: Kind) -> u64
     ensures { result ≡ shown_length kind }
 {
@@ -95,7 +95,7 @@ pub fn shown_length(kind: Kind) -> u64
     }
 }
 
-/// The name of a user as a text. By the clause `shown` a message can have this text.
+/// The name of a user as a text. A message can have this text: it is short, and has no NUL.
 fn user_text(user: &UserName) -> &str
     ensures value { result.now ≡ user.now }
     ensures shown { IsShown USER_NAME_BYTES result.now }
@@ -112,8 +112,8 @@ struct StatTexts<'a> {
     muid: &'a str,
 }
 
-/// The stat of these fields, with 0 as type and dev, which are the server's own; `changes_fixed`
-/// compares a wstat's with the same 0.
+/// The stat of these fields. Its type and dev are 0: they are for the server's kernel (stat(5)),
+/// and this server has no use for them. `changes_fixed` compares those of a wstat with the same 0.
 fn stat_with<'a>(
     qid: Qid,
     mode: u32,
@@ -142,7 +142,9 @@ fn stat_with<'a>(
     }
 }
 
-/// The stat of a file of that name, with borrowed texts. It allocates nothing.
+/// The stat of a file of that name (stat(5)), with borrowed texts. The name is a text of at most
+/// NAME_BYTES bytes that a message can have, as `shown_name` and `name_text` give it. It allocates
+/// nothing.
 pub fn stat_of_file<'a>(name: &'a str, file: &Metadata<'a>) -> StatRef<'a>
     requires { IsShown NAME_BYTES name.now }
     ensures value { fields_of result ≡ stat_of_file name.now (metadata_of_ref file.now) }
@@ -165,8 +167,8 @@ pub fn stat_of_file<'a>(name: &'a str, file: &Metadata<'a>) -> StatRef<'a>
     )
 }
 
-/// The stat of the file of a number, with borrowed texts; None if no file has the number. It
-/// allocates nothing.
+/// The stat of the file of a number (stat(5)), with borrowed texts; None if no file has the number.
+/// The root's name is `/`. It allocates nothing.
 pub fn stat_ref<T: TreeRead>(tree: &T, number: u64) -> Option<StatRef<'_>>
     ensures value { option_map fields_of result ≡ stat_at (T.tree tree.now) number }
     ensures fits { IfSome result (λ stat. IsStat STAT_BYTES (fields_of stat)) }
@@ -176,8 +178,8 @@ pub fn stat_ref<T: TreeRead>(tree: &T, number: u64) -> Option<StatRef<'_>>
     Some(stat_of_file(name, &file))
 }
 
-/// The stat of an entry of a directory, with borrowed texts; None if no file has the entry's
-/// number. It allocates nothing.
+/// The stat of an entry of a directory (stat(5)), with borrowed texts; None if no file has the
+/// entry's number. Its name is the entry's. It allocates nothing.
 pub fn entry_stat<'a, T: TreeRead>(tree: &'a T, entry: ListedEntry<'a>) -> Option<StatRef<'a>>
     ensures value { option_map fields_of result ≡ stat_as (T.tree tree.now) entry.entry.number
         (entry_name entry.entry) }
@@ -187,8 +189,8 @@ pub fn entry_stat<'a, T: TreeRead>(tree: &'a T, entry: ListedEntry<'a>) -> Optio
     Some(stat_of_file(name_text(entry.name), &file))
 }
 
-/// The number of bytes of a directory's entry in a read of the directory; 0 if no file has the
-/// entry's number.
+/// The number of bytes of a directory's entry in a read of the directory, with the two of its size
+/// (read(5)); 0 if no file has the entry's number.
 pub fn entry_size<T: TreeRead>(tree: &T, entry: ListedEntry) -> usize
     ensures { result ≡ length (entry_of (stat_as (T.tree tree.now) entry.entry.number
         (entry_name entry.entry))) }

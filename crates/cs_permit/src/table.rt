@@ -1,6 +1,6 @@
 //! The first rule of a connection that a request on its fids fails, found without allocating. Each
 //! `first_table_rule_of_` function has the rules of one kind of request, in their order, and
-//! returns None if all of them pass.
+//! returns None if all of them pass. What a rule says is the text of its `RuleId`.
 ghost use Rattle.std.specs.Prelude.{◌≡◌, ◌∷◌, []};
 ghost use Rattle.cs_permit.specs.Refusals.{first_failing};
 ghost use Rattle.cs_permit.specs.Table.{attach_table_rules, create_table_rules, first_table_rule};
@@ -40,14 +40,15 @@ fn is_fid_open(fids: &FidTable, fid: u32) -> bool
     open_mode(fids, fid).is_some()
 }
 
-/// Whether the connection has as many fids as it may have: FIDS.
+/// Whether the connection has FIDS fids, the most that it may have.
 fn is_full(fids: &FidTable) -> bool
     ensures { result ≡ is_full fids.now.fids }
 {
     fids.len() >= FIDS
 }
 
-/// The first of A1 to A3 that fails; None if none does.
+/// The first of A1 to A3 that fails; None if none does. The fid must be new, and afid NOFID, since
+/// the server has no authentication (attach(5)).
 fn first_table_rule_of_attach(fids: &FidTable, fid: u32, afid: u32, aname: &str) -> Option<RuleId>
     ensures { result ≡ first_failing (attach_table_rules fids.now.fids fid afid aname.now) }
 {
@@ -63,7 +64,8 @@ fn first_table_rule_of_attach(fids: &FidTable, fid: u32, afid: u32, aname: &str)
     None
 }
 
-/// The first of K1 to K4 that fails; None if none does.
+/// The first of K1 to K4 that fails; None if none does. `newfid` may be `fid` itself, which needs
+/// no room (walk(5)).
 fn first_table_rule_of_walk(fids: &FidTable, fid: u32, newfid: u32) -> Option<RuleId>
     ensures { result ≡ first_failing (walk_table_rules fids.now.fids fid newfid) }
 {
@@ -82,7 +84,8 @@ fn first_table_rule_of_walk(fids: &FidTable, fid: u32, newfid: u32) -> Option<Ru
     None
 }
 
-/// The first of O1 to O3 that fails; None if none does.
+/// The first of O1 to O3 that fails; None if none does. Whether the user has the rights is asked by
+/// the run.
 fn first_table_rule_of_open(fids: &FidTable, fid: u32, mode: u8) -> Option<RuleId>
     ensures { result ≡ first_failing (open_table_rules fids.now.fids fid mode) }
 {
@@ -98,7 +101,8 @@ fn first_table_rule_of_open(fids: &FidTable, fid: u32, mode: u8) -> Option<RuleI
     None
 }
 
-/// The first of C1 to C5 that fails; None if none does.
+/// The first of C1 to C5 that fails; None if none does. Whether the fid's file is a directory is
+/// asked by the run.
 fn first_table_rule_of_create(
     fids: &FidTable,
     fid: u32,
@@ -172,7 +176,8 @@ fn first_table_rule_of_write(fids: &FidTable, fid: u32) -> Option<RuleId>
     None
 }
 
-/// The given rule if the connection has no such fid, else None.
+/// The given rule if the connection has no such fid, else None: for requests that have no other
+/// rule of the connection.
 fn rule_if_unknown(fids: &FidTable, fid: u32, rule: RuleId) -> Option<RuleId>
     ensures { result ≡ first_failing ((rule, is_unknown fids.now.fids fid) ∷ []) }
 {
@@ -182,8 +187,8 @@ fn rule_if_unknown(fids: &FidTable, fid: u32, rule: RuleId) -> Option<RuleId>
     None
 }
 
-/// The first rule of the connection that the request fails; None if all pass. The search allocates
-/// nothing.
+/// The first rule of the connection that the request fails, in the order of the server's page; None
+/// if all pass. It asks no run and allocates nothing.
 #[tactic(auto, unfolding(crate::specs::Table::first_table_rule))]
 pub fn first_table_rule(request: &Request, fids: &FidTable) -> Option<RuleId>
     ensures { result ≡ first_table_rule fids.now.fids request.now }

@@ -1,4 +1,5 @@
-//! One element of a walk (walk(5)).
+//! One element of a walk: the step from a file by one name (walk(5)). K6 is "not a directory", K7
+//! "no search right", K8 "no such name".
 ghost use Rattle.std.specs.Prelude.{◌≡◌};
 ghost use Rattle.std.specs.Option.{option_map};
 ghost use Rattle.cs_tree_model.specs.Record.{metadata_of_ref};
@@ -11,7 +12,7 @@ use cs_names::{Name, RuleId, UserName};
 use cs_tree_model::{Metadata, TreeRead};
 use cs_users::{Right, Users};
 
-/// Whether the name leads to the parent: `..`.
+/// Whether the name is `..`, which leads to the parent.
 fn is_up(name: &str) -> bool
     ensures { result ≡ is_up name.now }
 {
@@ -34,8 +35,9 @@ fn next_number<T: TreeRead>(tree: &T, number: u64, name: &str) -> Option<u64>
 }
 
 /// Walks one element from the file of that number: the number of the file to which it leads, or the
-/// rule that stops it. `file` is the record of that number, which the caller has looked up; without
-/// a record only K8 can stop it. It allocates nothing, and looks up a name but no record.
+/// first of K6, K7 and K8 that stops it. `file` is the record of that number, which the caller has
+/// looked up; without a record only K8 can stop it. It allocates nothing, and looks up a name but
+/// no record.
 // a record is large: out of line, it would be passed in memory
 #[inline(always)]
 pub fn walk_element<T: TreeRead>(
@@ -60,8 +62,8 @@ pub fn walk_element<T: TreeRead>(
     next_number(tree, number, name).ok_or(RuleId::K8)
 }
 
-/// Walks one element from the file of that number, whose record is looked up: the number of the
-/// file to which it leads, or the rule that stops it. It allocates nothing.
+/// Walks one element as `walk_element` does, but looks up the record of `number` itself. If no file
+/// has the number, K8 stops it. It allocates nothing.
 pub fn walk_element_at<T: TreeRead>(
     tree: &T,
     users: &Users,
@@ -74,7 +76,8 @@ pub fn walk_element_at<T: TreeRead>(
     walk_element(tree, users, user, number, tree.record(number), name)
 }
 
-/// The rule that stops one element of a walk: K6, K7 or K8; None if none does.
+/// The first of K6, K7 and K8 that stops one element of a walk from the file of that number; None
+/// if the element leads to a file.
 pub fn first_of_element<T: TreeRead>(
     tree: &T,
     users: &Users,

@@ -1,6 +1,6 @@
 //! The rules of a wstat (stat(5)), in groups by the field that changes. Each `first_of_` function
 //! returns None if all rules of its group pass. They all do if the wstat changes no field of the
-//! group.
+//! group. What a rule says is the text of its `RuleId`.
 ghost use Rattle.std.specs.Prelude.{◌≡◌};
 ghost use Rattle.cs_tree_model.specs.Record.{metadata_of_ref};
 ghost use Rattle.cs_permit.specs.Refusals.{first_failing};
@@ -28,7 +28,8 @@ fn number_of_sibling<T: TreeRead>(tree: &T, number: u64, name: &str) -> Option<u
     tree.find_number(parent, name)
 }
 
-/// The first of Q4 to Q7 that fails; None if none does, or if the name doesn't change.
+/// The first of Q4 to Q7 that fails; None if none does, or if the name doesn't change. A new name
+/// asks for w on the file's directory, and must be free there.
 #[tactic(auto, unfolding(crate::specs::Wstats::name_rules))]
 fn first_of_name<T: TreeRead>(call: &WstatCall, tree: &T, users: &Users) -> Option<RuleId>
     ensures { result ≡ first_failing (name_rules (T.tree tree.now) users.now call.now) }
@@ -50,7 +51,8 @@ fn first_of_name<T: TreeRead>(call: &WstatCall, tree: &T, users: &Users) -> Opti
     None
 }
 
-/// The first of Q8 to Q10 that fails; None if none does, or if the length doesn't change.
+/// The first of Q8 to Q10 that fails; None if none does, or if the length doesn't change. A new
+/// length asks for w on the file, as an open for writing does.
 #[tactic(auto, unfolding(crate::specs::Wstats::length_rules))]
 pub fn first_of_length(call: &WstatCall, users: &Users, file: &Metadata) -> Option<RuleId>
     ensures { result ≡ first_failing (length_rules users.now call.now (metadata_of_ref file.now)) }
@@ -68,9 +70,9 @@ pub fn first_of_length(call: &WstatCall, users: &Users, file: &Metadata) -> Opti
     None
 }
 
-/// Whether a wstat can't give the file that mode: the mode has a bit that no client may give, or
-/// changes DMDIR, or would make a directory append-only or exclusive. `are_bad_permissions` has the
-/// first and the last test for a create.
+/// Whether a wstat can't give the file that mode (rule Q11): the mode has a bit that no client may
+/// give, or changes DMDIR, or would make a directory append-only or exclusive.
+/// `are_bad_permissions` in `mode.rt` has the first and the last test, for a create.
 fn is_bad_mode(file: &Metadata, mode: u32) -> bool
     ensures { result ≡ is_bad_mode (metadata_of_ref file.now) mode }
 {
@@ -129,7 +131,7 @@ pub fn first_of_group(call: &WstatCall, users: &Users, file: &Metadata) -> Optio
     None
 }
 
-/// The first of Q4 to Q14 that fails; None if none does.
+/// The first of Q4 to Q14 that fails, of a file that is there; None if none does.
 #[tactic(auto, using(crate::proofs::Firsts::first_failing_append))]
 fn first_of_fields<T: TreeRead>(
     call: &WstatCall,
@@ -152,7 +154,8 @@ fn first_of_fields<T: TreeRead>(
     first_of_group(call, users, file)
 }
 
-/// The first of Q2 to Q14 that fails; None if none does.
+/// The first of Q2 to Q14 that fails; None if none does. A wstat of several fields is denied as a
+/// whole.
 pub fn first_of_wstat<T: TreeRead>(call: &WstatCall, tree: &T, users: &Users) -> Option<RuleId>
     ensures { result ≡ first_failing (wstat_rules (T.tree tree.now) users.now call.now) }
 {

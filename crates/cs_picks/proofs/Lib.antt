@@ -1,5 +1,6 @@
 mod Allowed
 mod Compared
 mod Holes
+mod Members
 mod Printed
 mod Written

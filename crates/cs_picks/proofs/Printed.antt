@@ -8,8 +8,20 @@ use Rattle.cs_plan.specs.Scenes.{Scene}
 use Rattle.cs_picks.specs.Families.{family_in}
 use Rattle.cs_picks.specs.Sets.{PrintsSets, WritesSets, every_in}
 use Rattle.cs_picks.specs.declared.sets.PickSets.{PickSets}
-use Rattle.cs_picks.specs.declared.sets.PickSets.TheVariants.{Of, Every, Different, Count, Sample}
+use Rattle.cs_picks.specs.declared.sets.PickSets.TheVariants.{Of, Every, EveryUnder, Different, DifferentUnder, Count, Sample}
+use Rattle.cs_picks.specs.Under.{WritesThose}
+use Rattle.cs_different.specs.Members.{AreAll, IsMember}
+use Rattle.cs_different.specs.Under.{AreDifferentUnder}
 use Rattle.std.proofs.Common.{length}
+
+those_kept : (Are : List (List ℕ) → Type 0) (most : ℕ) (old mid new : Option (List ℕ)) → WritesThose Are most old mid → Keeps mid new
+    → WritesThose Are most old new
+those_kept Are most old mid new written kept = record {
+  sets = written.sets;
+  are = written.are;
+  few = written.few;
+  written = Appends-kept old mid new (picks_text written.sets) written.written kept;
+}
 
 writes_kept : (s : Scene) (sets : PickSets) (old mid new : Option (List ℕ)) → WritesSets s sets old mid → Keeps mid new
     → WritesSets s sets old new
@@ -21,6 +33,9 @@ writes_kept s (Different most) old mid new written kept = record {
   few = written.few;
   written = Appends-kept old mid new (picks_text written.sets) written.written kept;
 }
+writes_kept s (EveryUnder profile most) old mid new written kept = those_kept (AreAll (IsMember s profile)) most old mid new written kept
+writes_kept s (DifferentUnder profile most) old mid new written kept =
+    those_kept (AreDifferentUnder s profile) most old mid new written kept
 writes_kept s Count old mid new written kept = Appends-kept old mid new (count_text (length (every_in s))) written kept
 writes_kept s (Sample seed count) old mid new written kept = record {
   drawn = written.drawn;
@@ -31,4 +46,4 @@ writes_kept s (Sample seed count) old mid new written kept = record {
 
 pub prints_kept : (inputs : Inputs) (sets : PickSets) (old mid new : Option (List ℕ)) → PrintsSets inputs sets old mid → Keeps mid new
     → PrintsSets inputs sets old new
-prints_kept inputs sets old mid new (s, is, written) kept = (s, is, writes_kept s sets old mid new written kept)
+prints_kept inputs sets old mid new (s, is, both) kept = (s, is, (both.0, writes_kept s sets old mid new both.1 kept))

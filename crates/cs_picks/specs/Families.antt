@@ -15,7 +15,7 @@ use Rattle.cs_picks.specs.declared.family.Family.TheVariants.{Both, Files, Lost}
 
 -- ---- the least sets
 
--- it is the place itself, or the place needs it by any chain
+-- the one is the place itself, or the place needs it, directly or through others
 abbrev pub is_needed : (ℕ → ℕ → Bool) → ℕ → ℕ → Bool
 is_needed needs place i = i == place || by_chain needs i place
 
@@ -23,7 +23,7 @@ is_needed needs place i = i == place || by_chain needs i place
 abbrev pub least_with : (ℕ → ℕ → Bool) → ℕ → List ℕ
 least_with needs place = filter (is_needed needs place) (places_below (place + 1))
 
--- that of each place
+-- the least allowed set of each place
 abbrev pub lost_sets : List (List Bool) → List (List ℕ)
 lost_sets order = map (least_with (needs_in order)) (places_below (length order))
 
@@ -39,7 +39,7 @@ abbrev pub sets_without : (ℕ → ℕ → Bool) → List (Option ℕ) → List 
 sets_without needs shorter losses file =
     sets_left needs (lost_places shorter file) (lost_places losses file) (length losses)
 
--- that of each file
+-- the sets of a prefix: for each file the set that is left, if it is given
 abbrev pub prefix_sets : Micros → List (List Bool) → ℕ → List (List ℕ)
 prefix_sets m order end =
     flat_map
@@ -47,7 +47,7 @@ prefix_sets m order end =
     (losses_of m.ops m.syncs end))
     (changed_files m.ops)
 
--- those of each prefix
+-- the sets of all prefixes
 abbrev pub files_sets : Micros → List (List Bool) → List (List ℕ)
 files_sets m order = flat_map (prefix_sets m order) (places_below (length m.ops + 1))
 

@@ -10,7 +10,7 @@ use Rattle.cs_picks.specs.Changes.{is_same_file}
 abbrev pub loses_at : List (Option ℕ) → ℕ → ℕ → Bool
 loses_at losses file place = is_same_file file (slice_index_or losses place None)
 
--- the places at which it does
+-- the places at which the file loses a change
 abbrev pub lost_places : List (Option ℕ) → ℕ → List ℕ
 lost_places losses file = filter (loses_at losses file) (places_below (length losses))
 
@@ -25,8 +25,8 @@ loses_one_more shorter lost end =
     && (pointwise nat_eq (take (length shorter) lost) shorter
     && slice_index lost (length shorter) + 1 == end)
 
--- the last place of the prefix doesn't stay, and else it loses what the shorter one loses: the two
--- have one set
+-- the last place of the prefix doesn't stay, and of the places before that it loses what the
+-- shorter prefix loses: both leave the same set
 abbrev pub adds_nothing : (ℕ → ℕ → Bool) → List ℕ → List ℕ → ℕ → Bool
 adds_nothing needs shorter lost end =
     not (stays needs lost (end - 1))

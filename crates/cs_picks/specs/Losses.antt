@@ -13,6 +13,6 @@ lost_at ops syncs last place =
     if rules.is_synced syncs place last (rules.op_at ops place) then None
     else changed_file (rules.op_at ops place)
 
--- that of each place of a prefix
+-- the file whose change is lost at each place of a prefix
 abbrev pub losses_of : List MicroOp → List SyncPoint → ℕ → List (Option ℕ)
 losses_of ops syncs end = map (lost_at ops syncs (end - 1)) (places_below end)

@@ -5,7 +5,6 @@ use Rattle.cs_sets.specs.Orders.{needs_in}
 use Rattle.cs_plan.specs.Scenes.{Scene, order_in}
 use Rattle.cs_sets.specs.Every.{every}
 use Rattle.cs_different.specs.Sets.{AreDifferent}
-use Rattle.cs_different.specs.declared.classes.TheConstants.{CLASSES}
 use Rattle.cs_different.specs.declared.fault.DifferentFault.{DifferentFault}
 use Rattle.cs_different.specs.declared.fault.DifferentFault.TheVariants as compared
 use Rattle.cs_every.specs.declared.fault.EveryFault.{EveryFault}
@@ -18,7 +17,11 @@ use Rattle.cs_inputs.specs.Scenes.{IsScene}
 use Rattle.cs_inputs.specs.declared.inputs.Inputs.{Inputs}
 use Rattle.cs_picks.specs.Families.{family_in}
 use Rattle.cs_picks.specs.declared.sets.PickSets.{PickSets}
-use Rattle.cs_picks.specs.declared.sets.PickSets.TheVariants.{Of, Every, Different, Count, Sample}
+use Rattle.cs_picks.specs.declared.sets.PickSets.TheVariants.{Of, Every, EveryUnder}
+use Rattle.cs_picks.specs.declared.sets.PickSets.TheVariants.{Different, DifferentUnder}
+use Rattle.cs_picks.specs.declared.sets.PickSets.TheVariants.{Count, Sample}
+use Rattle.cs_picks.specs.Under.{IsKnown, IsTooMany, IsUncomparedOf, IsUncomparedUnder}
+use Rattle.cs_picks.specs.Under.{WritesDifferentUnder, WritesMembers}
 
 -- all sets that a crash may leave, ascending
 abbrev pub every_in : Scene → List (List ℕ)
@@ -36,13 +39,22 @@ abbrev pub WritesSets : Scene → PickSets → Option (List ℕ) → Option (Lis
 WritesSets s (Of family) old new = Appends old new (picks_text (family_in s family))
 WritesSets s (Every most) old new = (length (every_in s) ≤ most)
     × Appends old new (picks_text (every_in s))
+WritesSets s (EveryUnder profile most) old new = WritesMembers s profile most old new
 WritesSets s (Different most) old new = WritesDifferent s most old new
+WritesSets s (DifferentUnder profile most) old new = WritesDifferentUnder s profile most old new
 WritesSets s Count old new = Appends old new (count_text (length (every_in s)))
 WritesSets s (Sample seed count) old new = WritesSample (every_in s) count old new
 
+-- the trace is of a version that has the profile that is asked for, if one is
+abbrev pub IsAsked : Scene → PickSets → Type 0
+IsAsked s (EveryUnder profile most) = IsKnown s profile
+IsAsked s (DifferentUnder profile most) = IsKnown s profile
+IsAsked s _ = Unit {0}
+
 -- the scene is that of the inputs
 abbrev pub PrintsSets : Inputs → PickSets → Option (List ℕ) → Option (List ℕ) → Type 0
-PrintsSets inputs sets old new = (s : Scene) × IsScene inputs s × WritesSets s sets old new
+PrintsSets inputs sets old new =
+    (s : Scene) × IsScene inputs s × (IsAsked s sets × WritesSets s sets old new)
 
 -- the fault of the same name
 abbrev pub fault_of_different : DifferentFault → EveryFault
@@ -50,17 +62,11 @@ fault_of_different (compared.More most) = More most
 fault_of_different compared.TooMany = TooManyClasses
 fault_of_different compared.Memory = Memory
 
--- why not the sets that differ are written: if there are too many classes, there are more sets than
--- classes are followed
+-- why the sets that differ are not written
 abbrev pub IsUncompared : Scene → ℕ → EveryFault → Type 0
-IsUncompared s most (More bound) = (bound ≡ most)
-    × ((sets : List (List ℕ)) × (AreDifferent s sets × (most < length sets)))
-IsUncompared s most TooMany = ⊥
-IsUncompared s most TooManyClasses = CLASSES < length (every_in s)
-IsUncompared s most Memory = Unit {0}
-IsUncompared s most Output = Unit {0}
+IsUncompared s most = IsUncomparedOf (AreDifferent s) (every_in s) most
 
--- why not all that is asked for is written
+-- why not all is written that is asked for
 abbrev pub IsRefused : Scene → PickSets → EveryFault → Type 0
 IsRefused s (Of family) fault = IsOutside fault
 IsRefused s (Every most) (More bound) = (bound ≡ most) × (most < length (every_in s))
@@ -68,7 +74,9 @@ IsRefused s (Every most) TooMany = ⊥
 IsRefused s (Every most) TooManyClasses = ⊥
 IsRefused s (Every most) Memory = Unit {0}
 IsRefused s (Every most) Output = Unit {0}
+IsRefused s (EveryUnder profile most) fault = IsTooMany s profile most fault
 IsRefused s (Different most) fault = IsUncompared s most fault
+IsRefused s (DifferentUnder profile most) fault = IsUncomparedUnder s profile most fault
 IsRefused s Count fault = IsUncounted (needs_in (order_in s)) (length (order_in s)) fault
 IsRefused s (Sample seed count) fault = IsUndrawn (needs_in (order_in s)) (length (order_in s))
     fault

@@ -49,7 +49,7 @@ fn is_changed(ops: &[MicroOp], file: u32) -> bool
 }
 
 /// The numbers of the files that the operations change, ascending, each once; empty if they change
-/// none.
+/// none. The error is out of memory. Each number is looked for in all operations.
 pub fn changed_files(alloc: Global, ops: &[MicroOp]) -> Result<Vec<u32>, AllocError>
     ensures { IfOk result (λ files. files.items ≡ changed_files ops.now) }
 {

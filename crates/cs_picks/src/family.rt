@@ -20,12 +20,13 @@ use std::io::Write;
 /// Which sets are printed. A crash may leave each of them.
 #[derive(Clone, Copy, Debug, PartialEq, Eq)]
 pub enum Family {
-    /// For each micro-operation the least set that has it: itself and all that it needs by any
-    /// chain.
+    /// For each micro-operation the least set that has it: itself and all that it needs, directly
+    /// or through others.
     Lost,
     /// For each prefix, and each file with a change there that no sync point before the prefix's
     /// last operation covers: the prefix without these changes, and without all that need one of
-    /// them by any chain. A set that the prefix a place shorter gives for the file isn't repeated.
+    /// them, directly or through others. If the prefix that is one place shorter gives the same set
+    /// for the file, it isn't repeated.
     Files,
     /// Those of Lost, and then those of Files: a set of both families is there twice.
     Both,
@@ -33,7 +34,7 @@ pub enum Family {
 
 /// Writes the sets of a family as a picks file has them. Those of Lost are in the order of their
 /// places; those of Files in the order of the prefixes, and for each prefix of the files' numbers.
-/// After a fault some of the lines may be written.
+/// The fault is Memory or Output; some of the lines may be written then.
 pub fn write_family<W: Write>(
     alloc: Global,
     scene: &Scene,

@@ -9,6 +9,9 @@ pub(crate) enum CommandFault {
     /// No scene could be made: memory ran out, the trace is at fault, or it has no plan of states.
     #[error("{0}")]
     Inputs(#[from] ProgramFault),
+    /// The trace's version has no such profile.
+    #[error("no such profile")]
+    NoProfile,
     /// Not all that was asked for is printed.
     #[error("{0}")]
     Sets(#[from] EveryFault),

@@ -19,8 +19,8 @@ use std::alloc::Global;
 use std::io::Write;
 
 /// Writes what is left of the prefix of `end` places if it loses the places `lost`. Writes nothing
-/// if these are none, or if the prefix that is a place shorter, which loses the places `shorter`,
-/// leaves the same set.
+/// if `lost` is empty, or if the prefix that is one place shorter, which loses the places
+/// `shorter`, leaves the same set. All places must be of the order.
 fn write_left<W: Write>(
     alloc: Global,
     order: &Order,
@@ -43,8 +43,9 @@ fn write_left<W: Write>(
 }
 
 /// Writes what is left of a prefix if it loses its changes of the file; nothing if it loses none,
-/// or if the shorter prefix leaves the same. `losses` and `shorter` have, for each place of the
-/// prefix and of the one that is a place shorter, the file whose change there is lost.
+/// or if the shorter prefix leaves the same. `losses` has for each place of the prefix the file
+/// whose change there is lost, None if none is; `shorter` has the same for the prefix that is one
+/// place shorter.
 fn write_without<W: Write>(
     alloc: Global,
     order: &Order,
@@ -90,7 +91,7 @@ fn write_prefix<W: Write>(
 }
 
 /// Writes the family: the sets of each prefix, the shortest first. The prefix of no places, which
-/// comes first, loses nothing, so it gives no set.
+/// comes first, loses nothing, so it gives no set. The order must be that of the micro-operations.
 pub fn write_files<W: Write>(
     alloc: Global,
     micros: &Micros,

@@ -15,7 +15,7 @@ use cs_sets::Order;
 use std::alloc::{AllocError, Global};
 
 /// Whether a change of the file is lost at the place. `losses` has for each place the file whose
-/// change there is lost.
+/// change there is lost, None if none is.
 fn loses_at(losses: &[Option<u32>], file: u32, place: usize) -> bool
     requires { place < length losses.now }
     ensures { result ≡ loses_at losses.now file place }
@@ -24,7 +24,7 @@ fn loses_at(losses: &[Option<u32>], file: u32, place: usize) -> bool
 }
 
 /// The places, ascending, at which changes of the file are lost. `losses` has for each place the
-/// file whose change there is lost. Empty if the file loses none.
+/// file whose change there is lost. Empty if the file loses none. The error is out of memory.
 pub fn lost_places(alloc: Global, losses: &[Option<u32>], file: u32) -> Result<Vec<u32>, AllocError>
     requires { length losses.now ≤ MICRO_OPERATIONS }
     ensures value { IfOk result (λ lost. lost.items ≡ lost_places losses.now file) }
@@ -40,7 +40,8 @@ pub fn lost_places(alloc: Global, losses: &[Option<u32>], file: u32) -> Result<V
 }
 
 /// Whether the operation at the place stays if those at the places `lost` are missing: it is none
-/// of them, and needs none of them by any chain. True if `lost` is empty.
+/// of them, and needs none of them, directly or through others. True if `lost` is empty. All these
+/// places must be of the order.
 fn stays(order: &Order, lost: &[u32], place: usize) -> bool
     requires there { place < length order.now }
     requires inside { All (λ missing. missing < length order.now) lost.now }
@@ -54,8 +55,9 @@ fn stays(order: &Order, lost: &[u32], place: usize) -> bool
     true
 }
 
-/// Whether the prefix of `end` places loses exactly what the one that is a place shorter loses, and
-/// its own last place. `lost` and `shorter` are the places that the two lose.
+/// Whether the prefix of `end` places loses exactly what the prefix that is one place shorter
+/// loses, and its own last place. `lost` is what it loses, `shorter` what the shorter one loses,
+/// both ascending.
 fn loses_one_more(shorter: &[u32], lost: &[u32], end: usize) -> bool
     ensures { result ≡ loses_one_more shorter.now lost.now end }
 {
@@ -63,8 +65,9 @@ fn loses_one_more(shorter: &[u32], lost: &[u32], end: usize) -> bool
     lost.len() == count + 1 && &lost[..count] == shorter && lost[count] as usize + 1 == end
 }
 
-/// Whether the prefix of `end` places leaves the same set as the one that is a place shorter: its
-/// last place doesn't stay, and of the places before that it loses the same.
+/// Whether the prefix of `end` places leaves the same set as the prefix that is one place shorter:
+/// its last place doesn't stay, and both prefixes lose the same of the places before it. `lost` and
+/// `shorter` are as in `loses_one_more`. All places must be of the order, which has at least one.
 fn adds_nothing(order: &Order, shorter: &[u32], lost: &[u32], end: usize) -> bool
     requires few { end ≤ length order.now }
     requires some { 0 < length order.now }
@@ -78,9 +81,9 @@ fn adds_nothing(order: &Order, shorter: &[u32], lost: &[u32], end: usize) -> boo
     lost == shorter || loses_one_more(shorter, lost, end)
 }
 
-/// Whether the family has what is left of the prefix of `end` places. It does if the prefix loses
-/// something, unless the prefix that is a place shorter leaves the same set. `lost` and `shorter`
-/// are the places that the two lose.
+/// Whether the family has a set for the prefix of `end` places: the prefix loses something, and the
+/// prefix that is one place shorter doesn't leave the same set. `lost` and `shorter` are as in
+/// `loses_one_more`. All places must be of the order.
 pub fn is_given(order: &Order, shorter: &[u32], lost: &[u32], end: usize) -> bool
     requires few { end ≤ length order.now }
     requires inside { All (λ missing. missing < length order.now) lost.now }
@@ -92,8 +95,9 @@ pub fn is_given(order: &Order, shorter: &[u32], lost: &[u32], end: usize) -> boo
     shorter.is_empty() || !adds_nothing(order, shorter, lost, end)
 }
 
-/// The places before `end`, ascending, but without those in `lost` and without those whose
-/// operations need one of these by any chain.
+/// The places before `end`, ascending, without those in `lost` and without those whose operations
+/// need one of these, directly or through others. Empty if none is left. The error is out of
+/// memory.
 pub fn left_of(
     alloc: Global,
     order: &Order,

@@ -14,8 +14,10 @@ mod left;
 mod losses;
 mod lost;
 mod sets;
+mod under;
 
 pub use command::picks_of;
+pub use cs_trace::Profile;
 pub use family::{Family, write_family};
 pub use lost::least_with;
 pub use sets::{PickSets, write_sets};

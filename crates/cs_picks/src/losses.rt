@@ -18,8 +18,8 @@ fn is_synced(syncs: &[SyncPoint], place: usize, last: usize, op: &MicroOp) -> bo
 }
 
 /// The file that the operation at the place changes, if a crash during the operation at `last` may
-/// lose that change. None if it changes no file, or if a sync point before `last` covers the
-/// change.
+/// lose that change. None if it changes no file, or if a sync point after it and before the
+/// operation at `last` covers the change. The place must be that of one of these operations.
 fn lost_at(ops: &[MicroOp], syncs: &[SyncPoint], last: usize, place: usize) -> Option<u32>
     requires { place < length ops.now }
     ensures { result ≡ lost_at ops.now syncs.now last place }
@@ -34,6 +34,7 @@ fn lost_at(ops: &[MicroOp], syncs: &[SyncPoint], last: usize, place: usize) -> O
 /// For each place of the prefix of `end` places, the file whose change there a crash may lose: None
 /// if no file is changed there, or if a sync point before the prefix's last operation covers the
 /// change. A later sync point doesn't count, as the crash may come before it. Empty if `end` is 0.
+/// The error is out of memory.
 pub fn losses_of(
     alloc: Global,
     ops: &[MicroOp],

@@ -13,7 +13,8 @@ use cs_sets::Order;
 use std::alloc::{AllocError, Global};
 use std::io::Write;
 
-/// Whether `needed` is the place itself, or a place that the operation there needs by any chain.
+/// Whether `needed` is `place`, or a place that the operation at `place` needs, directly or through
+/// others. Both must be places of the order.
 fn is_needed(order: &Order, place: usize, needed: usize) -> bool
     requires first { place < length order.now }
     requires second { needed < length order.now }
@@ -22,8 +23,9 @@ fn is_needed(order: &Order, place: usize, needed: usize) -> bool
     needed == place || order.needs_by_chain(needed, place)
 }
 
-/// The places of all that the operation at the place needs by any chain, ascending, and last the
-/// place itself.
+/// The places of all that the operation at the place needs, directly or through others, ascending,
+/// and last the place itself: the least set with the operation that a crash may leave. The error is
+/// out of memory.
 pub fn least_with(alloc: Global, order: &Order, place: usize) -> Result<Vec<u32>, AllocError>
     requires { place < length order.now }
     ensures value { IfOk result (λ set. set.items ≡ least_with (needs_in order.now) place) }

@@ -14,7 +14,7 @@ abbrev pub of_breaking : MicroFault → SceneFault
 of_breaking breaking.TooMany = scene.TooMany
 of_breaking breaking.Memory = scene.Memory
 
--- and that of a plan
+-- the scene's fault that the fault of a plan is
 abbrev pub of_planning : PlanFault → SceneFault
 of_planning plan.PlanTooLarge = scene.PlanTooLarge
 of_planning (plan.PickNotAllowed w) = scene.PickNotAllowed w

@@ -27,7 +27,7 @@ set_of needs (Prefix k) = places_below k
 set_of needs (Hole i j) = places_of_hole needs i j
 set_of needs (Pick places) = places
 
--- it has no places but the first n, and no more than these
+-- the recipe has only places below n, and at most n of them
 abbrev pub IsWithin : ℕ → Recipe → Type 0
 IsWithin n (Prefix k) = k ≤ n
 IsWithin n (Hole i j) = (i < j) × (j ≤ n)
@@ -43,7 +43,7 @@ prefixes n = map Prefix (places_below (n + 1))
 abbrev pub holes_at : (ℕ → ℕ → Bool) → ℕ → List Recipe
 holes_at needs k = map (λ i. Hole i (k + 1)) (filter (λ i. is_kept needs i k) (places_below k))
 
--- those of each last place
+-- the holes of every last place
 unfoldable pub holes_of : (ℕ → ℕ → Bool) → ℕ → List Recipe
 holes_of needs n = flat_map (holes_at needs) (places_below n)
 

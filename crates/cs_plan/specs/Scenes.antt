@@ -33,7 +33,7 @@ order_in s = order_of (micros_of s)
 abbrev pub set_at : Scene → ℕ → Option (List ℕ)
 set_at s number = option_map (set_in (order_in s)) (slice_get s.plan number)
 
--- the tree that a crash leaves, if just these reached the disk
+-- the tree that a crash leaves if exactly these are on the disk
 abbrev pub state_at : Scene → ℕ → Option Tree
 state_at s number = option_map (crash_state_of s.trace (micros_of s)) (set_at s number)
 
@@ -41,7 +41,7 @@ abbrev pub is_say : MicroOp → Bool
 is_say Say = true
 is_say _ = false
 
--- how many acknowledged lines there are, if just these micro-operations reached the disk
+-- how many acknowledged lines there are among these micro-operations
 abbrev pub says_of : List MicroOp → List ℕ → ℕ
 says_of ops places = count_by (λ place. is_say (op_at ops place)) places
 

@@ -1,5 +1,6 @@
-//! The two families of states that a plan lists by itself: prefixes, and prefixes with a hole. An
-//! error means out of memory. The list may then lack recipes, and the caller drops it.
+//! The two families of states that a plan lists by itself: prefixes, and prefixes with a hole. (The
+//! families `--lost` and `--files` are picks, and in cs_picks.) An error means out of memory. The
+//! list may then lack recipes, and the caller drops it.
 ghost use Rattle.std.specs.Prelude.{◌≡◌, ◌++◌, ◌<◌, ◌≤◌, length, IfOk, OnOk};
 ghost use Rattle.cs_sets.specs.Chains.{IsBackward};
 ghost use Rattle.cs_sets.specs.Orders.{needs_in};
@@ -12,7 +13,7 @@ use cs_names::limits::MICRO_OPERATIONS;
 use std::alloc::{AllocError, Global};
 
 /// How many holes have the last place `last`: one for each earlier place that `last` doesn't need
-/// by any chain, so none for 0. `push_holes_at` appends as many. Allocates nothing.
+/// by any chain, so none for 0. `push_holes_at` appends them. Allocates nothing.
 fn count_holes_at(order: &Order, last: usize) -> usize
     requires { last < length order.now }
     ensures value { result ≡ length (holes_at (needs_in order.now) last) }
@@ -27,8 +28,9 @@ fn count_holes_at(order: &Order, last: usize) -> usize
     count
 }
 
-/// How many holes the order has, of all last places together; `push_holes` appends as many. At most
-/// 1048576, which is MICRO_OPERATIONS squared. Allocates nothing.
+/// How many holes the order has, of all last places together; `push_holes` appends them. At most
+/// 1048576, which is MICRO_OPERATIONS squared. Allocates nothing. (`count_holes` of cs_reasons
+/// counts the same: change both.)
 fn count_holes(order: &Order) -> usize
     ensures value { result ≡ length (holes_of (needs_in order.now) (length order.now)) }
     ensures small { result ≤ 1048576 }
@@ -41,8 +43,8 @@ fn count_holes(order: &Order) -> usize
 }
 
 /// How many states the families have: the prefixes, and the holes if `holes` is true. `families_of`
-/// returns as many recipes. The bound is 1048576 holes and 1025 prefixes, rounded up. Allocates
-/// nothing.
+/// returns as many recipes. At most 1048576 holes and 1025 prefixes; the contract's bound is
+/// rounded up. Allocates nothing.
 pub fn count_states(order: &Order, holes: bool) -> usize
     ensures backward { IsBackward (needs_in order.now) }
     ensures value { result ≡ length (families (needs_in order.now) (length order.now) holes) }
@@ -56,7 +58,7 @@ pub fn count_states(order: &Order, holes: bool) -> usize
     }
 }
 
-/// Appends the prefixes of the lengths from 0 to `count`, with `count` itself.
+/// Appends the prefixes of the lengths from 0 to `count`, that of `count` too.
 fn push_prefixes(recipes: &mut Vec<Recipe>, count: usize) -> Result<(), AllocError>
     requires { count ≤ MICRO_OPERATIONS }
     ensures { OnOk result (recipes.new.items ≡ recipes.old.items ++ prefixes count) }
@@ -68,7 +70,7 @@ fn push_prefixes(recipes: &mut Vec<Recipe>, count: usize) -> Result<(), AllocErr
 }
 
 /// Appends the holes that have the last place `last`, in the order of their missing places: those
-/// that `count_holes_at` counts. A recipe names the end, which is the place after the last.
+/// that `count_holes_at` counts. A recipe has the end, the place after the last.
 fn push_holes_at(recipes: &mut Vec<Recipe>, order: &Order, last: usize) -> Result<(), AllocError>
     requires inside { last < length order.now }
     requires few { length order.now ≤ MICRO_OPERATIONS }
@@ -96,8 +98,8 @@ fn push_holes(recipes: &mut Vec<Recipe>, order: &Order) -> Result<(), AllocError
     Ok(())
 }
 
-/// The recipes of the families: the prefixes, and then the holes if `holes` is true. `count_states`
-/// counts them.
+/// The recipes of the families, in the order of the plan: the prefixes, and then the holes if
+/// `holes` is true. `count_states` counts them.
 pub fn families_of(alloc: Global, order: &Order, holes: bool) -> Result<Vec<Recipe>, AllocError>
     ensures { IfOk result
         (λ recipes. recipes.items ≡ families (needs_in order.now) (length order.now) holes) }

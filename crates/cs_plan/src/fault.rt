@@ -1,4 +1,5 @@
-//! Why there is no plan, no scene, or no state.
+//! Why there is no plan, no scene, or no state. What the call was given is then dropped, and
+//! nothing is left of what it had made; a scene that is only borrowed stays as it is.
 ghost use Rattle.std.specs.Prelude.{◌≡◌, Some};
 ghost use Rattle.cs_micro.specs.declared.fault.MicroFault.{MicroFault};
 ghost use Rattle.cs_plan.specs.Faults.{fault_text, make_fault_text, of_breaking, of_planning};
@@ -11,7 +12,7 @@ use cs_micro::MicroFault;
 use std::alloc::AllocError;
 use std::fmt;
 
-/// Why there is no plan.
+/// Why there is no plan. Of several faults, the first in this order is reported.
 #[derive(Clone, Copy, Debug, PartialEq, Eq)]
 pub enum PlanFault {
     /// The plan would have more than PLAN_STATES states.
@@ -39,7 +40,7 @@ impl fmt::Display for PlanFault {
 impl From<AllocError> for PlanFault {
     ghost from_gives = { λ _ fault. fault ≡ plan.Memory };
 
-    /// Memory, whichever allocation failed for the plan.
+    /// A failed allocation is Memory.
     fn from(_refused: AllocError) -> PlanFault {
         PlanFault::Memory
     }
@@ -77,7 +78,7 @@ impl fmt::Display for SceneFault {
 impl From<MicroFault> for SceneFault {
     ghost from_gives = { λ given fault. fault ≡ of_breaking given };
 
-    /// The scene's fault that has the name of the trace's fault.
+    /// The fault of a scene with the same name.
     fn from(fault: MicroFault) -> SceneFault {
         match fault {
             MicroFault::TooMany => SceneFault::TooMany,
@@ -89,7 +90,7 @@ impl From<MicroFault> for SceneFault {
 impl From<PlanFault> for SceneFault {
     ghost from_gives = { λ given fault. fault ≡ of_planning given };
 
-    /// The scene's fault that has the name of the plan's fault, with the same pick.
+    /// The fault of a scene with the same name, with the same pick.
     fn from(fault: PlanFault) -> SceneFault {
         match fault {
             PlanFault::PlanTooLarge => SceneFault::PlanTooLarge,
@@ -102,7 +103,7 @@ impl From<PlanFault> for SceneFault {
 impl From<AllocError> for SceneFault {
     ghost from_gives = { λ _ fault. fault ≡ scene.Memory };
 
-    /// Memory, whichever allocation failed for the scene.
+    /// A failed allocation is Memory.
     fn from(_refused: AllocError) -> SceneFault {
         SceneFault::Memory
     }
@@ -113,7 +114,7 @@ impl std::error::Error for SceneFault {}
 /// Why a state can't be made.
 #[derive(Clone, Copy, Debug, PartialEq, Eq)]
 pub enum MakeFault {
-    /// The plan has no state of that number.
+    /// The plan has no state with that number.
     NoSuchState,
     /// Out of memory.
     Memory,
@@ -134,7 +135,7 @@ impl fmt::Display for MakeFault {
 impl From<AllocError> for MakeFault {
     ghost from_gives = { λ _ fault. fault ≡ make.Memory };
 
-    /// Memory, whichever allocation failed for the state.
+    /// A failed allocation is Memory.
     fn from(_refused: AllocError) -> MakeFault {
         MakeFault::Memory
     }

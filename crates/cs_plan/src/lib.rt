@@ -1,5 +1,6 @@
-//! The plan of a trace: which of the states that a crash may leave are made, and under which
-//! numbers.
+//! The plan of a trace: which of the states that a crash may leave can be asked for, and under
+//! which numbers. A scene is a trace with its plan. docs/MODEL.md, "The plan", defines prefixes,
+//! holes and picks.
 #![tactic(auto)]
 
 mod families;
@@ -18,5 +19,5 @@ pub use plan::Plan;
 pub use published::Published;
 pub use recipe::{Places, Recipe};
 pub use scene::Scene;
-// the store of a state
+// The store of a state.
 pub use cs_state::Built;

@@ -1,4 +1,4 @@
-//! The list of a trace's micro-operations and of its states.
+//! The list of a trace's micro-operations and of its states, as `crashfs list` prints it.
 ghost use Rattle.std.specs.Prelude.{◌≡◌, Some};
 ghost use Rattle.cs_plan.specs.Lists.{list_text, op_lines, state_lines};
 
@@ -10,6 +10,7 @@ use std::fmt;
 /// The lines of a trace's micro-operations, to be printed.
 #[derive(Clone, Copy)]
 struct OpLines<'a> {
+    /// The micro-operations of the trace.
     ops: &'a [MicroOp],
 }
 
@@ -28,6 +29,7 @@ impl fmt::Display for OpLines<'_> {
 /// The lines of a scene's states, to be printed.
 #[derive(Clone, Copy)]
 struct StateLines<'a> {
+    /// The scene whose plan has the states.
     scene: &'a Scene,
 }
 
@@ -48,8 +50,8 @@ impl fmt::Display for StateLines<'_> {
 
 /// The list of a scene, as it is printed: a line for each micro-operation, with its place; and then
 /// one for each state, with its number, its recipe, and how many acknowledged lines it has.
-/// `crashfs list` prints it. With options, cs_list_lines prints the same lines with more in them:
-/// keep both alike.
+/// `crashfs list` without options prints it. With options, `printed` of cs_list prints the same
+/// lines with more in them: change both together.
 ///
 /// ```text
 /// op 3 write_block 0 1 0 904
@@ -57,11 +59,13 @@ impl fmt::Display for StateLines<'_> {
 /// ```
 #[derive(Clone, Copy)]
 pub struct Listing<'a> {
+    /// The scene that is listed.
     scene: &'a Scene,
 }
 
 impl Scene {
-    /// The list of the micro-operations and of the states, to be printed.
+    /// The list of the micro-operations and of the states, to be printed. It borrows the scene and
+    /// allocates nothing.
     pub fn listing(&self) -> Listing<'_>
         ensures { result.scene.now ≡ self.now }
     {

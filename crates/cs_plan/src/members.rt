@@ -1,4 +1,5 @@
-//! The micro-operations of a state, by its recipe, and how many of them are acknowledged lines.
+//! The micro-operations of a state, its members, by its recipe, and how many of them are
+//! acknowledged lines.
 ghost use Rattle.std.specs.Prelude.{◌≡◌, ◌<◌, ◌≤◌, ◌&&◌, length, IfOk};
 ghost use Rattle.std.specs.List.{All};
 ghost use Rattle.cs_sets.specs.Orders.{needs_in};
@@ -22,7 +23,7 @@ pub fn is_kept(order: &Order, missing: usize, place: usize) -> bool
     !(missing == place || order.needs_by_chain(missing, place))
 }
 
-/// The places from 0 up to `end`, without `end`: none if it is 0.
+/// The places from 0 on and before `end`, ascending: none if `end` is 0.
 fn places_before(alloc: Global, end: u32) -> Result<Vec<u32>, AllocError>
     ensures { IfOk result (λ places. places.items ≡ places_below end) }
 {
@@ -46,9 +47,9 @@ fn hole_of(alloc: Global, order: &Order, missing: u32, end: u32) -> Result<Vec<u
     Ok(places)
 }
 
-/// The places of the micro-operations that a state of this recipe has, in the recipe's order: they
-/// ascend in a prefix and in a hole, and in a pick that a crash can leave. `says_in` has the same
-/// cases: keep both alike.
+/// The places of the micro-operations that a state with this recipe has, in the recipe's order:
+/// they ascend in a prefix, in a hole, and in a pick of a plan. The order must have every place of
+/// the recipe. `says_in` below has the same cases: change both together.
 pub fn places_of(alloc: Global, order: &Order, recipe: &Recipe) -> Result<Vec<u32>, AllocError>
     requires { IsWithin (length order.now) recipe.now }
     ensures { IfOk result (λ places. places.items ≡ set_in order.now recipe.now) }
@@ -60,7 +61,8 @@ pub fn places_of(alloc: Global, order: &Order, recipe: &Recipe) -> Result<Vec<u3
     }
 }
 
-/// Whether the micro-operation at the place is an acknowledged line.
+/// Whether the micro-operation at the place is an acknowledged line. (`is_say_at` of cs_different
+/// has the same body.)
 fn is_say_at(ops: &[MicroOp], place: u32) -> bool
     requires { place < length ops.now }
     ensures { result ≡ is_say (op_at ops.now place) }
@@ -82,7 +84,7 @@ fn says_of_prefix(ops: &[MicroOp], end: u32) -> u32
     count
 }
 
-/// Whether an acknowledged line is at `place` and a state without the micro-operation at `missing`
+/// Whether an acknowledged line is at `place`, and a state without the micro-operation at `missing`
 /// can have it.
 fn is_kept_say(ops: &[MicroOp], order: &Order, missing: u32, place: u32) -> bool
     requires long { length ops.now ≡ length order.now }
@@ -111,7 +113,8 @@ fn says_of_hole(ops: &[MicroOp], order: &Order, missing: u32, end: u32) -> u32
     count
 }
 
-/// How many acknowledged lines a pick of these places has.
+/// How many acknowledged lines a pick of these places has. (`count_says` of cs_different has the
+/// same body.)
 fn says_of_pick(ops: &[MicroOp], places: &[u32]) -> u32
     requires inside { All (λ place. place < length ops.now) places.now }
     requires few { length places.now ≤ MICRO_OPERATIONS }
@@ -126,8 +129,9 @@ fn says_of_pick(ops: &[MicroOp], places: &[u32]) -> u32
     count
 }
 
-/// How many acknowledged lines a state of this recipe has, at the places that `places_of` returns.
-/// Allocates nothing.
+/// How many acknowledged lines a state with this recipe has: those at the places that `places_of`
+/// returns. The micro-operations must be those of the order, which must have every place of the
+/// recipe. Allocates nothing.
 pub fn says_in(ops: &[MicroOp], order: &Order, recipe: &Recipe) -> u32
     requires long { length ops.now ≡ length order.now }
     requires few { length ops.now ≤ MICRO_OPERATIONS }

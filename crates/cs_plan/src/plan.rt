@@ -1,4 +1,4 @@
-//! The numbered list of a trace's crash states.
+//! The numbered list of the crash states of a trace that can be asked for.
 ghost use Rattle.std.specs.Prelude.{◌≡◌, ◌++◌, ◌≤◌, length, map, slice_get, IfErr, IfOk};
 ghost use Rattle.std.specs.Prelude.{MatchOption, OnOk};
 ghost use Rattle.std.specs.List.{All};
@@ -16,9 +16,10 @@ use std::alloc::{AllocError, Global};
 use std::marker::Model;
 
 /// The recipes of a trace's states, by their numbers: the prefixes, the holes if the plan was made
-/// with them, and the picks.
+/// with them, and the picks. Equal sets may be in it more than once. It never changes.
 #[derive(Debug, Drop)]
 pub struct Plan {
+    /// The recipes; the number of a state is the index of its recipe. At most PLAN_STATES.
     recipes: Vec<Recipe>,
 }
 
@@ -36,9 +37,9 @@ impl Model for Plan {
 
 impl Plan {
     /// The plan of an order: its prefixes; then its holes, if `holes` is true; then the picks. A
-    /// hole is listed only if it has the micro-operation before its end. Otherwise its state is
-    /// that of a prefix or of a hole with a lower end. Of several faults, the first in the order of
-    /// PlanFault is reported.
+    /// hole is listed only if it has the micro-operation before its end: if not, its state is that
+    /// of a prefix, or of a hole with a lower end. PlanTooLarge, PickNotAllowed and Memory are
+    /// checked in this order. After a fault the picks are dropped.
     pub fn make(
         alloc: Global,
         order: &Order,
@@ -66,7 +67,7 @@ impl Plan {
         }
     }
 
-    /// How many states the plan has.
+    /// How many states the plan has; at least one, the empty prefix.
     pub fn len(&self) -> usize
         ensures value { result ≡ length self.now }
         ensures few { result ≤ PLAN_STATES }
@@ -81,7 +82,7 @@ impl Plan {
         self.recipes.as_slice()
     }
 
-    /// The recipe of the state of this number; None if the plan has no such number.
+    /// The recipe of the state with this number, from 0; None if the plan has no such number.
     pub fn recipe(&self, number: u32) -> Option<&Recipe>
         ensures { option_copied result ≡ slice_get self.now number }
     {
@@ -89,7 +90,7 @@ impl Plan {
     }
 }
 
-/// The place, from 0, of the first pick that `Order::is_allowed` refuses: a crash can't leave it,
+/// The index, from 0, of the first pick that `Order::is_allowed` refuses: a crash can't leave it,
 /// its places don't ascend strictly, or the order lacks one of them. None if all picks are allowed.
 /// Allocates nothing.
 fn first_refused(order: &Order, picks: &[Places]) -> Option<usize>
@@ -104,8 +105,8 @@ fn first_refused(order: &Order, picks: &[Places]) -> Option<usize>
     None
 }
 
-/// Appends a recipe for each pick, in their order. If memory runs out, the list may lack picks, and
-/// the caller drops it.
+/// Appends a recipe for each pick, in order. If memory runs out, the list may lack picks, and the
+/// caller drops it.
 fn push_picks(recipes: &mut Vec<Recipe>, picks: Vec<Places>) -> Result<(), AllocError>
     ensures { OnOk result (recipes.new.items ≡ recipes.old.items ++ map forms.Pick picks.items) }
 {

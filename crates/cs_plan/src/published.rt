@@ -1,4 +1,5 @@
-//! A state of a scene, with its number, once it is made.
+//! A state of a scene that was made, with its number: by its invariant, the tree is that of the
+//! number.
 ghost use Rattle.std.specs.Prelude.{◌≡◌, ◌≤◌, ◌↔◌, length, Some, IfOk, IsErrOf};
 ghost use Rattle.std.specs.Arc.{arc_value};
 ghost use Rattle.cs_plan.specs.Scenes.{IsPublished, state_at};
@@ -14,8 +15,11 @@ use std::sync::Arc;
 /// `Scene::make` makes one.
 #[derive(Drop)]
 pub struct Published {
+    /// The state's number in the plan of the scene.
     number: u32,
+    /// The scene, shared with whoever asked for the state.
     scene: Arc<Scene>,
+    /// The state's tree.
     store: Built,
 }
 
@@ -36,7 +40,7 @@ impl Model for Published {
 }
 
 impl Published {
-    /// The state's number in its scene.
+    /// The state's number in the plan of its scene.
     pub fn number(&self) -> u32
         ensures value { result ≡ self.now.number }
         ensures published { IsPublished self.now }
@@ -51,7 +55,7 @@ impl Published {
         &self.scene
     }
 
-    /// The state's tree, lent.
+    /// The state's tree, borrowed.
     pub fn store(&self) -> &Built
         ensures tree { result.now ≡ self.now.tree }
         ensures published { IsPublished self.now }
@@ -59,7 +63,7 @@ impl Published {
         &self.store
     }
 
-    /// The state's tree, moved out. This handle of the scene is dropped.
+    /// The state's tree, moved out. The number and the scene's handle are dropped.
     pub fn into_store(self) -> Built
         ensures tree { result ≡ self.tree }
         ensures published { IsPublished self }
@@ -69,8 +73,9 @@ impl Published {
 }
 
 impl Scene {
-    /// Makes the state of this number, with its number and scene (`build` makes only its tree).
-    /// NoSuchState if and only if the plan has no such number: Memory is never reported instead.
+    /// Makes the state with this number of the scene's plan. NoSuchState if and only if the plan
+    /// has no such number: Memory is never reported in its place. The scene isn't changed; the
+    /// state keeps a handle of it. Several threads may make states of a scene at once.
     pub fn make(alloc: Global, scene: &Arc<Scene>, number: u32) -> Result<Published, MakeFault>
         ensures number { IfOk result (λ made. made.number ≡ number) }
         ensures scene { IfOk result (λ made. made.scene ≡ arc_value scene.now) }

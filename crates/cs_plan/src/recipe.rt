@@ -1,4 +1,4 @@
-//! What makes a state: which of a trace's micro-operations reached the disk.
+//! The recipe of a state: which of a trace's micro-operations it has, those that reached the disk.
 ghost use Rattle.std.specs.Prelude.{◌≡◌, Some};
 ghost use Rattle.std.specs.Cmp.{partial_equiv_from_equiv};
 ghost use Rattle.std.specs.Cmp.Lexicographic.{nat_list_eq_equiv};
@@ -8,9 +8,10 @@ ghost use Rattle.cs_plan.specs.Texts.{places_text, recipe_text};
 use std::fmt;
 use std::marker::Model;
 
-/// Places of micro-operations, which count from 0 in the trace's order.
+/// A list of places of micro-operations, which count from 0 in the trace's order: a pick.
 #[derive(Debug, Drop)]
 pub struct Places {
+    /// The places, in the order in which they were given.
     places: Vec<u32>,
 }
 
@@ -24,7 +25,7 @@ impl Model for Places {
 
 impl Places {
     /// The places of this list, in its order. Whether they ascend, and whether a trace has them,
-    /// isn't checked.
+    /// isn't checked here, but by `Plan::make`.
     pub fn of(places: Vec<u32>) -> Places
         ensures { result ≡ places.items }
     {
@@ -66,21 +67,22 @@ impl fmt::Display for Places {
     }
 }
 
-/// Which micro-operations a state has.
+/// Which micro-operations a state has, by their places. `members::places_of` lists them.
 #[derive(Debug, Drop, PartialEq)]
 pub enum Recipe {
-    /// The first micro-operations of the trace, this many.
+    /// The first micro-operations of the trace, so many.
     Prefix(u32),
-    /// Those before the second place, without the first place and all that need it by any chain.
+    /// Those before the second place (the end), without the first place (the missing one) and all
+    /// that need it by any chain.
     Hole(u32, u32),
-    /// Those at these places, which ascend strictly in a plan.
+    /// Those at these places. In a plan they ascend strictly, and a crash may leave the set.
     Pick(Places),
 }
 
 impl fmt::Display for Recipe {
     ghost output = { λ recipe. Some (recipe_text recipe) };
 
-    /// Prints the recipe as the list of a plan does: its kind and its places, as in `prefix 3`,
+    /// Prints the recipe as the list of a plan does: its kind and its numbers, as in `prefix 3`,
     /// `hole 2 4` and `pick 0,2,5`.
     fn fmt<W: fmt::Write>(&self, f: &mut fmt::Formatter<W>) -> fmt::Result {
         match self {

@@ -1,5 +1,6 @@
 //! Whether two scenes have the same content: the same trace, and the same recipes. Nothing here
-//! allocates.
+//! allocates. Only `Scene::has_content_of` uses it, by which a registry refuses a state of another
+//! scene.
 ghost use Rattle.std.specs.Prelude.{◌≡◌, ◌↔◌, IsTrue};
 
 use crate::recipe::Recipe;
@@ -20,15 +21,15 @@ fn are_same_operations(operations: &[Operation], others: &[Operation]) -> bool
     operations == others
 }
 
-/// Whether the entries at the start are of equal kinds, and the files of equal numbers, in the same
-/// order.
+/// Whether what is at the paths of the start has equal kinds and equal numbers, in the same order.
 fn are_same_nodes(nodes: &[Node], others: &[Node]) -> bool
     ensures { IsTrue result ↔ (nodes.now ≡ others.now) }
 {
     nodes == others
 }
 
-/// Whether the files at the start were made at equal paths, by their numbers.
+/// Whether both starts have equally many files and symbolic links, each made at the same path in
+/// both, by their numbers.
 fn have_same_paths(trace: &Trace, other: &Trace) -> bool
     ensures { IsTrue result ↔ (trace.now.files ≡ other.now.files) }
 {
@@ -54,15 +55,15 @@ fn are_same_links(links: &[(Path, u32)], others: &[(Path, u32)]) -> bool
     links == others
 }
 
-/// Whether version, profile and block size are equal.
+/// Whether version, profile and size of a block are equal.
 fn are_same_versions(version: Version, other: Version) -> bool
     ensures { IsTrue result ↔ (version ≡ other) }
 {
     version == other
 }
 
-/// Whether two traces have the same version, with profile and block size, the same operations, and
-/// the same start.
+/// Whether two traces have the same version (with profile and size of a block), the same
+/// operations, and the same start. The texts that they were read from may differ.
 pub fn is_same_trace(trace: &Trace, other: &Trace) -> bool
     ensures { IsTrue result ↔ (trace.now ≡ other.now) }
 {

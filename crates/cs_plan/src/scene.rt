@@ -1,4 +1,4 @@
-//! A trace with the plan of its states.
+//! A scene: a trace with the plan of its states. It is the only way to make a state.
 ghost use Rattle.std.specs.Prelude.{◌≡◌, ◌≤◌, ◌↔◌, length, Some, IfErr, IfOk, IsErrOf, IsTrue};
 ghost use Rattle.std.specs.Arc.{arc_value};
 ghost use Rattle.cs_tree_model.specs.Tree.{IsTree};
@@ -23,11 +23,15 @@ use std::alloc::Global;
 use std::marker::Model;
 
 /// A trace with its micro-operations, their order, and the plan of its states. What the states
-/// share is computed once, when the scene is made.
+/// share is computed once, when the scene is made. It never changes. Contracts see the trace and
+/// the plan.
 #[derive(Drop)]
 pub struct Scene {
+    /// The trace and its micro-operations, with what all its states share.
     atlas: Atlas,
+    /// The order of the micro-operations, by the trace's own profile.
     order: Order,
+    /// The plan of that order.
     plan: Plan,
 }
 
@@ -45,8 +49,9 @@ impl Model for Scene {
 
 impl Scene {
     /// The scene of a trace. Its plan has the prefixes, the holes if `holes` is true, and these
-    /// picks. Of several faults, the first in the order of SceneFault is reported, but Memory
-    /// may be reported in place of PlanTooLarge or PickNotAllowed.
+    /// picks. TooMany, PlanTooLarge and PickNotAllowed are checked in this order; Memory may be
+    /// reported in place of the last two, but never of TooMany. After a fault, trace and picks are
+    /// dropped.
     pub fn of(
         alloc: Global,
         trace: Trace,
@@ -83,7 +88,7 @@ impl Scene {
         self.atlas.micros()
     }
 
-    /// The order of the micro-operations: which needs which.
+    /// The order of the micro-operations, by the trace's own profile: which needs which.
     pub fn order(&self) -> &Order
         ensures value { result.now ≡ order_in self.now }
         ensures long { length result.now ≡ length (micros_of self.now).ops }
@@ -99,7 +104,7 @@ impl Scene {
         &self.plan
     }
 
-    /// How many acknowledged lines the state of this number has; None if the plan has no such
+    /// How many acknowledged lines the state with this number has; None if the plan has no such
     /// number. Allocates nothing.
     pub fn says(&self, number: u32) -> Option<u32>
         ensures { result ≡ says_at self.now number }
@@ -117,8 +122,9 @@ impl Scene {
             && are_same_recipes(self.plan.recipes(), other.plan.recipes())
     }
 
-    /// The tree of the state of this number, as yet unchanged. NoSuchState if and only if the plan
-    /// has no such number.
+    /// The tree of the state with this number, which no client has changed: it has fresh numbers
+    /// and versions. NoSuchState if and only if the plan has no such number. (`Scene::make` returns
+    /// the tree with its number and scene.)
     pub(crate) fn build(&self, alloc: Global, number: u32) -> Result<Built, MakeFault>
         ensures state { IfOk result (λ tree. state_at self.now number ≡ Some tree) }
         ensures tree { IfOk result IsTree }

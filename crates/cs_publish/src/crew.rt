@@ -12,20 +12,20 @@ use std::alloc::Global;
 use std::sync::Wait;
 use std::thread::Scope;
 
-/// How many made states may wait to be published. A worker waits if there are as many, so that
-/// memory stays bounded.
+/// How many made states may wait in the channel to be published. A worker waits if there are as
+/// many, so that memory stays bounded.
 const STATES_IN_FLIGHT: u32 = 64;
 
-/// Whether this number of workers is allowed: 1 to WORKERS.
+/// Whether there may be so many workers: 1 to WORKERS.
 pub(crate) fn is_crew(workers: u32) -> bool
     ensures { result ≡ is_crew workers }
 {
     workers >= 1 && workers <= WORKERS
 }
 
-/// A channel with the numbers below `count`, in ascending order, for the workers to take. Memory if
-/// the channel can't be made. (Channel can't happen: there is room for each number, and the
-/// receiver lives.)
+/// A channel with the numbers below `count`, in ascending order, for the workers to take. The error
+/// is Memory if the channel can't be made. (It is never Channel: there is room for each number, and
+/// the receiver exists.)
 pub(crate) fn channel_of_numbers<R: Wait>(
     rt: &R,
     alloc: Global,
@@ -42,8 +42,8 @@ pub(crate) fn channel_of_numbers<R: Wait>(
     Ok(numbers)
 }
 
-/// What a worker sends for a state that it made or didn't: the state, or that memory ran out.
-/// Nothing if the plan has no such number.
+/// What a worker sends for a state that it made or didn't: the state, or that memory ran out. None,
+/// so nothing is sent, if the plan has no such number.
 fn sent_for<N: Staged>(made: Result<Made<N>, MakeFault>) -> Option<FromWorker<N>>
     ensures state { IfOk made (λ state. result ≡ Some (FromWorker.State state)) }
     ensures memory { made ≡ Err MakeFault.Memory → result ≡ Some FromWorker.NoMemory }
@@ -83,8 +83,9 @@ fn work<N: Staged, R: Wait, G: Gate>(
 }
 
 /// Starts `workers` workers, and returns the receiver of their states. The workers end when no
-/// number is left, or when the receiver is dropped. Memory if the channel can't be made or a worker
-/// can't be started; the workers that were started before end, since the receiver is dropped.
+/// number is left, or when the receiver is dropped. The error is Memory if the channel can't be
+/// made or a worker can't be started; the workers that were started before end then, because the
+/// receiver is dropped.
 pub(crate) fn hire<'s, E, N: Staged, R: Wait + Sync, G: Gate>(
     scope: &'s Scope<'s, E>,
     rt: &'s R,
@@ -109,8 +110,8 @@ pub(crate) fn hire<'s, E, N: Staged, R: Wait + Sync, G: Gate>(
     Ok(made)
 }
 
-/// Waits for the next state that a worker made, and returns the state. Memory if a worker ran out
-/// of memory instead; Channel if all workers have ended.
+/// Waits for the next state that a worker made, and returns the state. The error is Memory if a
+/// worker ran out of memory instead; Channel if all workers have ended.
 pub(crate) fn next_made<N: Staged, R: Wait>(
     rt: &R,
     made: &Receiver<FromWorker<N>>,

@@ -12,7 +12,8 @@ pub enum PublishAllFault {
     Channel,
 }
 
-/// Why a state doesn't come from the workers.
+/// Why a state didn't come from the workers, or wasn't published: as `PublishAllFault` without
+/// Workers.
 #[derive(Clone, Copy, Debug, PartialEq, Eq)]
 pub(crate) enum Lost {
     /// Out of memory, or no thread could be started.
@@ -21,7 +22,7 @@ pub(crate) enum Lost {
     Channel,
 }
 
-/// The fault of the same name, as callers of this crate see it; never Workers.
+/// The fault of the same name, as callers of this crate see it. It is never Workers.
 pub(crate) fn fault_of(lost: Lost) -> PublishAllFault
     ensures { result ≢ PublishAllFault.Workers }
 {

@@ -1,4 +1,5 @@
-//! A gate that workers ask before they make a state.
+//! A gate that workers ask before they make a state. `crashfs serve` prints its progress by one;
+//! tests hold workers back by others.
 ghost use Rattle.std.specs.Prelude.{◌≡◌, ℕ};
 
 use std::marker::Model;
@@ -14,7 +15,7 @@ pub trait Gate: Sync {
         ensures { asked self.now number };
 }
 
-/// A gate that never blocks.
+/// A gate that never blocks. For tests and benchmarks: no command uses it.
 #[derive(Clone, Copy)]
 pub struct NoGate;
 
@@ -27,7 +28,9 @@ impl Gate for NoGate {
 /// one. Contracts see the number.
 #[derive(Drop)]
 pub(crate) struct AskedNumber<'g, G: Gate> {
+    /// The gate that was asked.
     gate: &'g G,
+    /// The number of a state.
     number: u32,
 }
 

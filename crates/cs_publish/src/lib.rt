@@ -1,6 +1,7 @@
 //! Making and publishing all states of a scene by several threads: in a new registry
-//! (`publish_all`), or in one that other threads use meanwhile (`publish_into`). What a registry is
-//! and what it refuses is in cs_registry and cs_shared_runs.
+//! (`publish_all`), or in one that other threads use meanwhile (`publish_into`,
+//! `publish_own_into`). `crashfs serve` calls `publish_own_into`; no command calls the other two.
+//! What a registry is and what it refuses is in cs_registry and cs_shared_runs.
 #![tactic(auto)]
 
 mod crew;

@@ -1,4 +1,5 @@
-//! Publishing all states of a scene in a new registry.
+//! Publishing all states of a scene in a new registry. Library surface: no command calls
+//! `publish_all`.
 ghost use Rattle.std.specs.Prelude.{◌≡◌, ◌↔◌, false, IfOk, IsErrOf};
 ghost use Rattle.std.specs.Arc.{arc_value};
 ghost use Rattle.cs_publish.specs.Crews.{all_published, is_crew};
@@ -19,9 +20,10 @@ use std::sync::{Arc, Wait};
 use std::thread;
 use std::thread::Threads;
 
-/// Publishes the states that the workers make, until none is missing, and returns the registry.
-/// Memory if a worker or the registry runs out of memory; Channel if the workers end too early or
-/// send a state twice. An error drops the registry.
+/// Publishes the states that the workers make, until none is missing, and returns the registry. The
+/// error is Memory if a worker or the registry runs out of memory, Channel if the workers end too
+/// early or send a state twice. An error drops the registry. The registry must be new, and its
+/// scene the only one that N names.
 fn publish_made<H: Held, N: Staged, R: Wait>(
     rt: &R,
     alloc: Global,
@@ -48,7 +50,9 @@ fn publish_made<H: Held, N: Staged, R: Wait>(
 }
 
 /// Starts `workers` workers on these numbers, which are all of the plan's, publishes the states
-/// that the workers make, and returns the registry. An error drops the registry.
+/// that the workers make, and returns the registry. The error is one of `hire` or of
+/// `publish_made`, and drops the registry. The registry must be new, and its scene the only one
+/// that N names.
 fn hire_and_publish<'s, H: Held, N: Staged, R: Threads + Wait + Sync, G: Gate>(
     rt: &'s R,
     alloc: Global,
@@ -77,7 +81,8 @@ fn hire_and_publish<'s, H: Held, N: Staged, R: Threads + Wait + Sync, G: Gate>(
 }
 
 /// A registry of the scene, which is the only one that N names, with all its states published. Its
-/// runs have these users. An error drops the registry.
+/// runs have these users. The caller has checked the number of workers (`is_crew`). The error is
+/// Memory or Channel, as in `publish_all`, and drops the registry.
 fn publish_scene<H: Held, N: Staged, R: Threads + Wait + Sync, G: Gate>(
     rt: &R,
     alloc: Global,
@@ -104,10 +109,12 @@ fn publish_scene<H: Held, N: Staged, R: Threads + Wait + Sync, G: Gate>(
     hire_and_publish(rt, alloc, states, &stage, &numbers, workers, gate)
 }
 
-/// A registry of the scene with all its states published, whose runs have these users. The states
-/// are made by `workers` threads: each takes the next number, asks the gate about it, and makes its
-/// state. Workers if their number is 0 or above WORKERS; Memory if an allocation fails or a thread
-/// can't be started; Channel if a number or a state is lost between threads.
+/// Library surface: no command calls it. A registry of the scene with all its states published,
+/// whose runs have these users. The states are made by `workers` threads: each takes the next
+/// number, asks the gate about it, and makes its state. The error is Workers if their number is 0
+/// or above WORKERS, Memory if an allocation fails or a thread can't be started, Channel if a
+/// number or a state is lost between threads; no registry is left then. All states of the scene,
+/// and the users, must be ones that `H` allows.
 pub fn publish_all<H: Held, R: Threads + Wait + Sync, G: Gate>(
     rt: &R,
     alloc: Global,

@@ -28,9 +28,10 @@ pub(crate) enum SameScene {
 }
 
 /// Publishes the next `count` states that the workers make, and takes the registry's lock once for
-/// each. Returns how many of them weren't published before. Channel if the workers end too early,
-/// or if some state of the registry's plan isn't published even then; Memory if a worker or the
-/// registry runs out of memory. What was published before an error stays published.
+/// each. Returns how many of them weren't published before. The error is Channel if the workers end
+/// too early, or if some state of the registry's plan isn't published even then; Memory if a worker
+/// or the registry runs out of memory. What was published before an error stays published. The
+/// registry's scene must be the only one that N names; with ByType S must allow no other.
 fn publish_made_into<S: ServerBrand, N: Staged, R: Wait>(
     rt: &R,
     alloc: Global,
@@ -55,7 +56,9 @@ fn publish_made_into<S: ServerBrand, N: Staged, R: Wait>(
 }
 
 /// Publishes a state of the registry's scene. Returns how many states that adds: 1, or 0 if the
-/// state was published before. An error drops the state, and leaves the registry unchanged.
+/// state was published before. The error is Memory, or Channel if the state is of another scene; it
+/// drops the state, and leaves the registry unchanged. With ByType the type S must allow no other
+/// scene.
 fn publish_one<S: ServerBrand, R: Wait>(
     rt: &R,
     alloc: Global,
@@ -83,7 +86,7 @@ fn publish_one<S: ServerBrand, R: Wait>(
 
 /// Starts `workers` workers on these numbers, and publishes the first `count` states that the
 /// workers make. Returns how many of these weren't published before. What was published before an
-/// error stays published.
+/// error stays published. It requires what `publish_made_into` requires.
 fn hire_and_publish_into<'s, S: ServerBrand, N: Staged, R: Threads + Wait + Sync, G: Gate>(
     rt: &'s R,
     alloc: Global,
@@ -114,7 +117,8 @@ fn hire_and_publish_into<'s, S: ServerBrand, N: Staged, R: Threads + Wait + Sync
 }
 
 /// Publishes all states of the scene that N names, which is the registry's. Returns how many
-/// weren't published before. What was published before an error stays published.
+/// weren't published before. The caller has checked the number of workers (`is_crew`). What was
+/// published before an error stays published.
 fn publish_scene_into<S: ServerBrand, N: Staged, R: Threads + Wait + Sync, G: Gate>(
     rt: &R,
     alloc: Global,
@@ -137,9 +141,11 @@ fn publish_scene_into<S: ServerBrand, N: Staged, R: Threads + Wait + Sync, G: Ga
     )
 }
 
-/// Publishes all states of the registry's scene. Returns how many weren't published before. Workers
-/// if `is_crew` refuses their number; what was published before any other error stays published.
-/// `same_scene` is why a made state is of the registry's scene.
+/// Publishes all states of the registry's scene, for `publish_into` and `publish_own_into`, which
+/// differ only in `same_scene`: why a made state is known to be of the registry's scene. Returns
+/// how many weren't published before. The error is Workers if `is_crew` refuses their number; what
+/// was published before any other error stays published. With ByType the type S must allow no other
+/// scene.
 fn publish_by<S: ServerBrand, R: Threads + Wait + Sync, G: Gate>(
     rt: &R,
     alloc: Global,
@@ -163,11 +169,11 @@ fn publish_by<S: ServerBrand, R: Threads + Wait + Sync, G: Gate>(
     ).map_err(fault_of)
 }
 
-/// Publishes all states of the registry's scene, made by `workers` threads, while other threads may
-/// use the registry. Returns how many it published; a state that is published already is skipped.
-/// Each is published as soon as it is made. The faults are those of `publish_all`; what was
-/// published before a fault stays published. The registry compares the content of each state's
-/// scene with its own, which is slow for a large trace.
+/// Library surface: no command calls it. Publishes all states of the registry's scene, made by
+/// `workers` threads, while other threads may use the registry. Returns how many it published; a
+/// state that is published already is skipped. Each is published as soon as it is made. The faults
+/// are those of `publish_all`; what was published before a fault stays published. The registry
+/// compares the content of each state's scene with its own, which is slow for a large trace.
 pub fn publish_into<S: ServerBrand, R: Threads + Wait + Sync, G: Gate>(
     rt: &R,
     alloc: Global,
@@ -181,8 +187,8 @@ pub fn publish_into<S: ServerBrand, R: Threads + Wait + Sync, G: Gate>(
     publish_by(rt, alloc, registry, SameScene::ByContent, workers, gate)
 }
 
-/// Publishes as `publish_into` does, in a registry whose type allows no other scene, so that no
-/// contents are compared.
+/// Publishes as `publish_into` does, with the same faults, in a registry whose type allows no other
+/// scene, so that no contents are compared. `crashfs serve` calls this one.
 pub fn publish_own_into<S: ServerBrand, R: Threads + Wait + Sync, G: Gate>(
     rt: &R,
     alloc: Global,

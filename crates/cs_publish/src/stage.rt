@@ -20,10 +20,12 @@ impl Staged for Brand {
     ghost is_scene = { λ scene. Unit {0} };
 }
 
-/// The scene that the type names.
+/// The scene that the type N names. Workers make states only here.
 #[derive(Drop)]
 pub(crate) struct Stage<N: Staged> {
+    /// The scene itself.
     scene: Arc<Scene>,
+    /// For the type N. It has no data.
     of: PhantomData<N>,
 }
 
@@ -41,7 +43,9 @@ impl<N: Staged> Model for Stage<N> {
 /// A state made in the scene that the type names, perhaps by another thread.
 #[derive(Drop)]
 pub(crate) struct Made<N: Staged> {
+    /// With its scene and its number.
     state: Published,
+    /// For the type N. It has no data.
     of: PhantomData<N>,
 }
 
@@ -62,7 +66,9 @@ impl<N: Staged> Model for Made<N> {
 /// What a worker sends for a number: its state, or that memory ran out.
 #[derive(Drop)]
 pub(crate) enum FromWorker<N: Staged> {
+    /// The state of the number.
     State(Made<N>),
+    /// Memory ran out for the state of the number, which isn't published then.
     NoMemory,
 }
 

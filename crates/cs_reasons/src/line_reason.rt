@@ -1,18 +1,19 @@
-//! Why a line of a trace is refused, in words: what the fault of the trace doesn't say.
+//! Why a line of a trace is refused, in words: what the fault of the trace doesn't say. It reads
+//! the line again: cs_trace_lines, which refused it, returns only the kind of fault.
 
 use serde_json::{Map, Value};
 use std::alloc::{AllocError, Global};
 
-/// The keys that lines have.
+/// The keys that lines of any version have, as cs_trace_lines reads them: change both.
 const KEYS: [&str; 18] = [
     "trace", "profile", "block", "start", "op", "path", "from", "to", "owner", "group", "mode",
     "bytes", "offset", "length", "parts", "target", "text", "note",
 ];
 
-/// The versions of traces.
+/// The versions of traces that cs_trace_lines reads: change both.
 const VERSIONS: [u64; 4] = [1, 2, 3, 4];
 
-/// Whether the text is three octal digits.
+/// Whether the text is three octal digits, as cs_trace_lines takes them.
 fn is_mode(text: &str) -> bool {
     text.len() == 3 && text.bytes().all(|digit| (b'0'..=b'7').contains(&digit))
 }
@@ -27,6 +28,7 @@ fn is_version(value: &Value) -> bool {
 
 /// Why a member of a line is refused by itself: a version or a key that isn't known, a mode that
 /// isn't three octal digits, or an odd number of digits of `bytes`. None if it is none of these.
+/// The error is out of memory.
 fn reason_of_field(alloc: Global, key: &str, value: &Value) -> Result<Option<String>, AllocError> {
     let reason = match key {
         "trace" if !is_version(value) => format!(in alloc;
@@ -45,7 +47,7 @@ fn reason_of_field(alloc: Global, key: &str, value: &Value) -> Result<Option<Str
 }
 
 /// The reason of the first member that has one by itself, as `reason_of_field` gives it. None if no
-/// member has one.
+/// member has one. The error is out of memory.
 fn reason_of_members(
     alloc: Global,
     members: Map<String, Value>,
@@ -60,7 +62,8 @@ fn reason_of_members(
 }
 
 /// Why a line isn't one of a trace: it is empty, begins with a byte order mark, isn't a JSON
-/// object, or has a member that is refused by itself. None if it is none of these.
+/// object, or has a member that is refused by itself. None if it is none of these. Out of memory
+/// while the line is read counts as no JSON object; else it is the error.
 pub fn reason_of_syntax(alloc: Global, line: &str) -> Result<Option<String>, AllocError> {
     if line.is_empty() {
         return Ok(Some("the file has no line".to_string(alloc)?));
@@ -74,8 +77,9 @@ pub fn reason_of_syntax(alloc: Global, line: &str) -> Result<Option<String>, All
     }
 }
 
-/// The name of the operation, or else of the kind of a start line, as one that isn't known. None if
-/// the line has neither, or isn't JSON.
+/// The text that the name of the operation, or else of the kind of a start line, isn't known. That
+/// isn't checked here: the fault has said it. None if the line has neither, or isn't JSON. The
+/// error is out of memory.
 pub fn reason_of_op(alloc: Global, line: &str) -> Result<Option<String>, AllocError> {
     let Ok(value) = Value::from_str(alloc, line) else {
         return Ok(None);

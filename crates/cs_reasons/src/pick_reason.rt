@@ -4,8 +4,9 @@ ghost use Rattle.std.specs.Prelude.{◌<◌, length};
 use cs_apm::Order;
 use std::alloc::{AllocError, Global};
 
-/// The first operation that the one at the place needs by any chain and that isn't in `places`.
-/// None if `places` has all that it needs.
+/// The place of the first operation that the one at `place` needs, directly or through others, and
+/// that isn't in `places`. None if `places` has all that it needs. `place` must be one of the
+/// order.
 fn missing_need(order: &Order, places: &[u32], place: usize) -> Option<usize>
     requires { place < length order.now }
 {
@@ -20,7 +21,7 @@ fn missing_need(order: &Order, places: &[u32], place: usize) -> Option<usize>
 }
 
 /// Why the pick of that number is not allowed, by the first of its places that is at fault. None if
-/// it is allowed.
+/// it is allowed. Picks count from 0, as in the fault. The error is out of memory.
 pub fn reason_of_pick(
     alloc: Global,
     order: &Order,
@@ -51,7 +52,7 @@ pub fn reason_of_pick(
 }
 
 /// How many holes end at the place `last`: one for each earlier place that the operation at `last`
-/// doesn't need by any chain.
+/// doesn't need, directly or through others. `last` must be a place of the order.
 fn count_holes_at(order: &Order, last: usize) -> u64
     requires { last < length order.now }
 {
@@ -66,7 +67,7 @@ fn count_holes_at(order: &Order, last: usize) -> u64
 }
 
 /// How many holes the order allows, each a prefix without one place that its last operation doesn't
-/// need. (The function of this name in cs_plan is private.)
+/// need. cs_plan has a function of this name, which is private there: change both.
 pub fn count_holes(order: &Order) -> u64 {
     let mut count = 0u64;
     for last in 0..order.len() {

@@ -1,4 +1,5 @@
 //! Why a command ended with a fault, in a second line for people. Its first line is for scripts.
+//! The only error of these functions is out of memory, after which nothing more is said.
 
 use crate::line_reason::{reason_of_op, reason_of_syntax};
 use crate::pick_reason::{count_holes, reason_of_pick};
@@ -10,13 +11,13 @@ use cs_trace::{TraceFault, TraceFaultKind};
 use std::alloc::{AllocError, Global};
 use std::io::Write;
 
-/// The line of that number of a text; lines count from 1, and 0 is as 1. Empty if the text has
+/// The line of that number of a text; lines count from 1, and 0 counts as 1. Empty if the text has
 /// fewer lines.
 fn line_at(text: &str, number: usize) -> &str {
     text.split('\n').nth(number.saturating_sub(1)).unwrap_or("")
 }
 
-/// Why the line of a trace's fault is refused. None if no more can be said than its fault.
+/// Why the line of a trace's fault is refused. None if no more can be said than the fault says.
 fn reason_of_trace(
     alloc: Global,
     trace: &[u8],
@@ -30,7 +31,8 @@ fn reason_of_trace(
     }
 }
 
-/// How many states the plan of these inputs has, with holes or without. None if there is no plan.
+/// How many states the plan of these inputs has, with holes or without. None if there is no plan,
+/// also because memory runs out.
 fn count_of(alloc: Global, inputs: &Inputs, holes: bool) -> Option<usize> {
     let inputs = Inputs { holes, ..*inputs };
     let scene = scene_of(alloc, &inputs).ok()?;
@@ -47,7 +49,7 @@ fn greatest_of(states: &States) -> u32 {
 }
 
 /// How many states there are, and how many with `--holes` if that isn't given. None if each number
-/// of `states` has a state, or if there is no plan.
+/// of `states` has a state, or if there is no plan. It makes the plan again, once or twice.
 fn reason_of_number(
     alloc: Global,
     inputs: &Inputs,
@@ -124,7 +126,8 @@ fn reason_of_picks(
     }
 }
 
-/// Why a trace has no plan. None if no more can be said than the fault, as of out of memory.
+/// Why a trace has no plan. None if no more can be said than the fault says, which is so for out of
+/// memory.
 fn reason_of_scene(
     alloc: Global,
     inputs: &Inputs,
@@ -145,7 +148,8 @@ fn reason_of_scene(
 }
 
 /// What more can be said of the fault that ended a command. The plan is made again for this, which
-/// finds a fault of the inputs; a fault of another kind has no reason here.
+/// finds a fault of the inputs; a fault of another kind has no reason here: None. The error is out
+/// of memory.
 fn reason_of(alloc: Global, inputs: &Inputs, ask: &Ask) -> Result<Option<String>, AllocError> {
     match scene_of(alloc, inputs) {
         Err(ProgramFault::Trace(fault)) => {
@@ -161,7 +165,8 @@ fn reason_of(alloc: Global, inputs: &Inputs, ask: &Ask) -> Result<Option<String>
 }
 
 /// Prints on `err` what more can be said of the fault that ended a command: of a line of the trace,
-/// of the plan, or of the number of a state. Nothing if no more can be said.
+/// of the plan, or of the number of a state. Nothing if no more can be said, or if memory runs out.
+/// A failed write is ignored.
 pub fn explain<E: Write>(alloc: Global, inputs: &Inputs, ask: &Ask, err: &mut E) {
     if let Ok(Some(reason)) = reason_of(alloc, inputs, ask) {
         let _unheard = writeln!(err, "crashfs: {reason}");

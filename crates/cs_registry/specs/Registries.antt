@@ -27,7 +27,7 @@ module _ {H : Type 0} where
   abbrev pub is_published : Registry H → ℕ → Bool
   is_published registry number = slice_index_or registry.published number false
 
-  -- with another list of users, for the runs that are made from then on
+  -- the registry with another list of users, for the runs that are made from then on
   abbrev pub with_users : Registry H → List Row → Registry H
   with_users registry users = record registry { users = users }
 

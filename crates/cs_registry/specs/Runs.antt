@@ -20,11 +20,11 @@ module _ {H : Type 0} where
   abbrev pub key_at : Runs H → ℕ → Option Key
   key_at runs place = option_map (λ run. run.0) (slice_get runs place)
 
-  -- what is kept of it
+  -- what is kept of the run at a place
   abbrev pub held_at : Runs H → ℕ → Option H
   held_at runs place = option_map (λ run. run.1.held) (slice_get runs place)
 
-  -- how often it was found
+  -- how often the run at a place was found
   abbrev pub finds_at : Runs H → ℕ → Option ℕ
   finds_at runs place = option_map (λ run. run.1.finds) (slice_get runs place)
 
@@ -32,15 +32,15 @@ module _ {H : Type 0} where
   change new place runs =
       option_map_or (λ run. slice_set runs place (run.0, new run.1)) (slice_get runs place) runs
 
-  -- with another value kept of the run at a place
+  -- the runs with another value kept of the run at a place
   abbrev pub with_held : Runs H → ℕ → H → Runs H
   with_held runs place held = change (λ run. record run { held = held }) place runs
 
-  -- with one find more of that run
+  -- the runs with one find more of the run at a place
   abbrev pub with_find : Runs H → ℕ → Runs H
   with_find runs place = change (λ run. record run { finds = run.finds + 1 }) place runs
 
-  -- with a run that is found for the first time
+  -- the runs with one more, which is found for the first time
   abbrev pub with_run : Runs H → Key → H → Runs H
   with_run runs key held = runs ++ (key, record { finds = 1; held = held }) ∷ []
 

@@ -11,7 +11,8 @@ use cs_users::Users;
 use std::alloc::{AllocError, Global};
 use std::sync::Arc;
 
-/// What a registry keeps of each run, made when the run is found for the first time.
+/// What a registry keeps of each run, made when the run is found for the first time: on one thread
+/// `RunWithPasses` of cs_world, for threads `SharedRun` of cs_shared_runs.
 pub trait Held: Drop {
     /// The trees that may be published under a number.
     ghost admits: { ℕ → Tree → Type 0 };
@@ -23,7 +24,8 @@ pub trait Held: Drop {
     ghost is_fresh: { Key → Tree → List Row → Self → Type 0 };
 
     /// What is kept of a new run of this key, or an error if memory runs out. `lower` is the tree
-    /// of the run's state, which all runs over the state share.
+    /// of the run's state, which all runs over the state share. The tree and the users must be ones
+    /// that `admits` and `suits` allow.
     fn fresh(
         alloc: Global,
         key: &RunKey,

@@ -16,14 +16,16 @@ use std::hash::{Hash, Hasher};
 use std::marker::Model;
 
 /// A state's number has at most this many digits, since PLAN_STATES, 16384, has five. The specs
-/// write 5.
+/// write 5: change both.
 const NUMBER_DIGITS: usize = 5;
 
 /// What names a run: the number of its state, and its own name. A key is made without an
 /// allocation, so a lookup can't run out of memory.
 #[derive(Drop)]
 pub struct RunKey {
+    /// The number of the state over which the run is.
     number: u32,
+    /// The run's own name, in place.
     name: ArrayString<RUN_NAME_BYTES>,
 }
 
@@ -69,6 +71,7 @@ impl RunKey {
 
     /// The key of the run that a tree's name means. None unless the name's first part is at most
     /// NUMBER_DIGITS digits (no digits mean state 0) and the second is a legal name of a run.
+    /// Whether the plan has the number isn't asked here.
     pub fn of_tree_name(name: &TreeName) -> Option<RunKey>
         ensures { result ≡ key_in name.now.state.now name.now.run.now }
     {

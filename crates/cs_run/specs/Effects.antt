@@ -42,7 +42,7 @@ pub record CallResult : Type 0 where
   pub opens : List OpenFile
   pub answer : Answer
 
--- these three
+-- what is left: this tree, these opens, and this answer
 abbrev pub call_result : Tree → List OpenFile → Answer → CallResult
 call_result tree opens answer = record { tree = tree; opens = opens; answer = answer }
 
@@ -61,11 +61,11 @@ new_open turn number mode = record {
 
 -- ---- open
 
--- 0x10, of a file that isn't append-only
+-- the open's mode has the bit 0x10 (OTRUNC), and the file isn't append-only
 abbrev pub truncates_file : Tree → OpenCall → Bool
 truncates_file tree call = truncates call.mode && not (on_file tree call.number is_append_only)
 
--- no bytes, and nothing else
+-- the change to no bytes, which changes no other field
 abbrev pub change_to_no_bytes : Change
 change_to_no_bytes =
     record { name = None; length = Some 0; mode = None; group = None; mtime = None }
@@ -77,7 +77,8 @@ opened_tree tree turn call =
     then tree_with_change call.number change_to_no_bytes (stamp turn call.user) tree
     else tree
 
--- an open: the file may be emptied, and one open more is there, last. The qid is the one after that
+-- an open: the file may be emptied, and one open more is there, last. The answer's qid is that of
+-- the file after this
 unfoldable pub open_effect : Tree → List OpenFile → Turn → OpenCall → CallResult
 open_effect tree opens turn call =
     call_result (opened_tree tree turn call) (opens ++ new_open turn call.number call.mode ∷ [])
@@ -142,7 +143,7 @@ abbrev pub removes_file : Tree → Option OpenFile → Bool
 removes_file tree None = false
 removes_file tree (Some o) = is_some (content_numbered tree o.file) && removes_on_close o.mode
 
--- without the file of an open that asks so
+-- the tree without the file of an open that asks for its removal
 abbrev pub closed_tree : Tree → Turn → List ℕ → Option OpenFile → Tree
 closed_tree tree turn user None = tree
 closed_tree tree turn user (Some o) =
@@ -154,7 +155,7 @@ close_effect tree opens turn call =
     call_result (closed_tree tree turn call.user (open_numbered call.open_number turn.pass opens))
     (opens_without call.open_number turn.pass opens) a.Closed
 
--- a remove takes out the file, and ends the open of its fid, if that is open
+-- a remove removes the file, and ends the open of its fid, if the fid is open
 unfoldable pub remove_effect : Tree → List OpenFile → Turn → RemoveCall → CallResult
 remove_effect tree opens turn call =
     call_result (tree_without_file call.number (stamp turn call.user) tree)
@@ -188,7 +189,7 @@ changed_by tree turn call change =
     if changes_some change then tree_with_change call.number change (stamp turn call.user) tree
     else tree
 
--- with all fields that are new, in one change
+-- the tree with all fields that a wstat changes, in one change
 abbrev pub changed_tree : Tree → Turn → WstatCall → Tree
 changed_tree tree turn call =
     option_map_or (changed_by tree turn call) (requested_change tree call) tree

@@ -1,10 +1,10 @@
--- Which growth of a call memory refuses, as data.
+-- Which allocation of a call fails, as data.
 use Rattle.std.specs.Prelude.{Bool, true, false}
 
 -- Whether memory suffices for what a granted call takes.
 pub data CallMark : Type 0 where
   Ample : CallMark
-  -- a growth that the grant reaches is refused
+  -- an allocation that the grant makes fails
   NoGrant : CallMark
 
 -- memory is refused

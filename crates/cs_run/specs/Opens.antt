@@ -18,7 +18,7 @@ IsAscending opens = AllPairs (λ one later. one.number < later.number) opens
 abbrev pub AreBelow : ℕ → List OpenFile → Type 0
 AreBelow number opens = All (λ o. o.number < number) opens
 
--- it has the number, and the pass made it
+-- the open has the number, and the pass made it
 abbrev pub is_open : ℕ → ℕ → OpenFile → Bool
 is_open number pass o = o.number == number && o.pass == pass
 
@@ -27,12 +27,12 @@ abbrev pub open_numbered : ℕ → ℕ → List OpenFile → Option OpenFile
 open_numbered number pass opens =
     option_and_then (slice_get opens) (position (is_open number pass) opens)
 
--- the opens without that one
+-- the opens without the open of that number and pass
 abbrev pub opens_without : ℕ → ℕ → List OpenFile → List OpenFile
 opens_without number pass opens =
     option_map_or (remove opens) (position (is_open number pass) opens) opens
 
--- the opens without that one, if one is named
+-- the opens without the open of that pass and of that number, if a number is given
 abbrev pub opens_without_if : Option ℕ → ℕ → List OpenFile → List OpenFile
 opens_without_if None pass opens = opens
 opens_without_if (Some number) pass opens = opens_without number pass opens

@@ -63,11 +63,11 @@ result_by_outcome view turn call (o.Denied rule) =
 result_by_outcome view turn call o.Short =
     call_result view.tree (opens_without_if (closed_open_number call) turn.pass view.opens) a.Short
 
--- the step: what a call leaves if memory refuses that growth
+-- the step: what a call leaves if the allocation that the mark names fails
 abbrev pub result_by_mark : RulesView → Turn → Call → CallMark → CallResult
 result_by_mark view turn call mark = result_by_outcome view turn call (outcome view turn call mark)
 
--- a call ends so and leaves that, if memory refuses one growth or none
+-- a call ends so and leaves that, if one allocation fails or none
 pub record IsOutcomeOf (view : RulesView) (turn : Turn) (call : Call) (how : Outcome)
     (leaves : CallResult)
     : Type 0 where

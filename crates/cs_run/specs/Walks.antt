@@ -18,7 +18,7 @@ pub record WalkResult : Type 0 where
 abbrev pub with_qid_first : Qid → WalkResult → WalkResult
 with_qid_first qid rest = record rest { qids = qid ∷ rest.qids }
 
--- no further from the file, or on from the next one
+-- the walk ends at the file if the next name is stopped; else it continues from the next file
 abbrev pub go_on : (ℕ → WalkResult) → Tree → ℕ → Result ℕ RuleId → WalkResult
 go_on rest tree number (Err rule) = record { qids = []; stopped = Some rule; last = number }
 go_on rest tree number (Ok m) = with_qid_first (qid_at tree m) (rest m)
@@ -35,8 +35,8 @@ requested_walk tree users call = walk_from tree users call.user call.number call
 
 -- ---- what it means that a walk is the longest
 
--- each name leads on from the file of the one before; these are the qids of the files, and the
--- last of these has that number
+-- each name leads on from the file of the name before it; these are the qids of the files, and the
+-- last file has that number
 abbrev pub LeadOn : Tree → List Row → List ℕ → ℕ → List (List ℕ) → List Qid → ℕ → Type 0
 LeadOn tree users user number [] qids last = (qids ≡ []) × (last ≡ number)
 LeadOn tree users user number (x ∷ xs) [] last = ⊥
@@ -62,7 +62,7 @@ pub record IsLongest (tree : Tree) (users : List Row) (user : List ℕ) (number 
 
 -- ---- parts of a walk
 
--- a way after some qids
+-- a walk with these qids in front of its own
 abbrev pub with_qids_first : List Qid → WalkResult → WalkResult
 with_qids_first [] rest = rest
 with_qids_first (qid ∷ qids) rest = with_qid_first qid (with_qids_first qids rest)

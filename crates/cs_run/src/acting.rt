@@ -29,9 +29,9 @@ use cs_tree_model::{TreeRead, TreeStore};
 use cs_users::Users;
 use std::alloc::{AllocError, Global};
 
-/// Does a call all of whose rules pass, as the caller has checked. If memory runs out, the tree and
-/// the opens are as they were, except that the open that the call ends is released. (`act` does
-/// walks itself.)
+/// Does a call all of whose rules pass, as the caller has checked. The error is out of memory: the
+/// tree and the opens stay as they were, except that the open that the call ends is released. (A
+/// walk never comes here from `act`, which does walks by `act_walk`.)
 fn grant<T: TreeStore>(
     alloc: Global,
     call: &Call<'_>,
@@ -70,7 +70,8 @@ fn grant<T: TreeStore>(
 }
 
 /// The number of the open that a call ends, even if the call is denied: that of a close, or of a
-/// remove by an open fid. None for any other call.
+/// remove by an open fid. (The name says closed: it is so after the call.) Such an open need not
+/// exist. None for any other call.
 pub fn closed_open_number(call: &Call<'_>) -> Option<u32>
     ensures { result ≡ closed_open_number call.now }
 {
@@ -130,6 +131,7 @@ fn opens_deciding<'a, T: TreeRead>(call: &Call<'_>, tree: &T, opens: &'a Opens) 
 
 /// Does a call as `act` does, which uses this for all calls but walks: the call's rules are checked
 /// first. If one denies the call, or memory runs out, only the open that the call ends is released.
+/// It requires what `act` requires.
 // inline, a walk would pay at the entry of `act` for the stack of all other calls
 #[inline(never)]
 #[tactic(auto, unfolding(crate::specs::Outcomes::outcome))]
@@ -159,9 +161,11 @@ fn act_by_rules<T: TreeStore>(
     }
 }
 
-/// Does a call if no rule denies it and memory suffices. Otherwise the tree and the opens are as
-/// they were, except that a close or a remove releases its open even then. A read returns at most
-/// as many bytes as it asks for, and a walk at most as many qids as it has names.
+/// Does a call if no rule denies it and memory suffices. Otherwise, Denied or Short, the tree and
+/// the opens are as they were, except that a close or a remove releases its open even then. The
+/// caller gives each call a place above those before it, and keeps versions and the next number
+/// from overflowing, as `CountedRun::is_full` or cs_journal's `can_grow` checks. A read returns at
+/// most as many bytes as it asks for, and a walk at most as many qids as it has names.
 #[tactic(auto, unfolding(crate::specs::Outcomes::outcome))]
 pub fn act<T: TreeStore>(
     alloc: Global,

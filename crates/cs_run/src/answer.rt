@@ -11,8 +11,11 @@ use std::marker::Model;
 /// name passed.
 #[derive(Debug, Drop)]
 pub struct Walk {
+    /// Of the names that passed, in order.
     qids: Vec<Qid>,
+    /// None if all names passed.
     stopped: Option<RuleId>,
+    /// The number of the file at which the walk ended.
     last: u64,
 }
 
@@ -34,7 +37,8 @@ impl Walk {
     ghost use Rattle.std.specs.List.{AllByRecursion};
 
     /// A walk that ended at the file of number `last`. `qids` are those of the names that passed;
-    /// `stopped` is the rule that stopped the next name, or None if all names passed.
+    /// `stopped` is the rule that stopped the next name, or None if all names passed. The numbers
+    /// of the qids must be in their ranges.
     pub(crate) fn new(qids: Vec<Qid>, stopped: Option<RuleId>, last: u64) -> Walk
         requires { AllByRecursion IsQid qids.items }
         ensures { result ≡ record { qids = qids.items; stopped = stopped; last = last } }
@@ -46,14 +50,16 @@ impl Walk {
         }
     }
 
-    /// The qids of the names that passed, in order; empty if none did.
+    /// The qids of the names that passed, in order; empty if none did. For tests: the commands call
+    /// `into_qids`.
     pub fn qids(&self) -> &[Qid]
         ensures { result.now ≡ self.now.qids }
     {
         self.qids.as_slice()
     }
 
-    /// The qids of the names that passed, in order, owned. Each fits into a reply.
+    /// The qids of the names that passed, in order, owned; empty if none did. Each fits into a
+    /// reply.
     pub fn into_qids(self) -> Vec<Qid>
         ensures value { result.items ≡ self.qids }
         ensures fit { AllByRecursion IsQid result.items }
@@ -91,7 +97,9 @@ impl Walk {
 /// continues (None if the place hasn't moved).
 #[derive(Debug, Drop)]
 pub struct Data {
+    /// Of a file, or of whole entries of a directory.
     bytes: Vec<u8>,
+    /// None for a file that is no directory, and if no entry was read.
     place: Option<Place>,
 }
 
@@ -135,6 +143,7 @@ impl Data {
 // grows, `act_stat` no longer meets the `requires` of `new`, until each 600 here grows too
 #[derive(Debug, Drop)]
 pub struct FileStat {
+    /// At most 600 bytes on the wire.
     stat: Stat,
 }
 
@@ -187,6 +196,7 @@ pub enum Outcome {
 pub enum Answer {
     /// The qid of the root.
     Attached(Qid),
+    /// The answer to a walk of which the first name, if any, passed.
     Walked(Walk),
     /// The answer to an open or a create: the qid and the number of the file, and the number of the
     /// open.
@@ -195,13 +205,19 @@ pub enum Answer {
         open_number: u32,
         number: u64,
     },
+    /// The answer to a read.
     Data(Data),
     /// How many bytes were written.
     Written(u32),
+    /// The answer to a close, even if there is no such open.
     Closed,
+    /// The answer to a remove.
     Removed,
+    /// The answer to a stat.
     Stat(FileStat),
+    /// The answer to a wstat, even if it changes no field.
     Changed,
+    /// The first rule that fails.
     Denied(RuleId),
     /// Out of memory.
     Short,

@@ -19,7 +19,9 @@ const BLOCK: usize = 128;
 /// The place of an open: the index of its block, and its index within that block.
 #[derive(Clone, Copy)]
 pub(crate) struct OpenPlace {
+    /// Of its block, from 0.
     pub(crate) block_index: usize,
+    /// Its index in the block, from 0.
     pub(crate) at: usize,
 }
 
@@ -62,7 +64,8 @@ fn blocks_below(blocks: &[Vec<OpenFile>], number: u32) -> usize
     blocks.partition_point(|block| ends_below(block, number))
 }
 
-/// The place of the open of that number and pass; None if no open has both.
+/// The place of the open of that number and pass; None if no open has both. The opens ascend, and
+/// only the last block may be empty.
 pub(crate) fn open_place_of(blocks: &[Vec<OpenFile>], number: u32, pass: u32) -> Option<OpenPlace>
     requires ascending { IsAscending (all_opens blocks.now) }
     requires filled { AreFilled blocks.now }
@@ -85,7 +88,8 @@ pub(crate) fn open_place_of(blocks: &[Vec<OpenFile>], number: u32, pass: u32) ->
     }
 }
 
-/// Adds an empty block if the last is full or there is none. An error adds none.
+/// Adds an empty block if the last is full or there is none. The error is out of memory; no block
+/// is added then.
 fn add_block_if_full(blocks: &mut Vec<Vec<OpenFile>>) -> Result<(), AllocError>
     requires { AreFilled blocks.old.items }
     ensures opens { all_opens blocks.new.items ≡ all_opens blocks.old.items }
@@ -105,8 +109,8 @@ fn add_block_if_full(blocks: &mut Vec<Vec<OpenFile>>) -> Result<(), AllocError>
     Ok(())
 }
 
-/// Makes room for one more open in the last block, which may be a new one. An error leaves the
-/// opens as they are; at most an empty block is new.
+/// Makes room for one more open in the last block, which may be a new one. The error is out of
+/// memory; the opens are as they were, and at most an empty block is new.
 pub(crate) fn widen_last(blocks: &mut Vec<Vec<OpenFile>>) -> Result<(), AllocError>
     requires { AreFilled blocks.old.items }
     ensures opens { all_opens blocks.new.items ≡ all_opens blocks.old.items }
@@ -139,7 +143,8 @@ pub(crate) fn open_at(blocks: &[Vec<OpenFile>], place: OpenPlace) -> OpenFile
     opens[place.at]
 }
 
-/// All opens of the first block that has an open on that file; empty if no block has one.
+/// All opens of the first block that has an open on that file, those on other files too; empty if
+/// no block has one.
 pub(crate) fn first_block_on_file(blocks: &[Vec<OpenFile>], file: u64) -> &[OpenFile]
     ensures { is_on result.now file ≡ is_on (all_opens blocks.now) file }
 {
@@ -151,8 +156,8 @@ pub(crate) fn first_block_on_file(blocks: &[Vec<OpenFile>], file: u64) -> &[Open
     &[]
 }
 
-/// Whether one of the opens is on that file; false if there are no opens. (cs_permit's
-/// `is_file_open` is the same, but private.)
+/// Whether one of the opens is on that file; false if there are no opens. cs_permit's
+/// `is_file_open` is the same, but private there: change both.
 fn is_on(opens: &[OpenFile], file: u64) -> bool
     ensures { result ≡ is_on opens.now file }
 {
@@ -175,7 +180,8 @@ pub(crate) fn remove_open(blocks: &mut Vec<Vec<OpenFile>>, place: OpenPlace) -> 
     open
 }
 
-/// Drops the block at that index if it is empty and not the last.
+/// Drops the block at that index, which must exist, if it is empty and not the last. No other block
+/// but the last may be empty.
 fn drop_if_empty(blocks: &mut Vec<Vec<OpenFile>>, block_index: usize)
     requires bound { block_index < length blocks.old.items }
     requires filled { FilledBut block_index blocks.old.items }

@@ -14,8 +14,8 @@ use cs_permit::{CloseCall, OpenFile};
 use cs_tree_model::{TreeRead, TreeStore};
 use std::alloc::{AllocError, Global};
 
-/// Whether the number is that of a regular file; false of a directory, and if no file has the
-/// number.
+/// Whether the number is that of a file that isn't a directory; the file may be a symbolic link.
+/// False if no file has the number. The clause `is_tree` is what `removes_file` ensures.
 fn is_of_regular_file<T: TreeRead>(tree: &T, number: u64) -> bool
     ensures value { result ≡ is_some (content_numbered (T.tree tree.now) number) }
     ensures is_tree { IsTree (T.tree tree.now) }
@@ -27,7 +27,8 @@ fn is_of_regular_file<T: TreeRead>(tree: &T, number: u64) -> bool
 }
 
 /// Whether the close of this open removes its file: the open's mode says so, and the file still
-/// exists and isn't a directory.
+/// exists and isn't a directory. The clause `is_tree` is here because `remove` requires that the
+/// file isn't the root and has no entries; so the tree is asked before the mode.
 fn removes_file<T: TreeRead>(tree: &T, opened: OpenFile) -> bool
     ensures value { result ≡ removes_file (T.tree tree.now) (Some opened) }
     ensures is_tree { IsTree (T.tree tree.now) }
@@ -36,7 +37,8 @@ fn removes_file<T: TreeRead>(tree: &T, opened: OpenFile) -> bool
 }
 
 /// Removes the file of `closed`, the open that the close released, if the close removes it
-/// (`removes_file`). With None, nothing is removed. If memory runs out, the tree is as it was.
+/// (`removes_file`). With None, nothing is removed. The error is out of memory; the tree stays as
+/// it was. No version may overflow, as `act` requires.
 fn remove_closed<T: TreeStore>(
     alloc: Global,
     call: &CloseCall,
@@ -60,9 +62,10 @@ fn remove_closed<T: TreeStore>(
     tree.remove(alloc, opened.file, stamp)
 }
 
-/// Ends an open, and removes its file if the close does so (`removes_file`). If there is no such
-/// open, nothing changes, and the answer is the same. If memory runs out, the open is released, but
-/// the tree is as it was.
+/// Ends an open. If the open's mode asks for it (ORCLOSE) and its file is still there, the file is
+/// removed, too (`removes_file`). The open is the one with the call's number and the turn's pass.
+/// If there is no such open, nothing changes, and the answer is Closed, too. If memory runs out,
+/// the open is released, but the tree is as it was. No version may overflow, as `act` requires.
 #[tactic(auto, unfolding(crate::specs::Effects::close_effect))]
 pub fn act_close<T: TreeStore>(
     alloc: Global,

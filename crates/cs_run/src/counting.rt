@@ -1,4 +1,4 @@
-//! Calls in turn on a run without a journal.
+//! Calls, one after the other, on a run without a journal.
 ghost use Rattle.std.specs.Prelude.{◌≡◌, ◌<◌, ◌+◌, ◌≤◌, ℕ, IfSome, [], false};
 ghost use Rattle.cs_run.specs.Counted.{is_full, run_of, state_of, turn_of};
 ghost use Rattle.cs_run.specs.Effects.{call_result};
@@ -29,8 +29,9 @@ fn version_of<T: TreeRead>(tree: &T, number: u64) -> u32
     }
 }
 
-/// The greatest version among the tree's files. Every file number up to the last is looked up, the
-/// last too; a number without a file counts as version 0.
+/// The greatest version among the tree's files. Every number from 0 to the last that was given to a
+/// file is looked up; a number without a file counts as version 0. The root is always there. For
+/// `CountedRun` and cs_journal's `can_grow`: no command calls it.
 pub fn greatest_version<T: TreeRead>(tree: &T) -> u32
     ensures { IsGreatestVersion (T.tree tree.now) result }
 {
@@ -76,8 +77,9 @@ impl<T: TreeStore + Drop> CountedRun<T> {
         self.count == u32::MAX || self.tree.last_number() == u64::MAX
     }
 
-    /// Does a call at that moment (in seconds) under a pass, as `act` does. The call's place is the
-    /// run's count, which goes up by one even if the call is denied or memory runs out.
+    /// Does a call at that moment (in seconds) under a pass, as `act` does. `is_full` checks what
+    /// it requires. The call's place is the run's count, which goes up by one even if the call is
+    /// denied or memory runs out.
     pub fn step(
         &mut self,
         alloc: Global,

@@ -38,8 +38,8 @@ fn created_mode(perm: u32, directory: u32) -> u32
     }
 }
 
-/// What the create asks the tree's `add` to make: a file or directory of this mode, masked by that
-/// of the directory that gets it.
+/// What the create asks the tree's `add` to make: a file or directory with the mode of
+/// `created_mode`.
 fn requested_new<T: TreeRead>(tree: &T, call: &CreateCall) -> New
     ensures { result ≡ requested_new (T.tree tree.now) call.now }
 {
@@ -48,8 +48,9 @@ fn requested_new<T: TreeRead>(tree: &T, call: &CreateCall) -> New
     }
 }
 
-/// Adds the new file or directory to its directory, and returns the new number. If memory runs out,
-/// the tree is as it was.
+/// Adds the new file or directory to its directory, and returns the new number. The error is out of
+/// memory; the tree stays as it was. The caller has checked the rules of a create; no version and
+/// no number may overflow.
 fn add_created<T: TreeStore>(
     alloc: Global,
     call: &CreateCall,
@@ -70,8 +71,9 @@ fn add_created<T: TreeStore>(
     tree.add(alloc, call.number, name, new, stamp)
 }
 
-/// Makes a file or directory in a directory, and opens it. If memory runs out, tree and opens are
-/// as they were.
+/// Makes a file or directory in a directory, and opens it; the open has the turn's place as its
+/// number. The caller has checked the rules of a create. The error is out of memory; tree and opens
+/// stay as they were. No version may overflow, as `act` requires.
 #[tactic(auto, unfolding(crate::specs::Effects::create_effect))]
 pub fn act_create<T: TreeStore>(
     alloc: Global,

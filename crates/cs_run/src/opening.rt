@@ -45,8 +45,9 @@ fn change_to_no_bytes() -> Change
     }
 }
 
-/// Empties the file that is opened, if the open asks for that (`truncates_file`). If memory runs
-/// out, the tree is as it was.
+/// Empties the file that is opened, if the open asks for that (`truncates_file`). The error is out
+/// of memory; the tree stays as it was. The caller has checked the rules of an open; no version may
+/// overflow.
 fn truncate_opened<T: TreeStore>(
     alloc: Global,
     call: &OpenCall,
@@ -66,8 +67,9 @@ fn truncate_opened<T: TreeStore>(
     tree.change(alloc, call.number, &change_to_no_bytes(), stamp)
 }
 
-/// Opens a file: empties it if the open asks for that (`truncates_file`), and adds the open. If
-/// memory runs out, tree and opens are as they were.
+/// Opens a file: empties it if the open asks for that (`truncates_file`), and adds the open, with
+/// the turn's place as its number. The caller has checked the rules of an open. The error is out of
+/// memory; tree and opens stay as they were. No version may overflow, as `act` requires.
 #[tactic(auto, unfolding(crate::specs::Effects::open_effect))]
 pub fn act_open<T: TreeStore>(
     alloc: Global,

@@ -14,7 +14,7 @@ use std::marker::Model;
 /// their list, and the room for more.
 #[derive(Drop)]
 pub struct Opens {
-    /// Only the last may be empty.
+    /// The opens in blocks, one after another. Only the last block may be empty.
     blocks: Vec<Vec<OpenFile>>,
     /// How many opens the blocks have in all.
     count: usize,
@@ -52,7 +52,8 @@ impl Opens {
         self.count
     }
 
-    /// A part of the opens, in which one is on that file exactly if any open is; empty if none is.
+    /// A part of the opens, in which one is on that file exactly if any open of the run is; empty
+    /// if none is. It may have opens on other files.
     pub(crate) fn block_on_file(&self, file: u64) -> &[OpenFile]
         ensures { is_open result.now file ≡ is_open self.now.items file }
     {
@@ -67,7 +68,8 @@ impl Opens {
         Some(open_at(self.blocks.as_slice(), place))
     }
 
-    /// Makes room for one more open. An error leaves the opens as they are.
+    /// Makes room for one more open, which `add` needs. The error is out of memory; the opens stay
+    /// as they were.
     pub fn reserve(&mut self) -> Result<(), AllocError>
         ensures opens { self.new.items ≡ self.old.items }
         ensures room { OnOk result (0 < self.new.room) }

@@ -15,11 +15,13 @@ use cs_tree_model::{ListedEntry, TreeRead, laws};
 use cs_wire::StatRef;
 use std::alloc::{AllocError, Global};
 
-/// The bytes of consecutive entries of a directory, and the name of the last. Without entries,
-/// `last` is the name after which they were to begin: None for the start of the directory.
+/// Consecutive entries of a directory, as an Rread has them, and where they end.
 #[derive(Drop)]
 pub struct Page<'a> {
+    /// The stat of each entry, one after another (stat(5)).
     pub bytes: Vec<u8>,
+    /// The name of the last entry. If there is none, the name after which the first entry was
+    /// looked for: None for the start of the directory.
     pub last: Option<&'a Name>,
 }
 
@@ -44,8 +46,8 @@ fn stat_of_entry<'a, T: TreeRead>(
 }
 
 /// As many whole entries of a directory as fit into `room` bytes, perhaps none: from the first
-/// after the name `start` on, or from the directory's first if `start` is None. It can run out of
-/// memory only if an entry fits.
+/// after the name `start` on, or from the directory's first if `start` is None. The error is out of
+/// memory, which happens only if an entry fits.
 pub(crate) fn read_page<'a, T: TreeRead>(
     alloc: Global,
     tree: &'a T,

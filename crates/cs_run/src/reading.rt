@@ -23,8 +23,8 @@ fn end_after(start: u64, count: usize) -> u64
     start.saturating_add(count as u64)
 }
 
-/// A copy of the name; None if there is no name. It is the same as `try_clone_name` of cs_overlay,
-/// which that crate doesn't export.
+/// A copy of the name; None if there is no name. The error is out of memory. `try_clone_name` of
+/// cs_overlay is the same, but private there: change both.
 fn try_clone_name(name: Option<&Name>) -> Result<Option<Name>, AllocError>
     ensures { IfOk result (λ copy. copy ≡ option_copied name.entry) }
 {
@@ -35,7 +35,7 @@ fn try_clone_name(name: Option<&Name>) -> Result<Option<Name>, AllocError>
 }
 
 /// The place from which the next read of the directory continues, after this page; None if the page
-/// has no entry.
+/// has no entry. The error is out of memory.
 fn place_after(call: &ReadCall, page: &Page) -> Result<Option<Place>, AllocError>
     ensures value { IfOk result (λ place. place ≡ place_after call.now (page_of page.now)) }
     ensures memory { OnErr result (has_some (page_of page.now).bytes ≡ true) }
@@ -49,8 +49,9 @@ fn place_after(call: &ReadCall, page: &Page) -> Result<Option<Place>, AllocError
     }))
 }
 
-/// Reads as many whole entries of a directory as fit into the bytes that the call asks for, from
-/// the call's place on; perhaps none. It can run out of memory only if an entry fits.
+/// Reads, in a tree that is legal (`IsTree`), as many whole entries of a directory as fit into the
+/// bytes that the call asks for, from the call's place on; perhaps none. The error is out of
+/// memory, which happens only if an entry fits.
 fn read_entries<T: TreeRead>(alloc: Global, call: &ReadCall, tree: &T) -> Result<Data, AllocError>
     requires { IsTree (T.tree tree.now) }
     ensures value { IfOk result (λ read. read ≡ entries_given (T.tree tree.now) call.now) }
@@ -63,7 +64,8 @@ fn read_entries<T: TreeRead>(alloc: Global, call: &ReadCall, tree: &T) -> Result
     Ok(Data::new(page.bytes, place))
 }
 
-/// Whether the number is that of a directory; false if there is no such file.
+/// Whether the number is that of a directory; false of another file, and if there is no such file.
+/// The clause `is_tree` is here because `read_entries` requires it.
 fn is_of_directory<T: TreeRead>(tree: &T, number: u64) -> bool
     ensures value { result ≡ on_file (T.tree tree.now) number is_directory }
     ensures is_tree { IsTree (T.tree tree.now) }
@@ -75,7 +77,8 @@ fn is_of_directory<T: TreeRead>(tree: &T, number: u64) -> bool
 }
 
 /// Reads bytes of a file, or whole entries of a directory. A read of a file that is gone returns no
-/// bytes. Memory can run out only for a read that returns a byte.
+/// bytes, and so does one past the end. The error is out of memory, which happens only for a read
+/// that returns a byte.
 // the bytes are asked for first, since a file is then looked up only once
 pub fn read<T: TreeRead>(alloc: Global, call: &ReadCall, tree: &T) -> Result<Data, AllocError>
     ensures value { IfOk result (λ read. read ≡ data_read (T.tree tree.now) call.now) }

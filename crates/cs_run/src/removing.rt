@@ -14,8 +14,8 @@ use cs_permit::{RemoveCall, laws};
 use cs_tree_model::TreeStore;
 use std::alloc::{AllocError, Global};
 
-/// Removes the file, which may be an empty directory, from the tree. If memory runs out, the tree
-/// is as it was.
+/// Removes the file, which may be an empty directory, from the tree. The error is out of memory;
+/// the tree stays as it was. The caller has checked the rules of a remove; no version may overflow.
 fn remove_file<T: TreeStore>(
     alloc: Global,
     call: &RemoveCall,
@@ -36,8 +36,9 @@ fn remove_file<T: TreeStore>(
     tree.remove(alloc, call.number, stamp)
 }
 
-/// Removes a file or an empty directory, and releases the fid's open, if it has one. If memory runs
-/// out, the open is released, but the tree is as it was.
+/// Removes a file or an empty directory, and releases the fid's open, if it has one. The caller has
+/// checked the rules of a remove. The error is out of memory: the open is released then, but the
+/// tree is as it was. No version may overflow, as `act` requires.
 #[tactic(auto, unfolding(crate::specs::Effects::remove_effect))]
 pub fn act_remove<T: TreeStore>(
     alloc: Global,

@@ -8,7 +8,8 @@ use cs_permit::{StatCall, stat_ref};
 use cs_tree_model::TreeRead;
 use std::alloc::{AllocError, Global};
 
-/// The answer to a stat: the file's fields, or a denial by H2 if the file is gone.
+/// The answer to a stat: the file's fields, or a denial by H2 if the file is gone. The error is out
+/// of memory.
 pub(crate) fn act_stat<T: TreeRead>(
     alloc: Global,
     call: &StatCall,

@@ -23,7 +23,8 @@ use cs_wire::Qid;
 use std::alloc::{AllocError, Global};
 
 /// The walk of these names from the file of number `start`, as far as the rules allow; without
-/// names it ends at `start`. `start_file` is the record of that file, None if the file is gone.
+/// names it ends at `start`. The error is out of memory. `start_file` must be the record of that
+/// file, None if the file is gone.
 // a record is large: not inline, it would be passed in memory
 #[inline(always)]
 fn walk_names<'a, T: TreeRead>(
@@ -56,9 +57,10 @@ fn walk_names<'a, T: TreeRead>(
     Ok(Walk::new(qids, None, last))
 }
 
-/// As `walk`, with the record of the file from which the call starts: `start_file` is that record,
-/// None if the file is gone.
-// a record is large, as above
+/// The walk that a call asks for, as `walk` returns it, by a caller that has looked up the file
+/// from which it starts: `start_file` is its record, None if the file is gone. The error is out of
+/// memory.
+// a record is large: not inline, it would be passed in memory
 #[inline(always)]
 fn requested_walk<'a, T: TreeRead>(
     alloc: Global,
@@ -84,8 +86,8 @@ fn requested_walk<'a, T: TreeRead>(
 }
 
 /// The walk that a call asks for, as far as the rules allow; a rule that stops it is in the result.
-/// Only the qids are allocated, once for all names. Each name costs one look-up of a name and one
-/// of a record.
+/// Only the qids are allocated, once for all names; the error is out of memory. Each name costs one
+/// look-up of a name and one of a record.
 // `act` calls `act_walk` instead, so this must not make `grant` larger
 #[inline(never)]
 pub fn walk<T: TreeRead>(
@@ -130,8 +132,8 @@ fn walk_allowed<T: TreeRead>(
     }
 }
 
-/// Does a walk as `act` does. Its rules are checked as the walk goes, so that each name, and the
-/// file from which the walk starts, is looked up only once.
+/// Does a walk as `act` does; a walk changes neither tree nor opens. Its rules are checked as the
+/// walk goes, so that each name, and the file from which the walk starts, is looked up only once.
 // an answer is large: inline, it would be copied once more
 #[inline(never)]
 #[tactic(auto, unfolding(crate::specs::Outcomes::outcome))]

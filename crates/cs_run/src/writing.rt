@@ -12,8 +12,8 @@ use cs_permit::{WriteCall, write_start};
 use cs_tree_model::{Kind, TreeRead, TreeStore};
 use std::alloc::{AllocError, Global};
 
-/// The offset at which the write begins: cs_permit's `write_start`. None if the write has no byte,
-/// or the file is a directory or gone.
+/// The offset at which the write begins, by cs_permit's `write_start`: the end of an append-only
+/// file, else the call's offset. None if the write has no byte, or the file is a directory or gone.
 fn start_of_write<T: TreeRead>(tree: &T, call: &WriteCall<'_>) -> Option<u64>
     ensures writes { is_some result ≡ writes (T.tree tree.now) call.now }
     ensures start { IfSome result (λ start. start ≡ write_start (T.tree tree.now) call.now) }
@@ -28,8 +28,9 @@ fn start_of_write<T: TreeRead>(tree: &T, call: &WriteCall<'_>) -> Option<u64>
     }
 }
 
-/// Writes the call's bytes at its `start_of_write`, or nothing if that is None. If memory runs out,
-/// the tree is as it was.
+/// Writes the call's bytes at its `start_of_write`, or nothing if that is None. The error is out of
+/// memory; the tree stays as it was. The caller has checked the rules of a write; no version may
+/// overflow.
 fn write_bytes<T: TreeStore>(
     alloc: Global,
     call: &WriteCall<'_>,
@@ -49,8 +50,10 @@ fn write_bytes<T: TreeStore>(
     tree.write_at(alloc, call.number, start, call.bytes.as_slice(), stamp)
 }
 
-/// Writes all bytes of the call into its file; the answer is their count. Nothing is written into a
-/// directory, on which no fid is open for writing. If memory runs out, the tree is as it was.
+/// Writes all bytes of the call into its file, at the end if it is append-only, else at the call's
+/// offset; the answer is their count. Nothing is written into a directory, on which no fid is open
+/// for writing. The caller has checked the rules of a write. The error is out of memory; the tree
+/// stays as it was. No version may overflow, as `act` requires.
 #[tactic(auto, unfolding(crate::specs::Effects::write_effect))]
 pub fn act_write<T: TreeStore>(
     alloc: Global,

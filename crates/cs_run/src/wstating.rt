@@ -59,7 +59,7 @@ fn requested_group(
 }
 
 /// The fields of this file that a wstat changes, each with its new value; None for each field that
-/// stays.
+/// stays. The error is out of memory.
 fn change_of<T: TreeRead>(
     alloc: Global,
     tree: &T,
@@ -82,7 +82,8 @@ fn change_of<T: TreeRead>(
     })
 }
 
-/// The change that a wstat asks for, which may have no field; None if its file is gone.
+/// The change that a wstat asks for, which may have no field; None if its file is gone. The error
+/// is out of memory.
 fn requested_change<T: TreeRead>(
     alloc: Global,
     tree: &T,
@@ -109,8 +110,9 @@ fn changes_some(change: &Change) -> bool
         || change.mtime.is_some()
 }
 
-/// Makes `change`, the change that the wstat asks for, unless it has no field. If memory runs out,
-/// the tree is as it was.
+/// Makes `change`, the change that the wstat asks for, unless it has no field. The error is out of
+/// memory; the tree stays as it was. The caller has checked the rules of a wstat; no version may
+/// overflow.
 fn change_by<T: TreeStore>(
     alloc: Global,
     call: &WstatCall,
@@ -134,8 +136,10 @@ fn change_by<T: TreeStore>(
     tree.change(alloc, call.number, change, stamp)
 }
 
-/// Changes all fields of a file for which the wstat has a new value. If it has none, or the file is
-/// gone, nothing changes, and the answer is the same. If memory runs out, the tree is as it was.
+/// Changes all fields of a file for which the wstat has a new value. The caller has checked the
+/// rules of a wstat. If it has no new value, or the file is gone, nothing changes, and the answer
+/// is Changed, too. The error is out of memory; the tree stays as it was. No version may overflow,
+/// as `act` requires.
 #[tactic(auto, unfolding(crate::specs::Effects::wstat_effect))]
 pub fn act_wstat<T: TreeStore>(
     alloc: Global,

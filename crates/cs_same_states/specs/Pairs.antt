@@ -43,7 +43,7 @@ first_content p n = content_by p p.places.now n
 abbrev pub second_content : Pair → ℕ → Content
 second_content p n = content_by p p.others.now n
 
--- and of its owner, group and permissions
+-- what a set leaves of the owner, group and permissions of the file
 abbrev pub owner_by : Pair → List ℕ → ℕ → Rights
 owner_by p places n =
     owner_left n (slice_index_or p.tables.now.owners.items n no_rights) p.ops.now places
@@ -54,7 +54,7 @@ first_owner p n = owner_by p p.places.now n
 abbrev pub second_owner : Pair → ℕ → Rights
 second_owner p n = owner_by p p.others.now n
 
--- and of that of the directory
+-- what a set leaves of the owner, group and permissions of the directory
 abbrev pub directory_by : Pair → List ℕ → ℕ → Rights
 directory_by p places d =
     directory_left d (slice_index_or p.tables.now.directories.items d no_rights) p.ops.now places
@@ -65,8 +65,8 @@ first_directory p d = directory_by p p.places.now d
 abbrev pub second_directory : Pair → ℕ → Rights
 second_directory p d = directory_by p p.others.now d
 
--- both leave the same size, owner, group and permissions of the file, and the same bytes in what
--- the micro-operation can change
+-- both leave the same size, owner, group and permissions of the file, and the same bytes in the
+-- part that the micro-operation can change
 pub record IsSettled (p : Pair) (n : ℕ) (o : MicroOp) : Type 0 where
   pub size : (first_content p n).size ≡ (second_content p n).size
   pub owner : first_owner p n ≡ second_owner p n

@@ -14,7 +14,7 @@ use Rattle.cs_same_states.specs.Slots.{IsInBoth, flag_at}
 use Rattle.cs_same_states.specs.declared.pairs.Pair.{Pair}
 use Rattle.cs_same_states.specs.declared.parts.Parts.{Parts}
 
--- the tables are the trace's, and the rest is of them
+-- the tables are the trace's, and the other parts are computed from these tables
 pub record AreParts (t : Trace) (parts : Parts) : Type 0 where
   pub atlas : IsAtlas t (micros_in t) (atlas_in parts.tables)
   pub touched : AreListed parts.tables.slots.items parts.tables.steps.items parts.touched
@@ -24,8 +24,9 @@ pub record AreParts (t : Trace) (parts : Parts) : Type 0 where
 abbrev pub KeepsSlot : List Bool → List Slot → List Slot → ℕ → Type 0
 KeepsSlot fixed slots others n = (flag_at fixed n ≡ true) ⊎ IsInBoth slots others n
 
--- the file that it changes, if it has a slot, is left alike in the part that it changes; and the
--- directory whose owner, group and permissions it sets, also by making it, is left with the same
+-- both sets leave the file that the micro-operation changes, if it keeps its slot, the same in the
+-- part that it can change; and the directory whose owner, group and permissions it sets, also by
+-- making it, with the same ones
 pub record IsAlikeBy (p : Pair) (fixed : List Bool) (slots others : List Slot) (o : MicroOp)
     : Type 0 where
   pub file : (n : ℕ) → changed_file o ≡ Some n → KeepsSlot fixed slots others n → IsSettled p n o

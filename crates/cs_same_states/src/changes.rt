@@ -1,6 +1,7 @@
 //! Which micro-operations change each file of a trace, and in which blocks. This is for digests
 //! only: a wrong digest costs time, never an answer, so nothing here has a contract. A number out
-//! of range is skipped. An error means out of memory, and the caller drops what it has so far.
+//! of range is skipped. After an error the caller drops what it has so far. The blocks that are
+//! read are those that some micro-operation of the trace writes into or ends a file in.
 use crate::mixing::{digest_of_metadata, digest_of_rights};
 use cs_entries::Node;
 use cs_micro::MicroOp;
@@ -11,29 +12,31 @@ use std::alloc::{AllocError, Global};
 /// What a micro-operation does to a file.
 #[derive(Clone, Copy, Debug)]
 pub enum FileChange {
-    /// The file has this length.
+    /// The file gets this length, in bytes.
     Size(u64),
-    /// The file is written in the block at this place among those that are read.
+    /// Bytes are written into one block of the file: the one at this place among the blocks that
+    /// are read.
     Write(usize),
-    /// Owner, group and permissions, which have this digest, are set.
+    /// Owner, group and permissions with this digest are set.
     Rights(u64),
 }
 
-/// A file, with what the micro-operations do to it.
+/// A file of the trace, with what the micro-operations do to it.
 #[derive(Debug, Drop)]
 pub struct File {
-    /// The digest of its owner, group and permissions before any operation.
+    /// The digest of its owner, group and permissions at the start, or as it is made.
     pub rights: u64,
-    /// How many bytes it has before any operation.
+    /// How many bytes it has at the start, or as it is made.
     pub length: u64,
-    /// The place of each micro-operation that changes it, and the change.
+    /// The place of each micro-operation that changes it, and the change, in the order of places.
     pub changes: Vec<(u32, FileChange)>,
-    /// Its digest, once it is computed, if no micro-operation changes it.
+    /// If no micro-operation changes it: its digest, once that is computed. None before, and for
+    /// any other file.
     pub unchanged: Option<u64>,
 }
 
-/// The number of the block into which the micro-operation writes, or in which it ends a file; None
-/// if it does neither.
+/// The number, in its file, of the block into which the micro-operation writes, or in which it ends
+/// a file; None if it does neither.
 fn changed_block(size: BlockSize, op: &MicroOp) -> Option<u64> {
     match op {
         MicroOp::WriteBlock { block, .. } => Some(*block),
@@ -42,8 +45,8 @@ fn changed_block(size: BlockSize, op: &MicroOp) -> Option<u64> {
     }
 }
 
-/// The numbers of the blocks into which some micro-operation writes or in which it ends a file, of
-/// all files together, ascending and each once.
+/// The numbers of the blocks into which some micro-operation writes or in which it ends a file:
+/// those of all files in one list, ascending and each once.
 pub fn blocks_of(alloc: Global, size: BlockSize, ops: &[MicroOp]) -> Result<Vec<u64>, AllocError> {
     let mut blocks = Vec::new(alloc);
     for op in ops {
@@ -56,7 +59,7 @@ pub fn blocks_of(alloc: Global, size: BlockSize, ops: &[MicroOp]) -> Result<Vec<
     Ok(blocks)
 }
 
-/// Appends a file of this length, without changes, whose rights have this digest.
+/// Appends a file of this length whose rights have this digest, without changes.
 fn push_file(
     alloc: Global,
     files: &mut Vec<File>,
@@ -72,9 +75,9 @@ fn push_file(
     Ok(())
 }
 
-/// Appends the file that the micro-operation makes, or adds its change to the file that it changes.
-/// A micro-operation that does neither adds nothing. Nor does a write into a block that isn't one
-/// of `blocks`; each block that `changed_block` returns is.
+/// Appends the file that the micro-operation at this place makes, or adds its change to the file
+/// that it changes. If it does neither, nothing changes; nor if it writes into a block that isn't
+/// one of `blocks`, which has each block that `changed_block` returns.
 fn push_change(
     alloc: Global,
     files: &mut Vec<File>,
@@ -111,7 +114,7 @@ fn push_change(
     Ok(())
 }
 
-/// The length of a file; 0 for a directory.
+/// The length of a file in bytes; 0 for a directory. (`size_of` of cs_tar has the same body.)
 fn length_of(kind: Kind) -> u64 {
     match kind {
         Kind::Directory => 0,
@@ -119,8 +122,8 @@ fn length_of(kind: Kind) -> u64 {
     }
 }
 
-/// The files at the start, by their numbers, with their lengths and rights and no changes yet. Both
-/// are 0 until the file's record is read; of a trace each file has a record.
+/// The files at the start, by their numbers, with their lengths and the digests of their rights,
+/// and no changes yet. Both are 0 for a file without a record; in a trace each file has one.
 fn start_files(alloc: Global, trace: &Trace) -> Result<Vec<File>, AllocError> {
     let mut files = Vec::new(alloc);
     for _ in 0..trace.file_count() {
@@ -139,8 +142,9 @@ fn start_files(alloc: Global, trace: &Trace) -> Result<Vec<File>, AllocError> {
     Ok(files)
 }
 
-/// All files, by their numbers, each with the changes that micro-operations make to it. `blocks`
-/// has the numbers of the blocks that are read, as `blocks_of` returns them.
+/// All files of the trace, by their numbers, those of the start first, each with the changes that
+/// micro-operations make to it. `blocks` has the numbers of the blocks that are read, as
+/// `blocks_of` returns them.
 pub fn files_of(
     alloc: Global,
     trace: &Trace,

@@ -1,7 +1,7 @@
-//! Digests of the files of a state: of their bytes and their rights. Only those blocks of a file
-//! are read that some micro-operation writes into, or ends a file in. A wrong digest costs time,
-//! never an answer, so nothing here has a contract: a file out of range, or one that isn't there,
-//! has the digest 0, and a place out of range is no member. An error means out of memory.
+//! Digests of the files of a state: of their bytes and their rights (owner, group, permissions).
+//! Only those blocks of a file are read that some micro-operation writes into, or ends a file in. A
+//! wrong digest costs time, never an answer, so nothing here has a contract: a file out of range,
+//! or one that isn't there, has the digest 0, and a place out of range is no member.
 use crate::changes::{File, FileChange, blocks_of, files_of};
 use crate::entries::VaryingEntries;
 use crate::mixing::{digest_of_bytes, mix};
@@ -13,22 +13,31 @@ use std::alloc::{AllocError, Global};
 use std::collections::BTreeMap;
 use std::sync::Arc;
 
-/// What decides the bytes of a block of a file in a state: the last micro-operation that writes
-/// into it, the last that ends the file before the block's end, and the lesser of the file's end
-/// and the block's. All earlier ones are in the state too, since these need them.
+/// What decides the bytes of a block of a file in a state: the last member that writes into it, the
+/// last that makes the file shorter than the block's end, and where the block ends. Earlier writes
+/// and changes of size are members too, since these need them (P1). In states with equal versions
+/// of a block its bytes are equal, so it is read once for all of them.
 #[derive(Clone, Copy, Debug, PartialEq, Eq, PartialOrd, Ord)]
 struct BlockVersion {
+    /// The number of the file.
     file: u32,
+    /// The number of the block in the file.
     block: u64,
+    /// The place of the last member that writes into the block; None if none does.
     write: Option<u32>,
+    /// The place of the last member that makes the file shorter than the block's end; None if none
+    /// does.
     cut: Option<u32>,
+    /// The offset in the file at which the block ends, or the file, if that is before.
     end: u64,
 }
 
-/// A micro-operation that gives a file this length.
+/// A member that changes the size of a file, to a smaller or a greater one.
 #[derive(Clone, Copy, Debug)]
 struct Cut {
+    /// Its place.
     place: u32,
+    /// The size that it gives the file, in bytes.
     length: u64,
 }
 
@@ -37,22 +46,26 @@ struct Cut {
 struct FileLeft {
     /// The digest of owner, group and permissions.
     rights: u64,
+    /// The size, in bytes.
     length: u64,
     /// The changes of its size, without those followed by one to the same or a smaller size; so the
     /// lengths ascend.
     cuts: Vec<Cut>,
-    /// For each of the blocks that are read, the last micro-operation that writes into it.
+    /// For each of the blocks that are read, the place of the last member that writes into it; None
+    /// if none does.
     writes: Vec<Option<u32>>,
 }
 
 /// A file of a state, with one of its entries.
 #[derive(Clone, Copy)]
 pub struct FileOfState<'a> {
+    /// The scene whose state it is.
     pub scene: &'a Arc<Scene>,
     /// The state's number in the scene's plan.
     pub number: u32,
+    /// The parts of the scene's trace.
     pub parts: &'a Parts,
-    /// The entries, of which the state is the one that was noted last.
+    /// The entries; this state is the one that was noted last.
     pub entries: &'a VaryingEntries,
     /// The place of an entry that holds the file.
     pub place: u32,
@@ -63,7 +76,9 @@ pub struct FileOfState<'a> {
 /// The files of a trace, with the digests of blocks that were read so far.
 #[derive(Drop)]
 pub struct Contents {
+    /// The files, by their numbers.
     files: Vec<File>,
+    /// The size of a block, as the trace's header says.
     block_size: BlockSize,
     /// The numbers of the blocks that are read, in ascending order.
     blocks: Vec<u64>,
@@ -71,8 +86,8 @@ pub struct Contents {
     digests: BTreeMap<BlockVersion, u64>,
 }
 
-/// The file after those of its changes that the members make. `members` has, for each
-/// micro-operation, whether the state has it. `block_count` is how many blocks are read.
+/// The file after those of its changes that members make. `block_count` is how many blocks are
+/// read, of all files together.
 fn file_after(
     alloc: Global,
     file: &File,
@@ -94,14 +109,14 @@ fn file_after(
     Ok(left)
 }
 
-/// Whether the change of size leaves the file shorter than `end`.
+/// Whether the change of size makes the file shorter than `end`.
 fn is_below(cut: &Cut, end: u64) -> bool {
     cut.length < end
 }
 
 impl FileLeft {
-    /// Applies a change that the micro-operation at this place makes. After an error a change of
-    /// size is half made, so the file must not be used.
+    /// Applies a change that the member at this place makes. After an error a change of size is
+    /// half made, so the file must not be used. Callers pass only writes into blocks that are read.
     fn apply(&mut self, place: u32, change: FileChange) -> Result<(), AllocError> {
         match change {
             FileChange::Rights(rights) => self.rights = rights,
@@ -121,8 +136,7 @@ impl FileLeft {
         Ok(())
     }
 
-    /// The place of the last micro-operation that left the file shorter than `end`; None if none
-    /// did.
+    /// The place of the last member that makes the file shorter than `end`; None if none does.
     fn cut_below(&self, end: u64) -> Option<u32> {
         let count = self.cuts.partition_point(|cut| is_below(cut, end));
         let last = count.checked_sub(1)?;
@@ -131,8 +145,9 @@ impl FileLeft {
     }
 }
 
-/// Makes the state, reads a block of its file, and returns the block's digest. `block` is the
-/// block's number. 0 if the plan has no such state, or the state has no file at the entry.
+/// Makes the state, reads a block of its file, and returns the digest of the block's bytes. `block`
+/// is the block's number in the file. 0 if the plan has no such state, or if the state has no file
+/// at the entry's path.
 fn read_block_digest(
     alloc: Global,
     size: BlockSize,
@@ -173,8 +188,8 @@ impl Contents {
         })
     }
 
-    /// The digest of a block of a file in this version. The block is read only the first time, and
-    /// its digest is kept. An error keeps no new digest, and all older ones stay.
+    /// The digest of a block of a file in this version. The block is read only the first time; then
+    /// its digest is kept. After an error no new digest is kept, and the older ones stay.
     fn block_digest(
         &mut self,
         alloc: Global,
@@ -189,16 +204,17 @@ impl Contents {
         Ok(digest)
     }
 
-    /// Keeps the digest of a file that no micro-operation changes.
+    /// Keeps the digest of a file that no micro-operation changes, for all later states. If there
+    /// is no file with the number, nothing changes; callers pass files of the trace.
     fn keep_unchanged(&mut self, file: u32, digest: u64) {
         if let Some(kept) = self.files.get_mut(file as usize) {
             kept.unchanged = Some(digest);
         }
     }
 
-    /// The digest of the bytes and rights of a file of a state. `members` has, for each
-    /// micro-operation, whether the state has it. 0 if the trace has no file of that number. After
-    /// an error the digests of the blocks that were read stay kept.
+    /// The digest of the bytes and rights of a file of the state with these members. 0 if the trace
+    /// has no file with that number. After an error the digests of the blocks that were read stay
+    /// kept.
     pub fn digest_of_file(
         &mut self,
         alloc: Global,

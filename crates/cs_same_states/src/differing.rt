@@ -1,11 +1,11 @@
-//! Which micro-operations are in only one of two sets.
+//! Which micro-operations are in only one of two sets, by their places.
 ghost use Rattle.std.specs.Prelude.{IfOk};
 ghost use Rattle.cs_same_states.specs.Differences.{AreDiffering};
 
 use std::alloc::{AllocError, Global};
 
-/// The places that are in only one of two sets, ascending if both sets are. If they aren't, a place
-/// of both may be among them too, but none is left out.
+/// The places that are in only one of two sets, ascending if both lists of places are. If one list
+/// isn't, a place of both sets may be among them, but no place of only one set is left out.
 pub fn places_in_one(alloc: Global, places: &[u32], others: &[u32]) -> Result<Vec<u32>, AllocError>
     ensures { IfOk result (λ found. AreDiffering places.now others.now found.items) }
 {

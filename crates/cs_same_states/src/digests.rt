@@ -1,7 +1,7 @@
-//! The digest of a state: states with equal trees have the same. It is computed of the paths of
-//! entries, and not of the numbers of their directories: two states may have one tree by different
-//! directories. A wrong digest costs time, never an answer, so nothing here has a contract: trees
-//! are compared before two states are called equal.
+//! The digest of a state, a number: states with equal trees have the same digest. It is computed
+//! from the paths of entries, and not from the numbers of their directories: two states may have
+//! equal trees with different directories. A wrong digest costs time, never an answer, so nothing
+//! here has a contract: trees are compared before two states are called equal.
 use crate::contents::{Contents, FileOfState};
 use crate::entries::{DirectoryRights, VaryingEntries};
 use crate::mixing::mix;
@@ -14,12 +14,16 @@ use std::sync::Arc;
 /// What the digests of a trace's states are computed from.
 #[derive(Drop)]
 pub struct Digests {
+    /// The entries at which states may differ, with their paths in one state.
     entries: VaryingEntries,
+    /// The digests of the rights of directories in one state.
     rights: DirectoryRights,
+    /// The files, with the digests that are kept.
     contents: Contents,
 }
 
-/// A number that keeps files and symbolic links apart, and both from directories, which have 1.
+/// A number by which digests of regular files and of symbolic links differ: 2 and 3. Directories
+/// have 1.
 fn kind_number(kind: FileKind) -> u64 {
     match kind {
         FileKind::Regular => 2,
@@ -39,12 +43,11 @@ impl Digests {
         })
     }
 
-    /// The digest of the state of this number in the scene, which must be the one that `of` was
-    /// given, with the same parts. `members` has, for each micro-operation, whether the state has
-    /// it. The digest is the sum of those of the paths at which states differ, each with what is
-    /// there; so it doesn't depend on their order. The time is in proportion to these entries and
-    /// to the blocks that operations write. Digests of blocks are kept for later states, also after
-    /// an error, which means out of memory.
+    /// The digest of the state with this number, which has these members. The scene and the parts
+    /// must be those that `of` was given. The digest is the sum of those of the paths at which
+    /// states may differ, each with what is there; so it doesn't depend on their order. The time is
+    /// in proportion to these paths and to the blocks that operations write. Digests of blocks are
+    /// kept for later states, also after an error.
     pub fn digest_of_state(
         &mut self,
         alloc: Global,

@@ -1,6 +1,6 @@
-//! The entries at which the states of a trace differ, and where they are. This is for digests only:
-//! a wrong digest costs time, never an answer, so nothing here has a contract. What is out of range
-//! is skipped. An error means out of memory.
+//! The entries at which the states of a trace differ, and their paths in a state. This is for
+//! digests only: a wrong digest costs time, never an answer, so nothing here has a contract. What
+//! is out of range is skipped.
 use crate::mixing::{digest_of_bytes, digest_of_rights, mix};
 use crate::parts::Parts;
 use cs_apm::slot::Step;
@@ -10,40 +10,46 @@ use cs_names::Path;
 use cs_trace::Target;
 use std::alloc::{AllocError, Global};
 
-/// The entries at which states differ: those that some micro-operation touches; and of the others
-/// those that may be at different paths, or hold a file or a directory that one changes. Any other
-/// entry holds the same at the same path in every state, so digests leave its path out.
+/// The entries at which states may differ: those that some micro-operation touches; and of the
+/// others those that may be at different paths, or hold a file or a directory that one changes. Any
+/// other entry holds the same at the same path in every state, so digests leave it out.
 #[derive(Debug, Drop)]
 pub struct VaryingEntries {
-    /// The places among all entries of those that no micro-operation touches.
+    /// The places, among all entries of the tables, of those of these entries that no
+    /// micro-operation touches.
     untouched: Vec<u32>,
-    /// For each entry, the digest of its name.
+    /// For each entry of the tables, the digest of its name.
     names: Vec<u64>,
-    /// For each directory, the place of the entry that it has in the state that was noted last.
+    /// For each directory, the place of the entry that it has in the state that was noted last (by
+    /// `held`). Of the root, and of a directory that this state doesn't have, it means nothing.
     homes: Vec<u32>,
 }
 
 /// Which files and directories some micro-operation changes, by their numbers.
 #[derive(Drop)]
 struct Changed {
+    /// Of files: their size, bytes, owner, group or permissions.
     files: Vec<bool>,
+    /// Of directories: their owner, group and permissions; not what is in them.
     directories: Vec<bool>,
 }
 
-/// Sets the flag; one that isn't there is skipped.
+/// Sets the flag with this number. If there is none, nothing changes. (`set_slot`, `set_digest` and
+/// the body of `note_home` do the same with another value.)
 fn set_flag(flags: &mut [bool], number: u32) {
     if let Some(flag) = flags.get_mut(number as usize) {
         *flag = true;
     }
 }
 
-/// The flag; false if it isn't there.
+/// The flag with this number; false if there is none. (`flag_at` of `slots` and `is_member` of
+/// cs_state do the same.)
 fn flag_at(flags: &[bool], number: u32) -> bool {
     flags.get(number as usize).copied().unwrap_or(false)
 }
 
-/// Which files some micro-operation changes, and of which directories one sets the owner, group and
-/// permissions.
+/// Which files some micro-operation changes, and of which directories some `set_attr` sets the
+/// owner, group and permissions. Making them isn't a change.
 fn changed_by(alloc: Global, parts: &Parts, ops: &[MicroOp]) -> Result<Changed, AllocError> {
     let mut files = Vec::from_slice(alloc, &parts.tables.changed)?;
     let mut directories = vec![in alloc; false; parts.tables.directories.len()]?;
@@ -58,7 +64,7 @@ fn changed_by(alloc: Global, parts: &Parts, ops: &[MicroOp]) -> Result<Changed, 
     Ok(Changed { files, directories })
 }
 
-/// Whether a micro-operation changes the file, or the directory's owner, group or permissions.
+/// Whether some micro-operation changes the file, or the directory's owner, group or permissions.
 fn is_changed(changed: &Changed, node: Node) -> bool {
     match node {
         Node::Directory(number) => flag_at(&changed.directories, number),
@@ -69,8 +75,9 @@ fn is_changed(changed: &Changed, node: Node) -> bool {
 /// The places of the entries that hold something at the start and that no micro-operation touches,
 /// but that may be at different paths, or whose file or directory is changed. An entry stays at its
 /// path if it is in the root, or in a directory whose own entry isn't touched and stays. Entries
-/// are in the order of their directories' numbers, and those of the start are numbered from above:
-/// so a directory's own entry comes before those in it. If it didn't, they would count as varying.
+/// are in the order of their directories' numbers, and a directory of the start has a higher number
+/// than its parent: so a directory's own entry comes before those in it. If it didn't, these would
+/// count as varying, which only costs time.
 fn untouched_places(alloc: Global, parts: &Parts, ops: &[MicroOp]) -> Result<Vec<u32>, AllocError> {
     let changed = changed_by(alloc, parts, ops)?;
     let mut touched = vec![in alloc; false; parts.tables.entries.len()]?;
@@ -97,7 +104,8 @@ fn untouched_places(alloc: Global, parts: &Parts, ops: &[MicroOp]) -> Result<Vec
     Ok(places)
 }
 
-/// Notes in `homes` that the directory, if the node is one, has the entry at this place.
+/// Notes in `homes` that the directory has the entry at this place. If the node is a file, or a
+/// directory that has no home there, nothing changes.
 fn note_home(homes: &mut [u32], node: Node, place: u32) {
     if let Node::Directory(number) = node {
         if let Some(home) = homes.get_mut(number as usize) {
@@ -120,7 +128,8 @@ fn start_homes(alloc: Global, parts: &Parts) -> Result<Vec<u32>, AllocError> {
     Ok(homes)
 }
 
-/// Makes a step in the slots that some step changes.
+/// Makes a step in these slots, as the private function of this name in cs_apm (`slot`), which has
+/// a contract; here what is out of range is skipped.
 fn make_step(slots: &mut [Option<Node>], step: Step) {
     match step {
         Step::Set(place, slot) => set_slot(slots, place, slot),
@@ -135,15 +144,14 @@ fn make_step(slots: &mut [Option<Node>], step: Step) {
     }
 }
 
-/// Puts this into the slot of the place.
+/// Puts this into the slot of the place. If there is none, nothing changes, as in `set_flag`.
 fn set_slot(slots: &mut [Option<Node>], place: u32, slot: Option<Node>) {
     if let Some(old) = slots.get_mut(place as usize) {
         *old = slot;
     }
 }
 
-/// What is in the slots that some step changes, in a state. `members` has, for each
-/// micro-operation, whether the state has it.
+/// What a state has in the slots that some step changes, in the order of `parts.touched`.
 fn touched_left(
     alloc: Global,
     parts: &Parts,
@@ -159,7 +167,8 @@ fn touched_left(
 }
 
 impl VaryingEntries {
-    /// The entries at which the states of the trace with these parts and micro-operations differ.
+    /// The entries at which the states of the trace with these parts and micro-operations may
+    /// differ. No state is noted yet: directories are where they are at the start.
     pub fn of(alloc: Global, parts: &Parts, ops: &[MicroOp]) -> Result<VaryingEntries, AllocError> {
         let mut names = Vec::new(alloc);
         for entry in &parts.tables.entries {
@@ -172,9 +181,9 @@ impl VaryingEntries {
         })
     }
 
-    /// The entries that hold something in a state, each with its place among all entries. Where the
-    /// directories are in that state is noted, for the calls that follow. `members` has, for each
-    /// micro-operation, whether the state has it.
+    /// Those of these entries that hold something in the state with these members, each with its
+    /// place among all entries of the tables. The state is noted: `digest_of_path` and `path_of`
+    /// are of it until the next call. After an error it is noted only in part.
     pub fn held(
         &mut self,
         alloc: Global,
@@ -204,7 +213,7 @@ impl VaryingEntries {
     }
 
     /// The place of the entry that the directory has in the state that was noted last; None for the
-    /// root.
+    /// root, which has no entry, and for a directory out of range.
     fn home(&self, directory: u32) -> Option<u32> {
         if directory == 0 {
             return None;
@@ -212,12 +221,12 @@ impl VaryingEntries {
         self.homes.get(directory as usize).copied()
     }
 
-    /// The digest of the path of the entry at this place in the state that was noted last: that of
-    /// its names, from the last to the first.
+    /// The digest of the path that the entry at this place has in the state that was noted last: of
+    /// the digests of its names, from the last name to the first.
     pub fn digest_of_path(&self, parts: &Parts, place: u32) -> u64 {
         let mut digest = 0;
         let mut next = Some(place);
-        // A path has fewer names than there are directories, and one more.
+        // A path has at most as many names as there are directories, since none is above itself.
         for _ in 0..self.homes.len() {
             let Some(place) = next else {
                 return digest;
@@ -231,7 +240,7 @@ impl VaryingEntries {
         digest
     }
 
-    /// The path of the entry at this place in the state that was noted last.
+    /// The path that the entry at this place has in the state that was noted last.
     pub fn path_of(&self, alloc: Global, parts: &Parts, place: u32) -> Result<Path, AllocError> {
         let mut names = Vec::new(alloc);
         let mut next = Some(place);
@@ -247,19 +256,21 @@ impl VaryingEntries {
     }
 }
 
-/// The digests of the owner, group and permissions of directories, in one state after another.
+/// The digests of the owner, group and permissions (the rights) of directories, in one state after
+/// another.
 #[derive(Debug, Drop)]
 pub struct DirectoryRights {
-    /// Those of each directory by its number, as it is made.
+    /// The digests before any change, in the order of `directories` of the tables.
     start: Vec<u64>,
-    /// Those in the state that was noted last.
+    /// The digest of each directory in the state that was noted last, by its number.
     left: Vec<u64>,
-    /// The place of each micro-operation that sets them, or makes a directory with them; the
-    /// directory's number; and their digest.
+    /// For each micro-operation that sets the rights of a directory or makes one with them: its
+    /// place, the directory's number, and the digest of the rights.
     changes: Vec<(u32, u32, u64)>,
 }
 
-/// Replaces the digest of a directory.
+/// Replaces the digest of the directory with this number. If there is none, nothing changes, as in
+/// `set_flag`.
 fn set_digest(digests: &mut [u64], number: u32, digest: u64) {
     if let Some(old) = digests.get_mut(number as usize) {
         *old = digest;
@@ -267,7 +278,8 @@ fn set_digest(digests: &mut [u64], number: u32, digest: u64) {
 }
 
 impl DirectoryRights {
-    /// The digests of the directories as they are made.
+    /// The digests of the rights of the trace's directories. No state is noted yet: directories
+    /// have the rights that they are made with.
     pub fn of(
         alloc: Global,
         parts: &Parts,
@@ -302,7 +314,8 @@ impl DirectoryRights {
         })
     }
 
-    /// Notes the digests in the state that has these members.
+    /// Notes the digests of the rights of all directories in the state that has these members, for
+    /// `digest_of`: of each, those of the last member that sets them, or those at the start.
     pub fn note(&mut self, members: &[bool]) {
         for (_, number, _) in &self.changes {
             let first = self.start.get(*number as usize).copied().unwrap_or(0);
@@ -315,7 +328,8 @@ impl DirectoryRights {
         }
     }
 
-    /// The digest of the directory of the number in the state that was noted last.
+    /// The digest of the rights of the directory with this number in the state that was noted last;
+    /// 0 if there is no such number.
     pub fn digest_of(&self, number: u32) -> u64 {
         self.left.get(number as usize).copied().unwrap_or(0)
     }

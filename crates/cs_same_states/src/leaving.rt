@@ -1,4 +1,6 @@
-//! Whether two sets are seen to leave equal trees, without making the trees.
+//! Whether two sets are seen to leave equal trees, without making the trees. "Seen" means that true
+//! is proved right, and that false may be wrong: the caller then makes the trees. Slots, files and
+//! directories are "alike" if both sets leave the same in them.
 ghost use Rattle.std.specs.Prelude.{◌≡◌, ◌<◌, ℕ, length, slice_index_or, IfOk, IsTrue, Some};
 ghost use Rattle.cs_micro.specs.Micros.{micros_in};
 ghost use Rattle.cs_apm.specs.Contents.{IsSmall};
@@ -26,17 +28,20 @@ use cs_micro::MicroOp;
 use cs_plan::Scene;
 use std::alloc::{AllocError, Global};
 
-/// What two sets leave in the slots that some step changes, and for each file whether it is in a
-/// slot that no step changes.
+/// What two sets leave in the slots that some step changes, and which files are in other slots.
 #[derive(Clone, Copy)]
 struct Slots<'a> {
+    /// What the first set leaves in the slots that some step changes.
     first: &'a [Option<Node>],
+    /// What the second set leaves in them, in the same order.
     second: &'a [Option<Node>],
+    /// For each file, by its number, whether it is in a slot that no step changes.
     in_unchanged_slot: &'a [bool],
 }
 
 /// Whether the file that `op` changes is the same after both sets in the part that `op` can change.
-/// True also if `op` changes no file, or one that isn't in the same slot after both sets.
+/// True also if `op` changes no file, or one that isn't in the same slot after both sets: such a
+/// file is compared whole, slot by slot (`are_all_alike`).
 fn is_file_alike_by(
     alloc: Global,
     pair: &Pair<'_>,
@@ -62,8 +67,8 @@ fn is_file_alike_by(
     }
 }
 
-/// Whether the directory whose owner, group and permissions `op` sets, also by making it, has the
-/// same after both sets. True also if `op` sets those of none.
+/// Whether the directory that `op` makes, or whose owner, group and permissions it sets, has the
+/// same ones after both sets. True also if `op` neither makes a directory nor sets one's.
 fn is_directory_alike_by(pair: &Pair<'_>, op: &MicroOp) -> bool
     requires { IsPair pair.now }
     ensures { IsTrue result → (d : ℕ) → owners.directory_set op.now ≡ Some d
@@ -75,9 +80,9 @@ fn is_directory_alike_by(pair: &Pair<'_>, op: &MicroOp) -> bool
     }
 }
 
-/// Whether what `op` changes is alike after both sets: the part of its file, or the owner, group
-/// and permissions of its directory. Directories are compared also where they aren't in a slot: if
-/// that says that they differ, only time is lost.
+/// Whether what `op` changes is the same after both sets: the part of its file, or the owner, group
+/// and permissions of its directory. A directory is compared even if neither set leaves it in a
+/// slot; if that makes the answer false, only time is lost.
 fn is_alike_by(
     alloc: Global,
     pair: &Pair<'_>,
@@ -98,7 +103,8 @@ fn is_alike_by(
     is_file_alike_by(alloc, pair, slots, op)
 }
 
-/// Whether `is_alike_by` is true for the micro-operation at this place; true if there is none.
+/// Whether `is_alike_by` is true for the micro-operation at this place. No caller passes a place
+/// out of range; the answer would be true.
 fn is_alike_at(
     alloc: Global,
     pair: &Pair<'_>,
@@ -140,9 +146,9 @@ fn are_alike_by(
     Ok(true)
 }
 
-/// Whether both sets of a pair are seen to leave equal trees: the slots are alike after both, and
-/// so is each file or directory that a micro-operation of only one set changes. If false, the trees
-/// may be equal or not. `fixed` has, for each file, whether it is in a slot that no step changes.
+/// Whether both sets of a pair are seen to leave equal trees: the slots are alike, and so is each
+/// file or directory that a micro-operation of only one set changes. If false, the trees may be
+/// equal or not. `fixed` has, for each file, whether it is in a slot that no step changes.
 fn is_equal_pair(
     alloc: Global,
     pair: &Pair<'_>,
@@ -172,9 +178,10 @@ fn is_equal_pair(
     are_alike_by(alloc, pair, &slots, &found)
 }
 
-/// Whether two sets are seen to leave equal trees. If false, the trees may be equal or not. Of a
-/// file that is in the same slot after both sets, only the bytes are read that a micro-operation of
-/// only one set can change. If a slot has different files after the two sets, both are read whole.
+/// Whether two allowed sets, each given by its places, are seen to leave equal trees. If false, the
+/// trees may be equal or not. Of a file that is in the same slot after both sets, only those bytes
+/// are read that a micro-operation of only one set can change. If a slot has different files after
+/// the two sets, both are read whole.
 pub fn are_seen_equal(
     alloc: Global,
     scene: &Scene,

@@ -1,5 +1,9 @@
-//! Which states of a plan have equal trees. First their digests are compared (digests, entries,
-//! contents), then what their micro-operations leave (parts, leaving), and at last whole trees.
+//! Which states of a plan have equal trees. First their digests are compared (modules digests,
+//! entries, contents), then what their micro-operations leave in slots and files (parts, leaving),
+//! and at last whole trees (trees). Each error here is that memory ran out; then what the call had
+//! made is dropped, and what it was given can still be used, unless its comment says otherwise. In
+//! comments, a file may be a symbolic link, and `members` has for each micro-operation whether a
+//! state has it.
 #![tactic(auto)]
 
 mod changes;

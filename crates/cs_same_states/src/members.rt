@@ -1,4 +1,4 @@
-//! Which micro-operations a state has.
+//! Which micro-operations a state of the plan has: its members.
 ghost use Rattle.std.specs.Prelude.{◌≡◌, ◌<◌, length, Some, IfOk};
 ghost use Rattle.cs_apm.specs.Orders.{needs_of};
 ghost use Rattle.cs_sets.specs.Sets.{IsAllowed};
@@ -9,7 +9,8 @@ use cs_plan::Scene;
 use cs_plan::members::places_of;
 use std::alloc::{AllocError, Global};
 
-/// The places of the micro-operations of the state of this number, in ascending order.
+/// The places of the micro-operations that the state with this number has, in ascending order: an
+/// allowed set. The plan must have the number.
 pub fn places_at(alloc: Global, scene: &Scene, number: u32) -> Result<Vec<u32>, AllocError>
     requires { number < length scene.now.plan }
     ensures set { IfOk result (λ places. set_at scene.now number ≡ Some places.items) }
@@ -27,8 +28,8 @@ pub fn places_at(alloc: Global, scene: &Scene, number: u32) -> Result<Vec<u32>, 
     Ok(places)
 }
 
-/// For each of the first `count` micro-operations, whether its place is among `places`. This is for
-/// digests only, so it has no contract. A place out of range is skipped.
+/// For each of the first `count` micro-operations, whether its place is among `places`. A place out
+/// of range is skipped. This is for digests only, so it has no contract.
 pub fn member_flags(alloc: Global, count: usize, places: &[u32]) -> Result<Vec<bool>, AllocError> {
     let mut members = vec![in alloc; false; count]?;
     for place in places {

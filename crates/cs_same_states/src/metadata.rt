@@ -1,4 +1,4 @@
-//! Whether two records have equal metadata.
+//! Whether two records have equal metadata: all but the bytes. Nothing here allocates.
 ghost use Rattle.std.specs.Prelude.{◌≡◌, ◌↔◌, IsTrue};
 ghost use Rattle.cs_tree_model.specs.Record.{metadata_of_ref};
 
@@ -19,8 +19,8 @@ fn are_same_kinds(kind: Kind, other: Kind) -> bool
     kind == other
 }
 
-/// Whether two records name the same owner, the same group and the same user who changed the file
-/// last.
+/// Whether two records have the same owner, the same group and the same user who changed the file
+/// last (muid).
 fn have_same_user_names(metadata: &Metadata<'_>, other: &Metadata<'_>) -> bool
     ensures { IsTrue result ↔
         ((metadata.now.owner.now ≡ other.now.owner.now)
@@ -32,7 +32,7 @@ fn have_same_user_names(metadata: &Metadata<'_>, other: &Metadata<'_>) -> bool
         && is_same_user_name(metadata.muid, other.muid)
 }
 
-/// Whether two records have the same number, version, mode and times.
+/// Whether two records have the same number, version, mode, and times of reading and writing.
 fn have_same_numbers(metadata: &Metadata<'_>, other: &Metadata<'_>) -> bool
     ensures { IsTrue result ↔
         ((metadata.now.number ≡ other.now.number) × (metadata.now.vers ≡ other.now.vers)
@@ -46,7 +46,8 @@ fn have_same_numbers(metadata: &Metadata<'_>, other: &Metadata<'_>) -> bool
         && metadata.mtime == other.mtime
 }
 
-/// Whether two records have equal metadata. Allocates nothing.
+/// Whether two records have equal metadata: number, version, owner, group, mode, times, muid, kind
+/// and length.
 pub fn are_same_metadata(metadata: &Metadata<'_>, other: &Metadata<'_>) -> bool
     ensures { IsTrue result ↔ (metadata_of_ref metadata.now ≡ metadata_of_ref other.now) }
 {

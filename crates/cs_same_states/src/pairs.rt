@@ -1,4 +1,5 @@
-//! Whether two sets of micro-operations leave a file the same.
+//! Whether two sets of micro-operations leave a file, or the owner, group and permissions of a
+//! directory, the same. If an answer is true, they do; if it is false, they may, too.
 ghost use Rattle.std.specs.Prelude.{◌≡◌, ◌≤◌, ◌+◌, ◌<◌, ◌^◌, ◌↔◌, ℕ, length, IfOk, IsTrue};
 ghost use Rattle.cs_apm.specs.Atlases.{content_before};
 ghost use Rattle.std.specs.List.{All};
@@ -20,17 +21,23 @@ use cs_micro::MicroOp;
 use cs_trace::{Rights, Trace};
 use std::alloc::{AllocError, Global};
 
-/// Two sets of a trace's micro-operations: those at `places`, and those at `others`.
+/// Two sets of a trace's micro-operations, which are compared.
 #[derive(Clone, Copy)]
 pub struct Pair<'a> {
+    /// The trace.
     pub trace: &'a Trace,
+    /// Its micro-operations.
     pub ops: &'a [MicroOp],
+    /// Its tables.
     pub tables: &'a Tables,
+    /// The places of the members of the first set.
     pub places: &'a [u32],
+    /// The places of the members of the second set.
     pub others: &'a [u32],
 }
 
-/// Whether both have the same owner, group and permissions.
+/// Whether both have the same owner, group and permissions. If not, it is false; the contract says
+/// only that true is right.
 pub fn are_equal_rights(rights: &Rights, other: &Rights) -> bool
     ensures { IsTrue result → rights.now ≡ other.now }
 {
@@ -39,8 +46,9 @@ pub fn are_equal_rights(rights: &Rights, other: &Rights) -> bool
         && rights.permissions == other.permissions
 }
 
-/// Whether both sets leave the file with the same size and with the same bytes in the span. `start`
-/// has the file's bytes at the start.
+/// Whether both sets leave the same window of the file: the same size of the whole file, and the
+/// same bytes in the span. `start` has the file's bytes before any micro-operation changes it. The
+/// span's bytes are copied for both sets.
 fn are_same_windows(
     alloc: Global,
     pair: &Pair<'_>,
@@ -70,7 +78,7 @@ fn are_same_windows(
 }
 
 /// Whether `file` after the first set has the same owner, group and permissions as `other` after
-/// the second set.
+/// the second set. Both are files of the trace.
 fn are_same_owners(pair: &Pair<'_>, file: u32, other: u32) -> bool
     requires pair { IsPair pair.now }
     requires first { file < length pair.now.tables.now.owners.items }
@@ -83,8 +91,8 @@ fn are_same_owners(pair: &Pair<'_>, file: u32, other: u32) -> bool
     are_equal_rights(owner, another)
 }
 
-/// Whether both sets leave the directory of the number with the same owner, group and permissions.
-/// False if the trace has no such directory.
+/// Whether both sets leave the directory with this number with the same owner, group and
+/// permissions. False if the trace has no such directory.
 pub fn are_same_directories(pair: &Pair<'_>, directory: u32) -> bool
     requires { IsPair pair.now }
     ensures { IsTrue result
@@ -99,8 +107,10 @@ pub fn are_same_directories(pair: &Pair<'_>, directory: u32) -> bool
     are_equal_rights(rights, others)
 }
 
-/// Whether the file has the same size, owner, group and permissions after both sets, and the same
-/// bytes where the micro-operation `op` can change them. False if the trace has no such file.
+/// Whether the file, which `op` changes, is the same after both sets as far as `op` can change it:
+/// it has the same size, owner, group and permissions, and the same bytes in the span that `op` can
+/// change. Callers pass an `op` that is in only one of the sets. False if the trace has no such
+/// file.
 pub fn is_settled(
     alloc: Global,
     pair: &Pair<'_>,
@@ -123,7 +133,8 @@ pub fn is_settled(
     are_same_windows(alloc, pair, start, file, span)
 }
 
-/// All bytes of the file after the micro-operations at `places`, which are one of the pair's sets.
+/// All bytes of the file, up to its size, after the micro-operations at `places`, which are one of
+/// the pair's sets.
 fn all_bytes_left(
     alloc: Global,
     pair: &Pair<'_>,

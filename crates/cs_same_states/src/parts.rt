@@ -11,17 +11,20 @@ use cs_names::laws::know;
 use cs_plan::Scene;
 use std::alloc::{AllocError, Global};
 
-/// The tables of a trace, the slots that some step changes, and for each file whether it is in a
-/// slot that no step changes.
+/// What is computed once from a trace, to compare its states. Nothing changes it afterwards.
+/// Functions that take parts ask in `requires` that they are those of the trace, as `Parts::of`
+/// returns them.
 #[derive(Drop)]
 pub struct Parts {
+    /// The tables of the trace.
     pub tables: Tables,
+    /// The slots that some step changes.
     pub touched: Touched,
+    /// For each file, by its number, whether it is at the start in a slot that no step changes.
     pub in_unchanged_slot: Vec<bool>,
 }
 
-/// For each file, whether it is at the start in a slot whose id is not one of `ids`. An error means
-/// out of memory.
+/// For each file, by its number, whether it is at the start in a slot whose id is not one of `ids`.
 fn files_in_unchanged_slots(
     alloc: Global,
     tables: &Tables,
@@ -38,7 +41,7 @@ impl Parts {
     ghost use Rattle.std.specs.Prelude.{IfOk};
     ghost use Rattle.cs_same_states.specs.Parts.{AreParts};
 
-    /// The parts of the scene's trace. An error means out of memory.
+    /// The parts of the scene's trace. The trace is broken up again for them.
     pub fn of(alloc: Global, scene: &Scene) -> Result<Parts, AllocError>
         ensures { IfOk result (AreParts scene.now.trace) }
     {

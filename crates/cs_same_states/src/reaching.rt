@@ -12,15 +12,18 @@ use cs_entries::Node;
 use cs_micro::MicroOp;
 use cs_trace::{LARGE_FILE_BYTES, Target};
 
-/// `count` bytes from an offset on.
+/// Some bytes of a file, one after another.
 #[derive(Clone, Copy, Debug)]
 pub struct Span {
+    /// The offset of the first byte.
     pub offset: u64,
+    /// How many bytes; may be 0.
     pub count: u64,
 }
 
-/// The file whose size, bytes, owner, group or permissions the micro-operation changes; None if it
-/// changes no file.
+/// The number of the file whose size, bytes, owner, group or permissions the micro-operation
+/// changes; None if it changes no file. One that makes, links, moves or removes a file doesn't
+/// change it.
 pub fn changed_file(op: &MicroOp) -> Option<u32>
     ensures { result ≡ reaching.changed_file op.now }
 {
@@ -35,8 +38,8 @@ pub fn changed_file(op: &MicroOp) -> Option<u32>
     }
 }
 
-/// The number of the directory whose owner, group and permissions the micro-operation sets, also by
-/// making it; None if it sets those of none.
+/// The number of the directory that the micro-operation makes, or whose owner, group and
+/// permissions it sets; None if it does neither. (`directory_set` of cs_state has the same body.)
 pub fn directory_set(op: &MicroOp) -> Option<u32>
     ensures { result ≡ owners.directory_set op.now }
 {
@@ -53,8 +56,8 @@ pub fn directory_set(op: &MicroOp) -> Option<u32>
     }
 }
 
-/// The lesser of `floor` and the size that the micro-operation gives the file; `floor` if the
-/// micro-operation gives it none.
+/// The lesser of `floor` and the size that the micro-operation gives the file; `floor` if it
+/// doesn't change the size of this file.
 fn floor_after(file: u32, floor: u64, op: &MicroOp) -> u64
     ensures { result ≡ floor_after file floor op.now }
 {
@@ -73,8 +76,9 @@ fn floor_after(file: u32, floor: u64, op: &MicroOp) -> u64
     }
 }
 
-/// The file's floor: the least size that a micro-operation gives the file, or LARGE_FILE_BYTES if
-/// none gives it a size. A change of the file's size changes no byte before the floor.
+/// The file's floor: the least size that some micro-operation of the trace gives the file, or
+/// LARGE_FILE_BYTES if none gives it a size. A change of the file's size changes no byte before the
+/// floor, whatever other members a set has.
 pub fn floor_of(ops: &[MicroOp], file: u32) -> u64
     ensures { result ≡ floor_in ops.now file }
 {
@@ -86,7 +90,7 @@ pub fn floor_of(ops: &[MicroOp], file: u32) -> u64
 }
 
 /// The size of the file after a micro-operation, if its size before is `size`: the same, unless the
-/// micro-operation sets it. As the private `size_after` of cs_state.
+/// micro-operation sets it. `size_after` in `file_steps` of cs_state has the same body.
 fn size_after_op(file: u32, size: u64, op: &MicroOp) -> u64
     ensures { result ≡ windows.size_after file size op.now }
 {
@@ -99,7 +103,8 @@ fn size_after_op(file: u32, size: u64, op: &MicroOp) -> u64
     }
 }
 
-/// The size of the file after the micro-operations at `places`; `size` is its size before them.
+/// The size of the file in bytes after the micro-operations at `places`; `size` is its size before
+/// them.
 pub fn size_after_places(file: u32, size: u64, ops: &[MicroOp], places: &[u32]) -> u64
     requires { All (λ place. place < length ops.now) places.now }
     ensures { result ≡ fold (windows.size_after file) size (map (op_at ops.now) places.now) }
@@ -111,8 +116,8 @@ pub fn size_after_places(file: u32, size: u64, ops: &[MicroOp], places: &[u32]) 
     left
 }
 
-/// The bytes from the offset `from` on and before `end`; none if `end` is not after `from`, so the
-/// difference saturates at 0.
+/// The bytes from the offset `from` on and before the offset `end`; none if `end` isn't after
+/// `from`.
 fn span_between(from: u64, end: u64) -> Span
     ensures few { result.offset + result.count < 2 ^ 64 }
     ensures all { (i : ℕ) → from ≤ i → i < end → (result.offset ≤ i)
@@ -124,8 +129,9 @@ fn span_between(from: u64, end: u64) -> Span
     }
 }
 
-/// The bytes that the micro-operation can change in its file, if that has this floor and this size:
-/// none after the file's end, and none if the micro-operation changes no file's bytes.
+/// The bytes that the micro-operation can change in its file, if that file has this floor (as
+/// `floor_of` says) and ends with this size: those that a write writes before the file's end, or
+/// those between floor and end for a change of size. None for any other micro-operation.
 pub fn span_reached(op: &MicroOp, floor: u64, size: u64) -> Span
     requires { IsSmall op.now }
     ensures few { result.offset + result.count < 2 ^ 64 }

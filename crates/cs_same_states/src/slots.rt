@@ -1,4 +1,6 @@
-//! Which files are in slots, and whether two sets leave the same in the slots.
+//! Which files are in slots, and whether two sets leave the same in the slots. A slot is what an
+//! entry holds: a directory, a file or nothing. If an answer about two sets is true, they do leave
+//! the same; if it is false, they may, too.
 ghost use Rattle.std.specs.Prelude.{◌≡◌, ◌<◌, ◌⊎◌, ◌↔◌, ℕ, fold, length, IfOk, IsTrue, Some};
 ghost use Rattle.cs_apm.specs.Slots.{slot_at};
 ghost use Rattle.cs_same_states.specs.Pairs.{IsPair};
@@ -12,8 +14,8 @@ use crate::pairs::{Pair, are_same_files};
 use cs_entries::{FileKind, Node};
 use std::alloc::{AllocError, Global};
 
-/// Sets the flag of the file that is in the slot. A slot without a file, and a file without a flag,
-/// set none.
+/// Sets the flag of the file that is in the slot. If the slot has no file, or the file has no flag,
+/// nothing changes.
 fn set_flag(flags: &mut [bool], slot: Option<Node>)
     ensures { flags.new ≡ flagged flags.old slot }
 {
@@ -33,8 +35,7 @@ fn flag_all(flags: &mut [bool], slots: &[Option<Node>])
     }
 }
 
-/// For each of the first `count` files, whether it is in one of these slots. An error means out of
-/// memory.
+/// For each of the first `count` files, by its number, whether it is in one of these slots.
 pub fn files_in_slots(
     alloc: Global,
     slots: &[Option<Node>],
@@ -47,7 +48,8 @@ pub fn files_in_slots(
     Ok(flags)
 }
 
-/// The file's flag; false if it has none.
+/// The flag of the file with this number; false if it has none. (`flag_at` of `entries` and
+/// `is_member` of cs_state do the same.)
 pub fn flag_at(flags: &[bool], file: u32) -> bool
     ensures { result ≡ model.flag_at flags.now file }
 {
@@ -55,6 +57,7 @@ pub fn flag_at(flags: &[bool], file: u32) -> bool
 }
 
 /// Whether this file is in the slot; false for a slot with a directory and for an empty one.
+/// (`is_held` of cs_different has the same body.)
 fn is_file(slot: Option<Node>, file: u32) -> bool
     ensures { IsTrue result ↔ (file_in slot ≡ Some file) }
 {
@@ -64,7 +67,8 @@ fn is_file(slot: Option<Node>, file: u32) -> bool
     }
 }
 
-/// Whether the file is in the same slot in both lists, which are of the same length.
+/// Whether the file is in the same slot in both lists, which have the same length. A file may be in
+/// several slots: one that is the same is enough.
 pub fn is_in_both(slots: &[Option<Node>], others: &[Option<Node>], file: u32) -> bool
     requires { length slots.now ≡ length others.now }
     ensures { IsInBoth slots.now others.now file → IsTrue result }
@@ -87,7 +91,7 @@ fn is_same_kind(kind: FileKind, other: FileKind) -> bool
     }
 }
 
-/// Whether one file is seen to have the same record after the first set as another after the second
+/// Whether `file` after the first set is seen to have the same record as `other` after the second
 /// set: they are of one kind, with equal bytes, owner, group and permissions. All bytes are
 /// compared.
 fn are_files_alike(
@@ -109,8 +113,9 @@ fn are_files_alike(
 }
 
 /// Whether two nodes, as the first set and the second set leave them in one slot, are seen to be
-/// alike: the same directory, the same file, or two files with the same record. The same file's
-/// bytes aren't compared here, and neither are the rights of the same directory.
+/// alike: the same directory, the same file, or two files with the same record. If both are the
+/// same directory or file, its bytes and rights aren't compared here, but by `are_alike_by` in
+/// `leaving`.
 fn are_nodes_alike(
     alloc: Global,
     pair: &Pair<'_>,
@@ -131,8 +136,8 @@ fn are_nodes_alike(
     }
 }
 
-/// Whether `slot`, as the first set leaves it, is seen to have the same as `other`, as the second
-/// set leaves it: both nothing, or what `are_nodes_alike` finds alike.
+/// Whether one slot, which the first set leaves as `slot` and the second as `other`, is seen to be
+/// alike: empty after both, or with nodes that `are_nodes_alike` finds alike.
 fn are_alike(
     alloc: Global,
     pair: &Pair<'_>,
@@ -149,8 +154,8 @@ fn are_alike(
     }
 }
 
-/// Whether `are_alike` is true for each slot and the one at the same place in `others`, which is of
-/// the same length.
+/// Whether `are_alike` is true for each slot of the first set and the slot at the same place of the
+/// second, `others`, which has the same length.
 pub fn are_all_alike(
     alloc: Global,
     pair: &Pair<'_>,

@@ -1,4 +1,6 @@
-//! The bytes of a file before any micro-operation changes it.
+//! The bytes of a file before any micro-operation changes it. The three functions here are also in
+//! `file_steps` of cs_state, which lends them to its own modules only: change both together. Those
+//! in `files` of cs_apm copy the bytes.
 ghost use Rattle.std.specs.Prelude.{◌≡◌, slice_index_or};
 ghost use Rattle.cs_apm.specs.Atlases.{AreMakings, AreStarts, content_before, content_made};
 ghost use Rattle.cs_apm.specs.States.{content_of_bytes, files_made, no_content};
@@ -8,8 +10,9 @@ use cs_apm::tables::Tables;
 use cs_micro::MicroOp;
 use cs_trace::Trace;
 
-/// The bytes that the micro-operation makes a file or a symbolic link with; none if it makes
-/// neither.
+/// The bytes with which the micro-operation makes a symbolic link: its target. Empty if it makes
+/// anything else, or nothing: a new file has no bytes. (`bytes_made` of cs_state has the same
+/// body.)
 fn bytes_made(op: &MicroOp) -> &[u8]
     ensures { content_of_bytes result.now ≡ content_made op.now }
 {
@@ -19,8 +22,9 @@ fn bytes_made(op: &MicroOp) -> &[u8]
     }
 }
 
-/// The bytes with which a micro-operation makes the file of this number after the start's; empty if
-/// none does. `makings` has the place of the making of each of them.
+/// The bytes with which a file that isn't there at the start is made; empty if no micro-operation
+/// makes it. `number` counts only such files, from 0, and `makings` has the place of the making of
+/// each. (`made_bytes` of cs_state has the same body.)
 fn made_bytes<'a>(ops: &'a [MicroOp], makings: &[u32], number: usize) -> &'a [u8]
     requires { AreMakings ops.now makings.now }
     ensures { whole_content result.now
@@ -32,9 +36,9 @@ fn made_bytes<'a>(ops: &'a [MicroOp], makings: &[u32], number: usize) -> &'a [u8
     }
 }
 
-/// The bytes of the file at the start, or those that it is made with: a symbolic link's target. The
-/// record that `tables` has for a file at the start is a file's, so it has bytes. `start_bytes` of
-/// cs_state has the same body: change both.
+/// The bytes of the file at the start, or those with which it is made: the target of a symbolic
+/// link, or none. Empty if the trace has no such file. The tables must be those of the trace and
+/// its micro-operations. (`start_bytes` of cs_state has the same body.)
 pub fn start_bytes<'a>(
     trace: &'a Trace,
     ops: &'a [MicroOp],

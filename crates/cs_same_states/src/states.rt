@@ -1,4 +1,5 @@
-//! For each state of a plan the first one with an equal tree.
+//! For each state of a plan, the first state with an equal tree. How many lines were acknowledged
+//! isn't looked at: states with equal trees may differ in it.
 ghost use Rattle.std.specs.Prelude.{◌≡◌, ◌<◌, ◌≤◌, ◌^◌, ◌↔◌, ℕ, length, slice_index, IfOk, IfSome};
 ghost use Rattle.std.specs.Prelude.{IsTrue};
 ghost use Rattle.std.specs.Arc.{arc_value};
@@ -16,7 +17,7 @@ use std::alloc::{AllocError, Global};
 use std::collections::BTreeMap;
 use std::sync::Arc;
 
-/// Makes the state of a number that the plan has. An error means out of memory.
+/// Makes the state with this number, which the plan has.
 fn make_known(alloc: Global, scene: &Arc<Scene>, number: u32) -> Result<Published, AllocError>
     requires { number < length (arc_value scene.now).plan }
     ensures { IfOk result (λ made. state_at (arc_value scene.now) number ≡ Some made.tree) }
@@ -29,8 +30,8 @@ fn make_known(alloc: Global, scene: &Arc<Scene>, number: u32) -> Result<Publishe
     }
 }
 
-/// Whether the states of two numbers of the plan have equal trees. Both states are made for this,
-/// and compared whole.
+/// Whether the states with these two numbers, which the plan has, have equal trees. Both states are
+/// made for this, and compared whole.
 pub fn are_same_states(
     alloc: Global,
     scene: &Arc<Scene>,
@@ -48,8 +49,8 @@ pub fn are_same_states(
     are_same_trees(alloc, made.store(), others.store())
 }
 
-/// Whether the states of two numbers of the plan are seen to have equal trees, without making them.
-/// If false, the trees may be equal or not.
+/// Whether the states with these two numbers, which the plan has, are seen to have equal trees,
+/// without making them. If false, the trees may be equal or not: ask `are_same_states`.
 pub fn are_seen_same(
     alloc: Global,
     scene: &Arc<Scene>,
@@ -69,8 +70,8 @@ pub fn are_seen_same(
     are_seen_equal(alloc, scene, parts, &places, &others)
 }
 
-/// Whether the states of two numbers of the plan have equal trees, as `are_same_states`, but the
-/// states are made only if `are_seen_same` is false.
+/// Whether the states with these two numbers have equal trees, as `are_same_states`. The states are
+/// made only if `are_seen_same` is false.
 fn have_equal_trees(
     alloc: Global,
     scene: &Arc<Scene>,
@@ -92,7 +93,7 @@ fn have_equal_trees(
 }
 
 /// The place in `numbers` of the first number that is less than `number` and whose state has the
-/// same tree as the state of `number`; None if `numbers` has no such number.
+/// same tree as the state with `number`. None if there is none.
 fn place_among(
     alloc: Global,
     scene: &Arc<Scene>,
@@ -111,7 +112,7 @@ fn place_among(
         ≡ state_at (arc_value scene.now) number)) }
 {
     for (place, other) in numbers.iter().enumerate() {
-        // `first_of` has smaller numbers only; its proof takes that from here
+        // `first_of` passes smaller numbers only; its proof takes that from this test.
         if *other < number && have_equal_trees(alloc, scene, parts, *other, number)? {
             return Ok(Some(place));
         }
@@ -119,11 +120,11 @@ fn place_among(
     Ok(None)
 }
 
-/// The number of the first state with the tree of the next state, or the next state's own number if
-/// no earlier state has that tree. The next state's number is the length of `firsts`, and `digest`
-/// is its digest. `found` has, by digest, the latest state of each tree, since states with close
-/// numbers differ by little and are compared fast. The next state is put into `found`; an error,
-/// which means out of memory, leaves `found` as it was.
+/// The number of the first state with the same tree as the next state, or the next state's own
+/// number if no earlier state has that tree. The next state is the one after those of `firsts`, and
+/// `digest` is its digest. `found` has, by digest, the latest state of each tree, since states with
+/// close numbers differ by little and are compared fast. The next state is put into `found`; an
+/// error leaves `found` as it was.
 fn first_of(
     alloc: Global,
     scene: &Arc<Scene>,
@@ -153,8 +154,8 @@ fn first_of(
     Ok(firsts[last as usize])
 }
 
-/// The digest of the plan's state of this number. A wrong digest costs only time, so no clause says
-/// what the digest is. After an error, `digests` can still be used.
+/// The digest of the state with this number. A wrong digest costs only time, so no clause says what
+/// it is. After an error, `digests` can still be used.
 fn digest_at(
     alloc: Global,
     scene: &Arc<Scene>,
@@ -170,9 +171,8 @@ fn digest_at(
 }
 
 /// For each state of the plan, by its number, the number of the first state with an equal tree: its
-/// own if there is no earlier one. That it is the first rests on the digests, since only states
-/// with equal digests are compared; the contract says that its tree is equal and that it isn't
-/// later. An error means out of memory.
+/// own if there is no earlier one. That it is the first isn't proved, since only states with equal
+/// digests are compared; the contract says that its tree is equal and that it isn't later.
 pub fn first_same(alloc: Global, scene: &Arc<Scene>) -> Result<Vec<u32>, AllocError>
     ensures { IfOk result (λ firsts. AreFirsts (arc_value scene.now) firsts.items) }
 {

@@ -1,6 +1,7 @@
 //! The slots that some step changes, and the steps renumbered to these slots. The other slots have
 //! the same in every state, so the slots of two states are compared without them. A slot's id is
-//! its place among all slots. An error means out of memory; the caller then drops the ids.
+//! its place among all slots of the tables. After an error some ids may have been appended; the
+//! caller drops them.
 ghost use Rattle.std.specs.Prelude.{◌≡◌, ◌+◌, ◌*◌, ◌<◌, ◌≤◌, ◌^◌, ℕ, fold, length, map, None, IfOk};
 ghost use Rattle.std.specs.Prelude.{IfSome, OnOk};
 ghost use Rattle.std.specs.List.{All};
@@ -13,14 +14,14 @@ use cs_apm::slot::{Step, make_steps};
 use cs_entries::Node;
 use std::alloc::{AllocError, Global};
 
-/// The slots that some step changes.
+/// The slots that some step changes, in the order in which steps first name them.
 #[derive(Debug, Drop)]
 pub struct Touched {
     /// The ids of these slots.
     pub ids: Vec<u32>,
-    /// What is in them at the start.
+    /// What these slots have at the start, in the order of `ids`.
     pub slots: Vec<Option<Node>>,
-    /// All steps of the trace, with the slots' places in `ids`.
+    /// All steps of the trace. Their places are those in `ids`, not those of the tables.
     pub steps: Vec<Step>,
 }
 
@@ -50,8 +51,8 @@ fn place_or_append(ids: &mut Vec<u32>, id: u32) -> Result<u32, AllocError>
     Ok(place)
 }
 
-/// The step, with the places in `ids` of its slots instead of their ids. Ids that aren't there are
-/// appended.
+/// The step, with the places of its slots in `ids` in place of the slots' ids. Ids that aren't in
+/// `ids` are appended to it.
 fn renumber(ids: &mut Vec<u32>, step: Step) -> Result<Step, AllocError>
     requires { length ids.old.items + 2 < 2 ^ 32 }
     ensures step { IfOk result (IsRenumbered ids.new.items step) }
@@ -69,8 +70,9 @@ fn renumber(ids: &mut Vec<u32>, step: Step) -> Result<Step, AllocError>
     }
 }
 
-/// The steps, each as `renumber` makes it. `ids` is empty at first, and afterwards has the id of
-/// each slot that a step changes, once. At most 2^20 steps have less than 2^32 ids, two each.
+/// The steps, each as `renumber` makes it. `ids` must be empty, and afterwards has the id of each
+/// slot that a step changes, once. There may be at most 2^20 steps: each has two ids at most, so
+/// there are less than 2^32.
 fn renumber_all(alloc: Global, ids: &mut Vec<u32>, steps: &[Step]) -> Result<Vec<Step>, AllocError>
     requires none { length ids.old.items ≡ 0 }
     requires few { length steps.now ≤ 2 ^ 20 }
@@ -83,7 +85,7 @@ fn renumber_all(alloc: Global, ids: &mut Vec<u32>, steps: &[Step]) -> Result<Vec
     Ok(made)
 }
 
-/// What is in each of the slots of these ids; None for an id out of range.
+/// What is in each of the slots with these ids; None for an empty slot, and for an id out of range.
 fn slots_at(
     alloc: Global,
     slots: &[Option<Node>],
@@ -98,7 +100,7 @@ fn slots_at(
     Ok(found)
 }
 
-/// Empties the slots of these ids; an id out of range is skipped.
+/// Empties the slots with these ids; an id out of range is skipped.
 pub fn clear_slots(slots: &mut [Option<Node>], ids: &[u32])
     ensures long { length slots.new ≡ length slots.old }
     ensures others { (id : ℕ) → IsUnlisted ids.now id
@@ -112,8 +114,8 @@ pub fn clear_slots(slots: &mut [Option<Node>], ids: &[u32])
 }
 
 impl Touched {
-    /// The slots that one of the steps changes, with the steps renumbered. There are at most 2^20
-    /// steps, as for `renumber_all`.
+    /// The slots that one of the steps changes, with the steps renumbered. `slots` are all slots at
+    /// the start, and `steps` all steps, at most 2^20.
     pub fn of(alloc: Global, slots: &[Option<Node>], steps: &[Step]) -> Result<Touched, AllocError>
         requires { length steps.now ≤ 2 ^ 20 }
         ensures { IfOk result (λ touched. AreListed slots.now steps.now touched) }
@@ -124,8 +126,8 @@ impl Touched {
         Ok(Touched { ids, slots, steps })
     }
 
-    /// What the steps at `places` leave in these slots, if they are made in this order from the
-    /// start.
+    /// What these slots have if the steps at `places` are made in this order, from the start on, in
+    /// the order of `ids`.
     pub fn slots_left(&self, alloc: Global, places: &[u32]) -> Result<Vec<Option<Node>>, AllocError>
         requires fit { All (FitsIn (length self.now.slots.items)) self.now.steps.items }
         requires inside { All (λ place. place < length self.now.steps.items) places.now }

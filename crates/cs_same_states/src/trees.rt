@@ -1,4 +1,5 @@
-//! Whether two trees are equal. A file may be a directory here, as in `TreeRead`.
+//! Whether two trees are equal. A file may be a directory here, as in `TreeRead`, and its number is
+//! that of its record.
 ghost use Rattle.std.specs.Prelude.{◌≡◌, ◌↔◌, IfOk, IsTrue};
 ghost use Rattle.cs_tree_model.specs.Record.{metadata_of};
 ghost use Rattle.cs_tree_model.specs.Tree.{bytes_at, name_numbered, parent_numbered};
@@ -12,8 +13,8 @@ use cs_names::laws::know;
 use cs_tree_model::{Kind, TreeRead};
 use std::alloc::{AllocError, Global};
 
-/// Whether the file of that number is in the same directory in both trees; true if neither tree has
-/// such a file.
+/// Whether the file with this number is in the same directory in both trees; true if neither tree
+/// has such a file.
 fn have_same_parent<A: TreeRead, B: TreeRead>(tree: &A, other: &B, number: u64) -> bool
     ensures { IsTrue result ↔
         (parent_numbered (A.tree tree.now) number ≡ parent_numbered (B.tree other.now) number) }
@@ -32,8 +33,8 @@ fn is_same_name(name: Option<&Name>, other: Option<&Name>) -> bool
     }
 }
 
-/// Whether the file of that number has the same name in both trees; true if neither tree has such a
-/// file.
+/// Whether the file with this number has the same last name in both trees; true if neither tree has
+/// such a file, and for the root, which has no name.
 fn have_same_name<A: TreeRead, B: TreeRead>(tree: &A, other: &B, number: u64) -> bool
     ensures { IsTrue result ↔
         (name_numbered (A.tree tree.now) number ≡ name_numbered (B.tree other.now) number) }
@@ -41,8 +42,8 @@ fn have_same_name<A: TreeRead, B: TreeRead>(tree: &A, other: &B, number: u64) ->
     is_same_name(tree.name_of(number), other.name_of(number))
 }
 
-/// Whether the first `count` bytes of the file of that number are the same in both trees; true if
-/// neither tree has such a file.
+/// Whether the first `count` bytes of the file with this number are the same in both trees; true if
+/// neither tree has such a file. They are copied from both trees.
 fn have_same_bytes<A: TreeRead, B: TreeRead>(
     alloc: Global,
     tree: &A,
@@ -59,8 +60,8 @@ fn have_same_bytes<A: TreeRead, B: TreeRead>(
     Ok(bytes == others)
 }
 
-/// Whether the file of that number has the same record in both trees, and the same bytes; true if
-/// neither tree has such a file.
+/// Whether the file with this number has the same metadata and the same bytes in both trees; true
+/// if neither tree has such a file.
 fn have_same_record<A: TreeRead, B: TreeRead>(
     alloc: Global,
     tree: &A,
@@ -86,8 +87,8 @@ fn have_same_record<A: TreeRead, B: TreeRead>(
     }
 }
 
-/// Whether the file of that number has the same directory, name, record and bytes in both trees;
-/// true if neither tree has such a file.
+/// Whether the file with this number has the same directory, name, metadata and bytes in both
+/// trees; true if neither tree has such a file.
 fn are_same_at<A: TreeRead, B: TreeRead>(
     alloc: Global,
     tree: &A,

@@ -1,4 +1,5 @@
-//! Some bytes of a file from an offset on, as a set leaves them. No other byte of the file is read.
+//! Some bytes of a file from an offset on (a window), as a set leaves them. No other byte of the
+//! file is read. (The windows in which a check divides a long trace are another thing.)
 ghost use Rattle.std.specs.Prelude.{◌≡◌, ◌+◌, ◌<◌, ◌^◌, length, IfOk};
 ghost use Rattle.std.specs.List.{All};
 ghost use Rattle.cs_apm.specs.Contents.{IsSmall, content_after, content_left};
@@ -11,15 +12,18 @@ use cs_micro::MicroOp;
 use cs_state::file_part::{copy_part, write_piece, zero_past};
 use std::alloc::{AllocError, Global};
 
-/// The file's size, and some of its bytes from an offset on, with zeros past the file's end.
+/// The size of a file, and some of its bytes from an offset on.
 #[derive(Debug, Drop)]
 pub struct Window {
+    /// The size of the whole file, in bytes.
     pub size: u64,
+    /// The bytes from the offset on, as many as were asked for, with zeros past the file's end.
     pub bytes: Vec<u8>,
 }
 
-/// Zeroes in the part of the file that begins at the offset what a change of the file's size from
-/// `size` to `to` cuts off. A change to the same or a greater size cuts nothing off.
+/// Changes the part of a file that begins at the offset as a change of the file's size from `size`
+/// to `to` does: what is cut off becomes zero. A change to the same or a greater size cuts nothing
+/// off.
 fn zero_cut(part: &mut [u8], offset: usize, size: u64, to: u64)
     ensures long { length part.new ≡ length part.old }
     ensures window { (f : Content) → IsWindow offset f size part.old
@@ -57,7 +61,7 @@ fn apply_to_window(part: &mut [u8], offset: usize, size: u64, file: u32, op: &Mi
             write_piece(part, offset, from, bytes.as_slice());
             size
         }
-        // `changes_file` is false for all others
+        // `changes_file` is false for all others.
         _ => unreachable!(),
     }
 }
@@ -87,7 +91,7 @@ fn apply_places(
 }
 
 /// The file's size after the micro-operations at `places`, and `count` of its bytes from the offset
-/// on, with zeros past its end. `start` has the file's bytes at the start.
+/// on, with zeros past its end. `start` has the file's bytes before any micro-operation changes it.
 pub fn window_left(
     alloc: Global,
     start: &[u8],

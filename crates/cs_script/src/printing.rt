@@ -9,7 +9,7 @@ use cs_wire::{RMessage, encode_reply};
 use std::alloc::{AllocError, Global};
 
 /// The line of a reply: the connection's number, a space, and the reply's bytes in lower case
-/// hexadecimal. The reply must fit a message.
+/// hexadecimal. The reply must fit a message. The error is out of memory.
 pub(crate) fn reply_text(alloc: Global, conn: u32, reply: &RMessage) -> Result<String, AllocError>
     requires { Fits (r_view reply.now) }
     ensures { IfOk result (λ text. string_bytes text ≡ reply_text conn (r_view reply.now)) }
@@ -20,14 +20,14 @@ pub(crate) fn reply_text(alloc: Global, conn: u32, reply: &RMessage) -> Result<S
     format!(in alloc; "{conn} {digits}\n")
 }
 
-/// The line of a hang-up: the connection's number and `closed`.
+/// The line of a hang-up: the connection's number and `closed`. The error is out of memory.
 pub(crate) fn closed_text(alloc: Global, conn: u32) -> Result<String, AllocError>
     ensures { IfOk result (λ text. string_bytes text ≡ closed_text conn) }
 {
     format!(in alloc; "{conn} closed\n")
 }
 
-/// The line of a reload that was done: `reloaded`.
+/// The line of a reload that was done: `reloaded`. The error is out of memory.
 pub(crate) fn reloaded_text(alloc: Global) -> Result<String, AllocError>
     ensures { IfOk result (λ text. string_bytes text ≡ reloaded_text) }
 {

@@ -19,13 +19,15 @@ use std::io::{Read, Write};
 /// What a script begins with: the world that its lines are run in, and the lines.
 #[derive(Drop)]
 struct Prepared {
+    /// All states are published in it.
     world: World,
+    /// All lines of the script, each legal.
     lines: Vec<ScriptLine>,
 }
 
 /// Publishes all states in a new world, reads all of the input, and checks every line of it. It
-/// writes nothing, and returns the world and the lines. After an error none, some or all of the
-/// input was read.
+/// writes nothing, and returns the world and the lines. The error is a fault of the inputs, of the
+/// script, of its stream, or out of memory; none, some or all of the input was read then.
 fn prepare<S: Stream>(
     alloc: Global,
     inputs: &Inputs,
@@ -49,8 +51,9 @@ fn prepare<S: Stream>(
 
 /// The command `script` over a stream, which gives the script and takes what it prints: publishes
 /// all states, reads all of the input, checks every line, and then runs the lines one after the
-/// other, with a line of output for each. After an error nothing was written, or some of what the
-/// first lines print, from the front. If the inputs ask for it, `err` also gets each message and
+/// other, with a line of output for each. No line runs if one is illegal. After an error nothing
+/// was written, or some of what the first lines print, from the front; a fault of the inputs or of
+/// the script comes before any output. If the inputs are verbose, `err` also gets each message and
 /// its reply as text.
 pub fn script_over<S: Stream, E: Write>(
     alloc: Global,
@@ -75,9 +78,9 @@ pub fn script_over<S: Stream, E: Write>(
     )
 }
 
-/// The command `script`, over a reader and a writer that it takes: what `script_over` does. Returns
-/// the exit status and the writer, which is flushed: 0, or 1 if it failed, which one line on `err`
-/// reports; what was written before stays.
+/// The command `script`, over a reader and a writer that it takes: what `script_over` does. The
+/// program calls this one. Returns the exit status and the writer, which is flushed: 0, or 1 if it
+/// failed, which one line on `err` reports; what was written before stays.
 pub fn script_with<R: Read + Drop, W: Write, E: Write>(
     alloc: Global,
     inputs: &Inputs,
@@ -96,9 +99,9 @@ pub fn script_with<R: Read + Drop, W: Write, E: Write>(
     (status, out)
 }
 
-/// The command `script`, over a reader and a writer that it borrows, as `script_with` does it.
-/// Returns the exit status. Nothing is said of what the two have afterwards: use `script_with` or
-/// `script_over`.
+/// Library surface: no command calls it. The command `script`, over a reader and a writer that it
+/// borrows, as `script_with` does it. Returns the exit status. Nothing is said of what the two have
+/// afterwards: use `script_with` or `script_over`.
 pub fn script_of<R: Read, W: Write, E: Write>(
     alloc: Global,
     inputs: &Inputs,

@@ -10,9 +10,9 @@ use cs_world::{Reply, Step, World};
 use std::alloc::Global;
 use std::sync::Arc;
 
-/// Publishes the states with numbers less than `count`. A refused publish ends the call with
-/// Memory: in a new world of `count` states or more there is no other cause. The states before that
-/// one stay published.
+/// Publishes the states with numbers less than `count`. The world is new, and its scene has at
+/// least `count` states, so the only cause of a refusal is out of memory: it ends the call with
+/// Memory, and the states before it stay published.
 fn publish_each(alloc: Global, world: &mut World, count: u32) -> Result<(), ProgramFault>
     ensures published { OnOk result (world.new ≡ with_first world.old count) }
     ensures fault { IfErr result IsOfNoStream }

@@ -20,8 +20,8 @@ use cs_world::{Reply, Step, World};
 use std::alloc::{AllocError, Global};
 use std::io::Write;
 
-/// Prints a message and its reply as text on `err`, if `verbose`; of bytes that can't be decoded,
-/// also because memory runs out, the fault. A failed write is passed over.
+/// Prints a message and its reply as text on `err`, if `verbose`. In place of a message that can't
+/// be decoded, also because memory runs out, it prints the fault. A failed write is ignored.
 fn print_if_verbose<E: Write>(
     alloc: Global,
     conn: u32,
@@ -35,8 +35,10 @@ fn print_if_verbose<E: Write>(
     }
 }
 
-/// Answers a message, and returns the line of the reply. If `verbose`, both are also printed on
-/// `err`. The only error is that memory for the line runs out, after the message was answered.
+/// Answers a message, and returns the line of the reply. A line of a script ensures that the
+/// connection is one of the world and that the message has at least 7 bytes. If `verbose`, the
+/// message and its reply are also printed on `err`. The only error is that memory for the line runs
+/// out, after the message was answered.
 fn answer_message<E: Write>(
     alloc: Global,
     world: &mut World,
@@ -58,8 +60,10 @@ fn answer_message<E: Write>(
     reply_text(alloc, conn, &reply)
 }
 
-/// Ends a connection, unless a run awaits its attach, and returns the line of the hang-up. The only
-/// error is that memory for the line runs out, after the connection has ended.
+/// Ends a connection, and returns the line of the hang-up. (While a run awaits its attach nothing
+/// would end; no line of a script leaves a connection so.) The only error is that memory for the
+/// line runs out, after the connection has ended. The connection must be one of the world, as a
+/// `ScriptConn` is.
 fn end_connection(
     alloc: Global,
     world: &mut World,
@@ -106,7 +110,8 @@ fn act_on_connection<E: Write>(
 
 /// Gives these users to the runs that are made later, and returns the line of the outcome:
 /// reloaded, or refused because memory ran out. The only error is that memory for the line runs
-/// out, after that outcome. `file`, from which the users were read, is only for the contract.
+/// out, after that outcome. `file`, from which the users must have been read, is only for the
+/// contract.
 fn load_users(
     alloc: Global,
     world: &mut World,
@@ -126,9 +131,9 @@ fn load_users(
     }
 }
 
-/// Gives the users of a users file to the runs that are made later, and returns the line of the
-/// outcome. A file at fault changes nothing, and its line names the fault. The only error is that
-/// memory for the line runs out, after that outcome.
+/// Gives the users of a users file (users(6)) to the runs that are made later, and returns the line
+/// of the outcome. A file at fault changes nothing, and its line names the fault. The only error is
+/// that memory for the line runs out, after that outcome.
 fn load_file(alloc: Global, world: &mut World, file: &[u8]) -> Result<String, AllocError>
     ensures ok { IfOk result (λ text. Loaded world.old file.now (string_bytes text) world.new) }
     ensures err { OnErr result ((text : List ℕ) × Loaded world.old file.now text world.new) }
@@ -181,8 +186,9 @@ fn run_line<S: Stream, E: Write>(
     }
 }
 
-/// Runs lines, one after the other, until one fails as `run_line` does; those before it were done
-/// and printed. If `verbose`, messages and their replies are also printed on `err`.
+/// Runs lines, one after the other, until one fails as `run_line` does, which is the error; those
+/// before it were done and printed, and those after it aren't run. If `verbose`, messages and their
+/// replies are also printed on `err`.
 pub(crate) fn run_lines<S: Stream, E: Write>(
     alloc: Global,
     world: &mut World,

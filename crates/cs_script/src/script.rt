@@ -18,6 +18,7 @@ use std::marker::Model;
 /// The number of a connection, from 0 to 63.
 #[derive(Debug, Drop)]
 pub struct ScriptConn {
+    /// Less than CONNECTIONS, 64.
     number: u32,
 }
 
@@ -45,6 +46,7 @@ impl ScriptConn {
 /// A message, of 7 bytes at least. Contracts see its bytes.
 #[derive(Debug, Drop)]
 pub struct ScriptMessage {
+    /// As they are sent; their first four need not spell their number.
     bytes: Vec<u8>,
 }
 
@@ -71,6 +73,7 @@ impl ScriptMessage {
 /// A users file, of one byte at least. Contracts see its bytes.
 #[derive(Debug, Drop)]
 pub struct ScriptUsers {
+    /// As a file has them; they need not be a users file.
     bytes: Vec<u8>,
 }
 
@@ -94,15 +97,20 @@ impl ScriptUsers {
 /// What is done on a connection: a message is sent, or the connection ends.
 #[derive(Debug, Drop)]
 pub enum Action {
+    /// A message is sent.
     Send(ScriptMessage),
+    /// The connection ends.
     HangUp,
 }
 
 /// An action on a connection at a moment, in seconds since 1970.
 #[derive(Debug, Drop)]
 pub struct ScriptAct {
+    /// Whose action it is.
     pub conn: ScriptConn,
+    /// In seconds since 1970. A later line may have an earlier moment.
     pub moment: u32,
+    /// What it does.
     pub action: Action,
 }
 
@@ -111,12 +119,12 @@ pub struct ScriptAct {
 pub enum ScriptLine {
     /// A connection does something.
     Act(ScriptAct),
-    /// The runs that are made later have the users of that file.
+    /// The runs that are made later have the users of that file, if it is a users file.
     Reload(ScriptUsers),
 }
 
-/// The number of bytes of size, type and tag together (intro(5)), as `HEADER_BYTES` of cs_wire: no
-/// message has fewer.
+/// The number of bytes of size, type and tag together (intro(5)): no message has fewer. cs_wire has
+/// the same constant: change both.
 const HEADER_BYTES: usize = 7;
 
 /// Whether the text is one digit or more, and nothing else.
@@ -127,7 +135,7 @@ fn is_decimal(text: &[u8]) -> bool
 }
 
 /// The number that decimal digits spell; None if there is another byte or no digit, or if the
-/// number needs more than 32 bits.
+/// number needs more than 32 bits. Zeros may lead.
 fn read_number(text: &[u8]) -> Option<u32>
     ensures { result ≡ number_in text.now }
 {
@@ -152,8 +160,8 @@ fn read_conn(text: &[u8]) -> Option<ScriptConn>
     Some(ScriptConn { number })
 }
 
-/// The bytes that hexadecimal digits spell, two digits for each; None if the text isn't such
-/// digits, or spells fewer than `least` bytes.
+/// The bytes that hexadecimal digits spell, two digits of either case for each byte; None if the
+/// text isn't such digits, or spells fewer than `least` bytes.
 fn bytes_in_hex(alloc: Global, least: usize, digits: &[u8]) -> Result<Option<Vec<u8>>, AllocError>
     ensures { IfOk result (λ bytes. option_map vec_items bytes ≡ bytes_in least digits.now) }
 {
@@ -310,7 +318,7 @@ fn push_line(
 
 /// The lines of a script; an empty script has none. A line feed at the end of the script doesn't
 /// begin a line. The error is Script at the first line that spells none, as an empty one, or is
-/// past SCRIPT_LINES; or Memory if an allocation fails before such a line.
+/// past SCRIPT_LINES; or Memory if an allocation fails before such a line is reached.
 pub fn read_script(alloc: Global, bytes: &[u8]) -> Result<Vec<ScriptLine>, ProgramFault>
     ensures read { IfOk result (λ lines. script_in bytes.now ≡ Ok lines.items) }
     ensures fault { IfErr result (λ fault. fault ≢ Memory → script_in bytes.now ≡ Err fault) }

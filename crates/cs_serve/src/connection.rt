@@ -57,8 +57,9 @@ impl<S: ServerBrand> StreamServer for Server<S> {
     }
 }
 
-/// Serves the stream of the connection `conn` to its end. Its messages are printed if the log is
-/// verbose.
+/// Serves the stream of the connection `conn` to its end, and returns what is left of it, as
+/// `serve_to_end` does. If the log is verbose, the messages are printed as the server reads them
+/// and its replies as it writes them: so a stream of Linux must be a `LinuxStream` already.
 fn serve_logged<V: StreamServer, R: Wait + Clock, E: Write, RW: Read + Write + Drop>(
     rt: &R,
     alloc: Global,
@@ -77,7 +78,7 @@ fn serve_logged<V: StreamServer, R: Wait + Clock, E: Write, RW: Read + Write + D
 
 /// Serves the client of the connection `conn` to its end, and prints how it ended, as far as the
 /// log prints that; its messages too if the log is verbose. None if its socket can't be set up:
-/// then nothing was read.
+/// then nothing was read, the connection is closed, and a verbose log has a line for it.
 pub(crate) fn serve_client<S: ServerBrand, R: Wait + Clock, E: Write>(
     rt: &R,
     alloc: Global,

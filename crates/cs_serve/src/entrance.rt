@@ -1,7 +1,11 @@
 //! The entrance of connections: a listener that threads share until no more come in.
 
 use crate::accepting::{Accepted, accept_next};
-use std::net::{SocketAddr, TcpListener, TcpStream};
+use crate::waiting::Readiness;
+use mio::Waker;
+use std::alloc::Global;
+use std::io;
+use std::net::{Net, SocketAddr, TcpListener, TcpStream};
 use std::rt::Clock;
 use std::sync::atomic::{AtomicBool, Ordering};
 use std::sync::{Mutex, Wait};
@@ -13,18 +17,23 @@ pub(crate) enum Admitted {
     Connection(u32, TcpStream, SocketAddr),
     /// None: the entrance is closed.
     Closed,
-    /// None: accepting failed, which closed the entrance.
+    /// None: accepting failed, which closed the entrance. Only the thread that met the failure is
+    /// given this; the other threads are given Closed.
     Failed,
 }
 
-/// The listener of an entrance, and the numbers of its connections.
+/// The listener of an entrance, and the numbers of its connections: all of it is under the lock of
+/// `Entrance::door`.
 #[derive(Drop)]
 struct Door {
     /// None once the entrance is closed.
     listener: Option<TcpListener>,
+    /// Waits until the listener has a client.
+    clients: Readiness,
     /// The number of the next connection.
     next: u32,
-    /// How many more connections come in. None if any number may.
+    /// How many more connections come in; 0 counts as 1 while the door is open. None if any number
+    /// may.
     left: Option<u32>,
     /// Whether accepting failed.
     failed: bool,
@@ -37,7 +46,8 @@ impl Door {
     }
 
     /// Counts a connection that came in, and returns its number. The last one that may come in
-    /// shuts the door. The number after 4,294,967,295 is 0.
+    /// shuts the door: a first one always counts, even if none was left. The number after
+    /// 4,294,967,295 is 0.
     fn count_connection(&mut self) -> u32 {
         let number = self.next;
         self.next = number.wrapping_add(1);
@@ -58,7 +68,7 @@ impl Door {
         let Some(listener) = &self.listener else {
             return Admitted::Closed;
         };
-        match accept_next(rt, listener, closing) {
+        match accept_next(rt, listener, &mut self.clients, closing) {
             Accepted::Connection(stream, from) => {
                 Admitted::Connection(self.count_connection(), stream, from)
             }
@@ -79,26 +89,38 @@ impl Door {
 /// connection, with the lock held: the others wait for the lock, and have nothing else to do.
 #[derive(Drop)]
 pub(crate) struct Entrance {
+    /// Its lock is held while a thread waits for a connection.
     door: Mutex<Door>,
     /// Whether the entrance must close. The thread that waits for a connection, and so has the
     /// lock, looks at this.
     closing: AtomicBool,
+    /// Ends the wait of that thread.
+    waker: Waker,
 }
 
 impl Entrance {
     /// An open entrance. The listener must not block. `left` connections come in: one if `left` is
-    /// 0, any number if it is None. Their numbers begin at 0, and again after 4,294,967,295.
-    pub(crate) fn new(listener: TcpListener, left: Option<u32>) -> Entrance {
+    /// 0, any number if it is None. Their numbers begin at 0, and again after 4,294,967,295. The
+    /// error is the system's, or out of memory.
+    pub(crate) fn new(
+        rt: &impl Net,
+        alloc: Global,
+        listener: TcpListener,
+        left: Option<u32>,
+    ) -> io::Result<Entrance> {
+        let (clients, waker) = Readiness::of_listener(rt, alloc, &listener)?;
         let door = Door {
             listener: Some(listener),
+            clients,
             next: 0,
             left,
             failed: false,
         };
-        Entrance {
+        Ok(Entrance {
             door: Mutex::new(door),
             closing: AtomicBool::new(false),
-        }
+            waker,
+        })
     }
 
     /// Waits for the lock, and then for the next connection, as `Door::admit_next` does.
@@ -106,10 +128,13 @@ impl Entrance {
         self.door.lock(rt).admit_next(rt, &self.closing)
     }
 
-    /// Closes the entrance for all threads. It waits for the lock until the thread that waits for a
-    /// connection notices, which is after one pause of `accept_next` at most.
+    /// Closes the entrance for all threads. It ends the wait of the thread that waits for a
+    /// connection, and waits for the lock until that thread has noticed. Connections that came in
+    /// already aren't affected.
     pub(crate) fn close(&self, rt: &impl Wait) {
         self.closing.store(true, Ordering::SeqCst);
+        // if this fails, the wait is over after a second at most
+        let _ended = self.waker.wake();
         self.door.lock(rt).shut();
     }
 

@@ -13,12 +13,15 @@ use std::collections::VecDeque;
 use std::io::{self, Read, Write};
 
 /// A stream to a client of Linux. What is read from it are requests as the client means them; what
-/// is written to it reaches the client with texts of errors that it knows. A message goes on once
-/// it is whole. If it can't be changed because memory ran out, it goes on as it is. If the client
-/// renames a file over another, more requests are read than it sent, whose replies it doesn't get.
+/// is written to it reaches the client with texts of errors that it knows. A message is passed on
+/// once it is whole. If it can't be changed because memory ran out, it is passed on unchanged. If
+/// the client renames a file over another, this stream asks further requests in its name, whose
+/// replies it doesn't get.
 #[derive(Drop)]
 pub(crate) struct LinuxStream<RW> {
+    /// The stream to the client.
     stream: RW,
+    /// For messages that are decoded or changed.
     alloc: Global,
     /// What the client sent and isn't in `to_server` yet.
     requests: Framer,
@@ -48,8 +51,9 @@ fn error_for_linux(alloc: Global, reply: &[u8]) -> Option<RMessage> {
     Some(reply_to_linux(decode_reply(alloc, reply).ok()?))
 }
 
-/// The bytes of the request that the client means by this one. None if this one goes on as it is:
-/// it isn't a Twstat, can't be decoded, is too long when changed, or memory runs out.
+/// The bytes of the request that the client means by `request`. None if `request` itself goes to
+/// the server: it isn't a Twstat, can't be decoded, is too long once it is changed, or memory runs
+/// out.
 fn request_bytes_meant(alloc: Global, request: &[u8]) -> Option<Vec<u8>> {
     let meant = request_meant_by(alloc, request)?;
     if !meant.fits() {
@@ -60,8 +64,9 @@ fn request_bytes_meant(alloc: Global, request: &[u8]) -> Option<Vec<u8>> {
     Some(bytes)
 }
 
-/// The bytes of the reply that the client gets for this one. None if this one goes on as it is: it
-/// isn't an Rerror, can't be decoded, is too long when changed, or memory runs out.
+/// The bytes of the reply that the client gets for `reply`. None if `reply` itself goes to the
+/// client: it isn't an Rerror, can't be decoded, is too long once it is changed, or memory runs
+/// out.
 fn reply_bytes_for_linux(alloc: Global, reply: &[u8]) -> Option<Vec<u8>> {
     let error = error_for_linux(alloc, reply)?;
     if !error.fits() {
@@ -72,10 +77,10 @@ fn reply_bytes_for_linux(alloc: Global, reply: &[u8]) -> Option<Vec<u8>> {
     Some(bytes)
 }
 
-/// Moves whole requests to `to_server`, as the client means them. It stops after one whose reply
-/// matters: that reply must come before the next request goes on. If the bytes after them begin no
-/// request, they are moved as they are. The error is out of memory, after which a request may be
-/// lost.
+/// Moves whole requests to `to_server`, as the client means them. It stops after a request whose
+/// reply matters (see `pending`): that reply must come before the next request is passed on. If the
+/// bytes after the whole requests can't begin a request, they are moved unchanged. The error is out
+/// of memory, after which a request may be lost.
 fn translate_requests(
     alloc: Global,
     requests: &mut Framer,
@@ -104,8 +109,8 @@ fn translate_requests(
     Ok(())
 }
 
-/// Moves all bytes that are left to `to_server`, as they are: they aren't a whole request. The
-/// error is out of memory; `requests` then still has all of them, and a part may be moved.
+/// Moves all bytes that are left to `to_server`, unchanged: they aren't a whole request. The error
+/// is out of memory; `requests` then still has all of them, and a part may be moved.
 fn move_rest(alloc: Global, requests: &mut Framer, to_server: &mut VecDeque<u8>) -> io::Result<()> {
     let (bytes, place) = requests.buffered();
     to_server.write_all(&bytes[place..])?;
@@ -114,7 +119,8 @@ fn move_rest(alloc: Global, requests: &mut Framer, to_server: &mut VecDeque<u8>)
 }
 
 /// Appends a request that no client sent, a step of a rename, as a whole message. The error is
-/// InvalidData if it is too long for one, else out of memory.
+/// InvalidData if it is too long for one, else out of memory. After an error `write` fails, which
+/// ends the connection.
 fn append_request(
     alloc: Global,
     request: &TMessage<'_>,
@@ -130,7 +136,7 @@ fn append_request(
 
 /// Appends the reply with which a rename ends, as a whole message, with a text that the client
 /// knows if it is an Rerror. The error is InvalidData if it is too long for a message, else out of
-/// memory.
+/// memory. After an error `write` fails, which ends the connection.
 fn append_reply(reply: RMessage, to_client: &mut Vec<u8>) -> io::Result<()> {
     let reply = reply_to_linux(reply);
     if !reply.fits() {
@@ -140,9 +146,10 @@ fn append_reply(reply: RMessage, to_client: &mut Vec<u8>) -> io::Result<()> {
     Ok(())
 }
 
-/// Appends to `to_client`, for each whole reply, the one that the client gets. If the server must
-/// be asked something first, that is appended to `to_server` instead. After an error the reply at
-/// which it came is lost. The server's replies are well-formed, so `next` finds no fault.
+/// Appends to `to_client`, for each whole reply of the server, the reply that the client gets. If a
+/// rename isn't finished, its next request is appended to `to_server` instead, and the client gets
+/// no reply yet. After an error the reply at which it came is lost. The server's replies are
+/// well-formed, so `next` finds no fault.
 fn translate_replies(
     alloc: Global,
     replies: &mut Framer,
@@ -164,7 +171,7 @@ fn translate_replies(
 }
 
 impl<RW> LinuxStream<RW> {
-    /// A stream over this one, of which nothing was read or written.
+    /// A `LinuxStream` over `stream`. Nothing was read or written yet.
     pub(crate) fn new(alloc: Global, stream: RW) -> LinuxStream<RW> {
         LinuxStream {
             stream,
@@ -187,8 +194,8 @@ impl<RW> LinuxStream<RW> {
         )
     }
 
-    /// Takes bytes that the client sent. No bytes mean that it sends no more: what is left goes on
-    /// as it is. The error is out of memory, after which some requests may be missing.
+    /// Takes bytes that the client sent. No bytes mean that it sends no more: what is left is
+    /// passed on unchanged. The error is out of memory, after which some requests may be missing.
     fn take_bytes(&mut self, bytes: &[u8]) -> io::Result<()> {
         if bytes.is_empty() {
             return move_rest(self.alloc, &mut self.requests, &mut self.to_server);
@@ -225,8 +232,9 @@ impl<RW: Read> Read for LinuxStream<RW> {
 }
 
 impl<RW: Write> Write for LinuxStream<RW> {
-    /// Takes bytes of replies, and writes those that the client gets of each reply that is whole
-    /// now. After an error, of the stream or out of memory, some replies may be missing.
+    /// Takes all of `buf`, which is bytes of replies, and returns its length. For each reply that
+    /// is whole now it writes the reply that the client gets, if any. After an error, of the stream
+    /// or out of memory, some replies may be missing.
     fn write(&mut self, buf: &[u8]) -> io::Result<usize> {
         let mut to_client = Vec::new(self.alloc);
         self.replies.feed(buf)?;
@@ -241,7 +249,8 @@ impl<RW: Write> Write for LinuxStream<RW> {
         Ok(buf.len())
     }
 
-    /// Flushes the stream. Bytes of a reply that isn't whole yet stay here.
+    /// Flushes the stream, whose error is returned. Bytes of a reply that isn't whole yet stay
+    /// here.
     fn flush(&mut self) -> io::Result<()> {
         self.stream.flush()
     }

@@ -6,7 +6,8 @@
 //! thread, of which contracts say little. Tests hold them: tools/tests over loopback, with the
 //! built program, and `tests`, with real threads. The clauses say what needs none of these: the
 //! lines of the runs, the users that a file spells, and that the states are those of the server's
-//! own scene.
+//! own scene. `serve_streams`, `publish_all` and `publish_into` are public for other programs: no
+//! command calls them.
 #![tactic(auto)]
 
 mod accepting;
@@ -24,9 +25,10 @@ mod serving;
 mod site;
 mod slots;
 mod summary;
+mod waiting;
 mod wall_clock;
 
-// what the command is made of
+// library surface: no command calls `serve_streams`, `publish_all` or `publish_into`
 pub use cs_connection::serve_streams;
 pub use cs_inputs::{Inputs, ProgramFault};
 pub use cs_options::{Client, Serving};

@@ -15,6 +15,7 @@ use std::sync::{Mutex, Wait};
 /// Prints lines to a writer that threads share. Its lock is held only while lines that belong
 /// together are written; then they are flushed. A line that can't be written is dropped.
 pub(crate) struct Log<'a, E> {
+    /// Standard error. Its lock is taken last: nothing else is locked while it is held.
     pub(crate) writer: &'a Mutex<E>,
     /// Whether it also prints connections, their messages, and that all states are published.
     pub(crate) verbose: bool,
@@ -65,12 +66,13 @@ impl<E: Write> Log<'_, E> {
         let _unheard = writer.flush();
     }
 
-    /// Prints a fault, after `crashfs: `.
+    /// Prints a fault as a line, after `crashfs: `, also if the log isn't verbose.
     pub(crate) fn print_fault(&self, rt: &impl Wait, fault: &impl fmt::Display) {
         self.print(rt, &format_args!("crashfs: {fault}"));
     }
 
-    /// Prints, as two faults, that the address can't be listened on, and why.
+    /// Prints two lines, each after `crashfs: `: that the server can't listen, and then the address
+    /// with the system's reason.
     pub(crate) fn print_no_listener(&self, rt: &impl Wait, address: &str, error: &io::Error) {
         self.print_fault(rt, &ProgramFault::Listen);
         self.print_fault(rt, &format_args!("{address}: {error}"));
@@ -99,7 +101,9 @@ impl<E: Write> Log<'_, E> {
     }
 
     /// Prints a message and its reply, given as bytes, and the user and the run of an attach that
-    /// was granted. These lines stay together. Only a verbose log is given messages.
+    /// was granted. These lines stay together. It doesn't ask whether the log is verbose: only
+    /// `LoggedStream` calls it, which `connection` makes for a verbose log only. What can't be
+    /// decoded is printed as such.
     pub(crate) fn print_message_and_reply(
         &self,
         rt: &impl Wait,
@@ -118,9 +122,14 @@ impl<E: Write> Log<'_, E> {
         let _unheard = writer.flush();
     }
 
-    /// Prints that no more messages of a connection are printed, because memory ran out.
+    /// Prints that no more messages of this connection are printed, because memory ran out. The
+    /// connection itself is still served. It doesn't ask whether the log is verbose: only
+    /// `LoggedStream` calls it.
     pub(crate) fn print_loss(&self, rt: &impl Wait, conn: u32) {
-        self.print(rt, &format_args!("{conn} tells no more: out of memory"));
+        self.print(
+            rt,
+            &format_args!("{conn} is no longer logged: out of memory"),
+        );
     }
 
     /// Prints that a connection wasn't served, as its socket couldn't be set up, if the log is

@@ -10,10 +10,15 @@ use std::sync::Wait;
 /// has one reply, and the replies are in the order of the messages.
 #[derive(Drop)]
 pub(crate) struct LoggedStream<'a, RW, R, E> {
+    /// The stream to the client, or to a `LinuxStream`.
     stream: RW,
+    /// For the lock of the log.
     rt: &'a R,
+    /// For messages that are decoded.
     alloc: Global,
+    /// The connection's number, with which its lines begin.
     conn: u32,
+    /// A verbose log.
     log: Log<'a, E>,
     /// What was read, from the first message on that isn't printed yet.
     messages: Framer,
@@ -41,7 +46,8 @@ fn log_each<R: Wait, E: Write>(
 }
 
 impl<'a, RW, R: Wait, E: Write> LoggedStream<'a, RW, R, E> {
-    /// A stream over this one, which is that of the connection `conn`. Nothing was read or written.
+    /// A `LoggedStream` over `stream`, which is that of the connection `conn`. Nothing was read or
+    /// written yet.
     pub(crate) fn new(
         rt: &'a R,
         alloc: Global,
@@ -114,7 +120,7 @@ impl<RW: Write, R: Wait, E: Write> Write for LoggedStream<'_, RW, R, E> {
         Ok(count)
     }
 
-    /// Flushes the stream, and prints nothing.
+    /// Flushes the stream, whose error is returned, and prints nothing.
     fn flush(&mut self) -> io::Result<()> {
         self.stream.flush()
     }

@@ -22,11 +22,14 @@ pub(crate) enum ReplyFate {
 /// taken is continued here by further requests, and the client gets one reply.
 #[derive(Drop)]
 pub(crate) struct PendingRequests {
+    /// For messages that are decoded.
     alloc: Global,
     /// How many requests aren't answered yet.
     unanswered: u64,
     /// The last of them, if its reply matters.
     last: Option<TMessage<'static>>,
+    /// The fids that walks put on directories since the last Rversion, and how many attaches there
+    /// were.
     directories: Directories,
     /// The rename that is continued, if one is.
     renaming: Option<Renaming>,
@@ -45,7 +48,7 @@ pub(crate) fn reply_type_of(reply: &[u8]) -> Option<RKind> {
 }
 
 /// The same request, owned, if its reply matters: a walk, or a rename. None for any other. The
-/// types are those that `decode_if_it_matters` decodes.
+/// types are those that `decode_if_it_matters` decodes: change both.
 fn owned_if_it_matters(request: TMessage<'_>) -> Option<TMessage<'static>> {
     let tag = request.tag;
     match request.body {
@@ -65,8 +68,8 @@ fn owned_if_it_matters(request: TMessage<'_>) -> Option<TMessage<'static>> {
 }
 
 /// The request that the bytes spell, if its reply matters. None for any other, and for bytes that
-/// can't be decoded, also because memory runs out: that request goes on as one whose reply doesn't
-/// matter. The types are those of `owned_if_it_matters`.
+/// can't be decoded, also because memory runs out: that request is passed on as one whose reply
+/// doesn't matter. The types are those of `owned_if_it_matters`: change both.
 fn decode_if_it_matters(alloc: Global, request: &[u8]) -> Option<TMessage<'static>> {
     match request_type_of(request) {
         Some(TKind::Walk | TKind::Wstat) => {}
@@ -79,8 +82,8 @@ fn decode_if_it_matters(alloc: Global, request: &[u8]) -> Option<TMessage<'stati
 }
 
 /// The reply that the bytes spell. If they can't be decoded, an Rerror `out of memory` with their
-/// tag: the server's own replies are well-formed, so only memory can be missing. The text is one
-/// that `reply_to_linux` knows.
+/// tag: the server's own replies are well-formed, so only memory can be missing. `reply_to_linux`
+/// of cs_linux knows this text.
 fn reply_of(alloc: Global, reply: &[u8]) -> RMessage {
     match decode_reply(alloc, reply) {
         Ok(reply) => reply,
@@ -109,8 +112,9 @@ impl PendingRequests {
         }
     }
 
-    /// Notes a request that the server is asked now. True if its reply matters: then no other may
-    /// be asked before that comes.
+    /// Notes a request that the client sent and the server is asked now; requests that a rename
+    /// adds are noted by `note_reply`. True if its reply matters: then no other may be asked before
+    /// that comes.
     pub(crate) fn note_request(&mut self, request: &[u8]) -> bool {
         // no connection has as many requests as a u64 counts
         self.unanswered = self.unanswered.saturating_add(1);
@@ -118,7 +122,7 @@ impl PendingRequests {
         self.last.is_some()
     }
 
-    /// What is done with a reply that leads to this step of a rename. If the step asks something,
+    /// What is done with a reply after which a rename takes this step. If the step asks something,
     /// that is noted as the only request that isn't answered.
     fn fate_after_step(&mut self, step: Step) -> ReplyFate {
         match step {
@@ -131,8 +135,8 @@ impl PendingRequests {
         }
     }
 
-    /// What is done with the reply to this walk or rename. A walk's fid is kept if it may be on a
-    /// directory. If memory runs out, the client gets the reply as it is.
+    /// What is done with the reply to this walk or rename. A walk's fid is kept in `directories` if
+    /// it may be on a directory. If memory runs out, the client gets the reply unchanged.
     fn fate_of_reply(&mut self, request: TMessage<'_>, reply: &[u8]) -> ReplyFate {
         let Ok(reply) = decode_reply(self.alloc, reply) else {
             return ReplyFate::Passed;
@@ -150,8 +154,9 @@ impl PendingRequests {
     }
 
     /// Notes the reply to the first request that isn't answered, and returns what is done with it.
-    /// An Rversion forgets the directories' fids; an Rattach is counted. A reply to a step of a
-    /// rename leads to its next step.
+    /// An Rversion forgets the directories' fids; an Rattach is counted, because a rename may use
+    /// these fids only if there was one attach. A reply to a step of a rename leads to its next
+    /// step.
     pub(crate) fn note_reply(&mut self, reply: &[u8]) -> ReplyFate {
         // the server replies only to requests
         self.unanswered = self.unanswered.saturating_sub(1);

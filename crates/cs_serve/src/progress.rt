@@ -14,14 +14,19 @@ const STATES: u32 = 1_024;
 /// log prints progress.
 #[derive(Drop)]
 pub(crate) struct ProgressGate<'a, S: ServerBrand, R, E> {
+    /// For the locks of the registry and of the log.
     pub(crate) rt: &'a R,
+    /// The server whose states are published.
     pub(crate) server: &'a Server<S>,
+    /// It prints only if its `progress` is set.
     pub(crate) log: Log<'a, E>,
 }
 
 impl<S: ServerBrand + Send + Sync, R: Wait + Sync, E: Write + Send> Gate
     for ProgressGate<'_, S, R, E> {
-    /// Prints how many states are published, if the number is a multiple of STATES and isn't 0.
+    /// Prints how many states are published, if the number is a multiple of STATES and isn't 0 and
+    /// the log prints progress. It takes the registry's lock and then, once that is free again, the
+    /// log's.
     fn before_make(&self, number: u32) {
         if number == 0 || number % STATES != 0 {
             return;

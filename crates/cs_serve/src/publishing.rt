@@ -13,7 +13,9 @@ use std::sync::Wait;
 use std::thread::Threads;
 
 /// Publishes all states of the server's scene by `workers` threads, and returns once they have
-/// ended. False if a fault was printed; some states may be published then.
+/// ended. False if a fault was printed: out of memory, a number of workers that isn't from 1 to
+/// WORKERS (the command line refuses these), or a state that was lost between threads. Some states
+/// may be published then. The type `S` must allow no other scene than the server's.
 pub(crate) fn publish_or_print<
     S: ServerBrand + Send + Sync,
     R: Threads + Wait + Sync,

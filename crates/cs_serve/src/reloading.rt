@@ -33,7 +33,7 @@ pub trait ReadsFiles {
 }
 
 impl<R: Files> ReadsFiles for R {
-    /// Opens the file, and reads it to its end.
+    /// Opens the file, and reads it to its end. The error is that of the file, or out of memory.
     fn read_file(&self, alloc: Global, path: &str) -> io::Result<Vec<u8>> {
         let mut file = fs::open(self, path)?;
         let mut bytes = Vec::new(alloc);
@@ -45,7 +45,8 @@ impl<R: Files> ReadsFiles for R {
 /// Gives the registry the users that the bytes of a users file spell, and sets `last` to the bytes;
 /// if they are those of `last` already, does nothing. After a fault of the file the users stay, but
 /// `last` is set, so that the fault is reported once. If memory runs out `last` stays too, so that
-/// the same bytes are tried again.
+/// the same bytes are tried again. The type `S` allows every list of users, as `reloading_of`
+/// requires.
 fn load<S: ServerBrand>(
     rt: &impl Wait,
     alloc: Global,
@@ -78,7 +79,7 @@ fn load<S: ServerBrand>(
 
 /// The note of the first line that ends with a carriage return; None if there is none, or if the
 /// bytes are those of `last`, of which it was printed before.
-fn note_of_change(last: &[u8], bytes: &[u8]) -> Option<ReturnNote>
+fn return_note_if_changed(last: &[u8], bytes: &[u8]) -> Option<ReturnNote>
     ensures same { last.now ≡ bytes.now → result ≡ None }
     ensures changed { last.now ≢ bytes.now → IsFirstReturn bytes.now result }
 {
@@ -103,6 +104,7 @@ struct Reload {
     /// The first line of the file that ends with a carriage return, if it has one and if the file
     /// changed.
     note: Option<ReturnNote>,
+    /// Ok if the registry has the users of the file now; else why it keeps its own.
     loaded: Result<(), ReloadFault>,
 }
 
@@ -110,10 +112,13 @@ struct Reload {
 /// nothing of it.
 #[derive(Drop)]
 pub(crate) struct Reloading<S: ServerBrand> {
+    /// Of the users file, as the command line has it.
     path: String,
-    /// The bytes that were last loaded, or refused with a line. While this lock is held, that of
-    /// the registry is taken: no other code takes a second lock.
+    /// The bytes that were last loaded, or refused with a line. The lock is held while the file is
+    /// read, too; under it that of the registry is taken. No other code holds one lock while it
+    /// takes another.
     last: Mutex<Vec<u8>>,
+    /// For the type S, whose registries may load any list of users. It has no data.
     of: PhantomData<S>,
 }
 
@@ -129,7 +134,8 @@ impl<S: ServerBrand> Model for Reloading<S> {
 }
 
 impl<S: ServerBrand> Reloading<S> {
-    /// The users file at the path. `bytes` are those that it had when the server was made.
+    /// The users file at the path. `bytes` are those that it had when the server was made. The
+    /// error is out of memory. The type `S` must allow every list of users.
     pub(crate) fn new(alloc: Global, path: &str, bytes: &[u8]) -> Result<Reloading<S>, AllocError>
         requires { (users : List Row) → S.loads users }
     {
@@ -152,7 +158,7 @@ impl<S: ServerBrand> Reloading<S> {
         let mut last = self.last.lock(rt);
         match rt.read_file(alloc, self.path.as_str()) {
             Ok(bytes) => {
-                let note = note_of_change(&last, &bytes);
+                let note = return_note_if_changed(&last, &bytes);
                 let loaded = load(rt, alloc, registry, &mut last, bytes);
                 let loaded = loaded.map_err(ReloadFault::Users);
                 Reload { note, loaded }
@@ -165,7 +171,9 @@ impl<S: ServerBrand> Reloading<S> {
     }
 
     /// Reads the file again: runs that are made from now on have its users. After a fault, which is
-    /// printed, the users stay.
+    /// printed, the users stay. A file that can't be read is reported each time; any other fault of
+    /// the same bytes only once, unless it is out of memory. A line of the file that ends with a
+    /// carriage return is reported too, and isn't a fault.
     pub(crate) fn reload_or_print<R: ReadsFiles + Wait, E: Write>(
         &self,
         rt: &R,

@@ -29,7 +29,7 @@ use std::thread;
 use std::thread::Threads;
 
 /// A server of the scene with the users of the inputs. No state is published yet. The error is a
-/// fault of the users file, or out of memory.
+/// fault of the users file, or out of memory. The type `S` must allow the scene and these users.
 pub(crate) fn server_of<S: ServerBrand>(
     alloc: Global,
     scene: Arc<Scene>,
@@ -50,7 +50,8 @@ pub(crate) fn server_of<S: ServerBrand>(
     }
 }
 
-/// The users file that is read again. None if none is. The error is out of memory.
+/// The users file that is read again; None without `reload`. The error is out of memory. With
+/// `reload` the type `S` must allow every list of users.
 fn reloading_of<S: ServerBrand>(
     alloc: Global,
     inputs: &Inputs,
@@ -67,28 +68,32 @@ fn reloading_of<S: ServerBrand>(
     }
 }
 
-/// A listener on the address, and the port that it has. It doesn't block: an accept without a
-/// connection is an error at once.
-fn listen<R: Net<Listener = TcpListener, Stream = TcpStream>>(
+/// An entrance for `left` connections, or any number if it is None, on the address, HOST:PORT, and
+/// the port that it has, which the system chose if PORT is 0.
+fn open_entrance<R: Net<Listener = TcpListener, Stream = TcpStream>>(
     rt: &R,
+    alloc: Global,
     given: &str,
-) -> io::Result<(TcpListener, u16)> {
+    left: Option<u32>,
+) -> io::Result<(Entrance, u16)> {
     let listener = TcpListener::bind(rt, given)?;
     let port = listener.local_addr()?.port();
     listener.set_nonblocking(true)?;
-    Ok((listener, port))
+    Ok((Entrance::new(rt, alloc, listener, left)?, port))
 }
 
-/// Prints the address that the server listens on, with the port that it has, and flushes.
+/// Prints the address that the server listens on, with the port that it has, and flushes. After an
+/// error a part of the line may be written.
 fn print_address<W: Write>(given: &str, taken: u16, out: &mut W) -> Result<(), ProgramFault> {
     let address = Address { given, taken };
     writeln!(out, "listening {address}").map_err(|_| ProgramFault::Output)?;
     out.flush().map_err(|_| ProgramFault::Output)
 }
 
-/// Accepts connections and serves each in a thread, and returns once all have ended. Without
-/// `ready` it also publishes the states, in another thread. False if a fault was printed; if that
-/// was a thread that can't be started, the entrance is closed.
+/// Accepts connections, serves each in one of `connections` threads, and returns once all threads
+/// have ended. Without `ready` it also publishes the states, in another thread, and waits for that
+/// too. False if a fault was printed; if that was a thread that can't be started, the entrance is
+/// closed. The type `S` must allow no other scene than the site's.
 fn serve_each<
     's,
     S: ServerBrand + Send + Sync + 's,
@@ -130,8 +135,9 @@ fn serve_each<
 }
 
 /// Makes a server of the scene, serves it, and prints the lines of its runs. `S` says which scene
-/// the server may have: this one only, and which users: those of the inputs, and with `reload` any.
-/// The result is as in `run_server`.
+/// the server may have: this one only. It also says which users it may have: those of the inputs,
+/// and with `reload` any. The result is as in `run_server`: an error is a fault that isn't printed
+/// yet.
 fn serve_scene<S: ServerBrand + Send + Sync, R, I: Read + Drop + Send, W: Write, E: Write + Send>(
     rt: &R,
     alloc: Global,
@@ -155,20 +161,20 @@ where
     if serving.ready && !publish_or_print(rt, alloc, &server, serving.workers, log) {
         return Ok(false);
     }
-    let (listener, port) = match listen(rt, serving.listen) {
-        Ok(listening) => listening,
+    let left = if serving.again {
+        None
+    } else {
+        Some(serving.connections)
+    };
+    let (entrance, port) = match open_entrance(rt, alloc, serving.listen, left) {
+        Ok(opened) => opened,
         Err(error) => {
             log.print_no_listener(rt, serving.listen, &error);
             return Ok(false);
         }
     };
     print_address(serving.listen, port, out)?;
-    let left = if serving.again {
-        None
-    } else {
-        Some(serving.connections)
-    };
-    let site = Site::new(alloc, server, Entrance::new(listener, left), reloading);
+    let site = Site::new(alloc, server, entrance, reloading);
     let served = serve_each(rt, alloc, &site, serving, input, log);
     let failed = site.entrance.has_failed(rt);
     let (server, passes) = site.into_parts();
@@ -178,8 +184,8 @@ where
     Ok(served && !failed)
 }
 
-/// The command, but for the line of a fault that ends it, which is the error. False if another
-/// fault was printed.
+/// Runs the command, as `serve_of` says. True if no fault was printed, false if one was. An error
+/// is a fault that ended the command and isn't printed yet: `serve_of` prints it.
 fn run_server<R, I: Read + Drop + Send, W: Write, E: Write + Send>(
     rt: &R,
     alloc: Global,
@@ -214,12 +220,12 @@ where
 /// have its users. If the file can't be read or isn't a users file, or if memory runs out, a line
 /// on `err` says so, and the users stay.
 ///
-/// It returns 0, or 1 if a fault was printed, each as a line on `err`. A fault of a connection, or
-/// of a users file that is read again, doesn't count for this. If accepting or publishing fails
-/// while there are connections, these are served to their end, and the runs are printed; with
-/// `again` not before `input` ends. If the inputs are verbose, `err` also gets a line for each
-/// connection that comes and for each that ends, each message with its reply, and each attach that
-/// was granted. It may wait for clients forever.
+/// It returns 0, or 1 if a fault was printed, each as a line on `err`; what it printed on `out`
+/// before that stays. A fault of a connection, or of a users file that is read again, doesn't count
+/// for this. If accepting or publishing fails while there are connections, these are served to
+/// their end, and the runs are printed; with `again` not before `input` ends. If the inputs are
+/// verbose, `err` also gets a line for each connection that comes and for each that ends, each
+/// message with its reply, and each attach that was granted. It may wait for clients forever.
 pub fn serve_of<R, I: Read + Drop + Send, W: Write, E: Write + Send>(
     rt: &R,
     alloc: Global,

@@ -8,14 +8,18 @@ use cs_shared_runs::ServerBrand;
 use std::alloc::Global;
 use std::sync::{Mutex, Wait};
 
-/// A server, the entrance of its connections, its users file if that is read again, and the passes
-/// of the connections that have ended.
+/// What the threads of one server share: the server, the entrance of its connections, its users
+/// file if that is read again, and the passes of the connections that have ended.
 #[derive(Drop)]
 pub(crate) struct Site<S: ServerBrand> {
+    /// The scene's states, the runs and the users.
     pub(crate) server: Server<S>,
+    /// The listener, with its own lock.
     pub(crate) entrance: Entrance,
+    /// The users file; None if it isn't read again.
     pub(crate) reloading: Option<Reloading<S>>,
-    /// Under a lock of its own, which a thread takes when its connection has ended.
+    /// The passes that ended connections were given. A thread takes this lock when its connection
+    /// has ended, and no other lock under it.
     passes: Mutex<GivenPasses>,
 }
 

@@ -1,5 +1,5 @@
 //! The threads that accept and serve connections, each thread one at a time, and the thread that
-//! closes the entrance when the input ends.
+//! closes the entrance when the input ends. A slot is one of the threads that serve.
 
 use crate::connection::serve_client;
 use crate::entrance::{Admitted, Entrance};
@@ -16,8 +16,8 @@ use std::sync::Wait;
 use std::thread::Scope;
 
 /// Serves one connection after another until no more come in, and keeps the passes of each. Before
-/// one is served the users file is read again, if the site has one. If accepting fails, that is
-/// printed, and the function returns.
+/// one is served the users file is read again, if the site has one. If accepting fails, the thread
+/// that met the failure prints it; all of them return.
 fn serve_slot<S: ServerBrand, R: Wait + Clock + ReadsFiles, E: Write>(
     rt: &R,
     alloc: Global,
@@ -48,7 +48,8 @@ fn serve_slot<S: ServerBrand, R: Wait + Clock + ReadsFiles, E: Write>(
 }
 
 /// Starts `slots` threads that serve connections. False if one can't be started: then that is
-/// printed, and the entrance is closed, so that the threads started before it end.
+/// printed as out of memory, and the entrance is closed, so that the threads started before it end
+/// once their connections have.
 pub(crate) fn start_slots<
     's,
     Env,
@@ -83,8 +84,8 @@ fn close_at_end<I: Read + Drop>(rt: &impl Wait, mut input: I, entrance: &Entranc
 }
 
 /// If `watched`, starts a thread that closes the entrance when `input` ends; else does nothing and
-/// returns true. False if the thread can't be started: then that is printed, and the entrance is
-/// closed.
+/// returns true. False if the thread can't be started: then that is printed as out of memory, and
+/// the entrance is closed.
 pub(crate) fn start_watch<'s, Env, R: Wait + Sync, I: Read + Drop + Send + 's, E: Write + Send>(
     scope: &'s Scope<'s, Env>,
     rt: &'s R,

@@ -13,7 +13,7 @@ use std::alloc::{AllocError, Global};
 use std::fmt;
 use std::sync::Wait;
 
-/// An audit's result, in words.
+/// An audit's result, to be printed in words.
 #[derive(Clone, Copy)]
 struct Verdict(Result<(), AuditFault>);
 
@@ -31,15 +31,15 @@ impl fmt::Display for Verdict {
     }
 }
 
-/// How many entries a run's journal has, and the result of its audit. None if the run under the
-/// lock is of another number, which can't happen.
+/// How many entries a run's journal has, and the result of its audit, to be printed. None if the
+/// run under the lock is of another number, which can't happen.
 #[derive(Clone, Copy)]
 struct Finding(Option<(usize, Result<(), AuditFault>)>);
 
 impl fmt::Display for Finding {
     ghost output = { λ finding. Some (finding_text finding.0) };
 
-    /// Writes the number of entries and the audit's result; `foreign` if there is neither.
+    /// Writes `entries 12 audit ok` or the like; `foreign` if there is neither.
     fn fmt<W: fmt::Write>(&self, f: &mut fmt::Formatter<W>) -> fmt::Result {
         match self.0 {
             Some((entries, audit)) => {
@@ -55,21 +55,24 @@ impl fmt::Display for Finding {
 /// last two are missing if the run under the lock is of another number, which can't happen.
 #[derive(Drop)]
 pub(crate) struct RunReport {
+    /// The number of its state, and its name.
     key: RunKey,
+    /// The number of entries and the audit's result; None as `Finding` says.
     finding: Option<(usize, Result<(), AuditFault>)>,
 }
 
 impl fmt::Display for RunReport {
     ghost output = { λ report. Some (run_line report) };
 
-    /// Writes the line, with its line feed.
+    /// Writes `run 3/name entries 12 audit ok` or the like, with a line feed.
     fn fmt<W: fmt::Write>(&self, f: &mut fmt::Formatter<W>) -> fmt::Result {
         let (number, name, finding) = (self.key.number(), self.key.name(), Finding(self.finding));
         write!(f, "run {number}/{name} {finding}\n")
     }
 }
 
-/// The report of a run, audited by the passes that were kept for its key.
+/// The report of a run, audited by the passes that were kept for its key. It holds the run's lock
+/// while it audits.
 fn report_of<S: ServerBrand, R: Wait>(rt: &R, run: &SharedRun<S>, passes: &GivenPasses) -> RunReport
     ensures key { result.key ≡ run.now }
     ensures report { IsReport S.serves passes.now result }
@@ -81,7 +84,7 @@ fn report_of<S: ServerBrand, R: Wait>(rt: &R, run: &SharedRun<S>, passes: &Given
     }
 }
 
-/// Adds the line of a run to the text. After an error the text is unchanged.
+/// Adds the line of a run to the text. The error is out of memory; the text is unchanged then.
 fn push_line(alloc: Global, text: &mut String, report: &RunReport) -> Result<(), AllocError>
     ensures { OnOk result
         (string_bytes text.new ≡ string_bytes text.old ++ run_line report.now) }
@@ -90,7 +93,7 @@ fn push_line(alloc: Global, text: &mut String, report: &RunReport) -> Result<(),
     text.push_str(line.as_str())
 }
 
-/// The lines of these runs, in their order. Empty if there is no run.
+/// The lines of these runs, in their order. Empty if there is no run. The error is out of memory.
 fn runs_text<S: ServerBrand, R: Wait>(
     rt: &R,
     alloc: Global,
@@ -107,9 +110,9 @@ fn runs_text<S: ServerBrand, R: Wait>(
     Ok(text)
 }
 
-/// A line for each run of the registry, in the order of the numbers of their states and then of
-/// their names: its key, how many entries its journal has, and the result of its audit by the
-/// passes that were kept for its key. The error is out of memory.
+/// A line for each run of the registry, none if it has none, in the order of the numbers of their
+/// states and then of their names: its key, how many entries its journal has, and the result of its
+/// audit by the passes that were kept for its key. The error is out of memory.
 pub(crate) fn summary_of_runs<S: ServerBrand, R: Wait>(
     rt: &R,
     alloc: Global,

@@ -16,6 +16,7 @@ fn seconds(whole: u64) -> u32
 /// The clock of the machine.
 #[derive(Drop)]
 pub(crate) struct WallClock<'a, R> {
+    /// The runtime that reads the machine's clock.
     rt: &'a R,
 }
 

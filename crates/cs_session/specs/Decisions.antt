@@ -31,7 +31,7 @@ decide None true q = Err r.Memory
 decide None false None = Err (r.Error S5)
 decide None false (Some q) = Ok q
 
--- the same of a request on the fids
+-- the decision on a request on the fids: no run may await its attach, and a session must have begun
 abbrev pub request_decision : Bool → Option ℕ → List Check → Bool → Option Question
     → Result Question Reply
 request_decision awaits msize rules refused q =

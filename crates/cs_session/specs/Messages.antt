@@ -48,13 +48,13 @@ goes_on m.HangUp (CloseStep fid) reply = true
 goes_on (m.Attach attach) (FindStep message) r.Found = true
 goes_on message step reply = false
 
--- messages before whose last step all fids are closed
+-- a message before whose last step all open fids are closed: a version and the end of a connection
 abbrev pub closes_first : Message → Bool
 closes_first (m.Version msize version) = true
 closes_first m.HangUp = true
 closes_first message = false
 
--- the one if the test holds, else the other
+-- the first type if the test holds, else the second
 abbrev pub IfElse : Bool → Type 0 → Type 0 → Type 0
 IfElse true A B = A
 IfElse false A B = B
@@ -71,7 +71,7 @@ module _ {P : Type 0} (gives : P → Question → PortAnswer → P → Type 0) (
       (Answers marks mid there reply session' port')
       ((marks ≡ []) × (reply ≡ step_reply) × (session' ≡ mid) × (port' ≡ there))
 
-  -- with some marks, one for each step
+  -- the message is answered by its steps, with some marks, one for each step
   pub record IsAnswered (session : SessionState) (port : P) (reply : Reply)
       (session' : SessionState)
       (port' : P) : Type 0 where

@@ -36,7 +36,7 @@ open_after fids fid mode answer = (refusal answer, fids)
 
 -- ---- create
 
--- of a file's name
+-- the question of a create, once its name is known to be a file's
 abbrev pub create_named : ℕ → FidMap → CreateMessage → List ℕ → Option Question
 create_named now fids message name =
     option_map (λ f. CallOn now f.run f.pass

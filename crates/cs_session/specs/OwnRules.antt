@@ -38,7 +38,7 @@ change_rules session t.HangUp =
     ∷ (S5, is_some (least_open session.fids))
     ∷ []
 
--- those of any step
+-- the rules of any step
 abbrev pub own_rules : ℕ → SessionState → Step → List Check
 own_rules now session (FindStep message) =
     with_question (after_session (is_some session.awaited) session.msize

@@ -40,7 +40,7 @@ read_question now msize fids message =
 abbrev pub copies_name : FidMap → ℕ → Bool
 copies_name fids fid = option_map_or (λ f. is_some f.state.place.last) (opened_at fids fid) false
 
--- the fid's next read of a directory goes on at that place; None if the place stays the same
+-- the fid's next read of a directory continues at that place; None if the place stays the same
 abbrev pub read_left : FidMap → ℕ → Option (FidOf Opened) → Option Place → FidMap
 read_left fids fid None place = fids
 read_left fids fid (Some f) None = fids

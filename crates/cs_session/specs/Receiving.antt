@@ -87,7 +87,7 @@ NothingChanges session port own reply session' port' =
     (reply ≡ own) × (session' ≡ session) × (port' ≡ port)
 
 module _ {P : Type 0} (gives : P → Question → PortAnswer → P → Type 0) (now : ℕ) where
-  -- how bytes are answered, if memory refuses that growth
+  -- how bytes are answered, if the allocation that the mark names fails
   pub data Receives (bytes : List ℕ) (session : SessionState) (port : P) (reply : Reply)
       (session' : SessionState)
       (port' : P) : MessageMark → Type 0 where
@@ -115,7 +115,7 @@ module _ {P : Type 0} (gives : P → Question → PortAnswer → P → Type 0) (
         → Answers gives now asks marks session port reply session' port'
         → Receives bytes session port reply session' port' (Steps marks)
 
--- how bytes are answered, with some mark
+-- how bytes are answered, whatever memory refuses
 pub record IsReceived {P : Type 0} (gives : P → Question → PortAnswer → P → Type 0) (now : ℕ)
     (bytes : List ℕ) (session : SessionState) (port : P) (reply : Reply) (session' : SessionState)
     (port' : P) : Type 0 where

@@ -1,4 +1,4 @@
--- The steps of a connection. A step answers by itself, or asks one question and goes on from the
+-- The steps of a connection. A step answers by itself, or asks one question and continues from the
 -- answer.
 use Rattle.std.specs.Prelude.{◌≡◌, ℕ, Bool, is_some, Result, Ok, Err}
 use Rattle.std.specs.FinMap.{remove}
@@ -81,7 +81,7 @@ module _ {P : Type 0} (gives : P → Question → PortAnswer → P → Type 0) w
   TakesWithMark now session port step mark reply session' port' =
       Continues (first_move now session step mark) session port step reply session' port'
 
-  -- with some mark
+  -- the step is taken so if memory refuses what some mark says
   pub record IsStepTaken (now : ℕ) (session : SessionState) (port : P) (step : Step) (reply : Reply)
       (session' : SessionState) (port' : P) : Type 0 where
     pub mark : OwnMark

@@ -19,7 +19,8 @@ use std::alloc::Global;
 
 impl Session {
     /// Closes every open fid, the least number first, whatever the runs answer: none is open
-    /// afterwards. The other fids stay.
+    /// afterwards. The other fids stay. No run may await its attach, as none does between two
+    /// messages.
     fn close_all<P: Port>(&mut self, alloc: Global, port: &mut P, now: u32)
         requires { self.old.awaited ≡ None }
         ensures closed { least_open self.new.fids ≡ None }
@@ -36,7 +37,7 @@ impl Session {
     }
 
     /// Answers an attach: finds its run, and then attaches to it. If the find is refused, the
-    /// refusal is the reply. No run awaits its attach afterwards.
+    /// refusal is the reply. No run may await its attach before, and none does afterwards.
     fn answer_attach<P: Port>(
         &mut self,
         alloc: Global,
@@ -56,8 +57,9 @@ impl Session {
         }
     }
 
-    /// Answers a clunk: closes the fid if it is open, else frees it. If the fid isn't open, the
-    /// reply is S1 if no session has begun, else N1 if there is no such fid.
+    /// Answers a clunk, while no run awaits its attach: closes the fid if it is open, else frees
+    /// it. If the fid isn't open, the reply is S1 if no session has begun, else N1 if there is no
+    /// such fid.
     fn answer_clunk<P: Port>(&mut self, alloc: Global, port: &mut P, now: u32, fid: u32) -> Reply
         requires { self.old.awaited ≡ None }
         ensures answered { IsAnswered P.gives now (m.Clunk fid) self.old port.old result self.new
@@ -71,9 +73,9 @@ impl Session {
         self.table_step(TableStep::Clunk(fid))
     }
 
-    /// Answers a version: closes every open fid, the least number first, and frees all fids. Then a
-    /// session begins, unless the version isn't spoken or the message size is too small
-    /// (version(5)).
+    /// Answers a version, while no run awaits its attach: closes every open fid, the least number
+    /// first, and frees all fids. Then a session begins, unless the version isn't spoken or the
+    /// message size is too small (version(5)).
     fn answer_version<P: Port>(
         &mut self,
         alloc: Global,
@@ -92,8 +94,8 @@ impl Session {
         self.table_step(TableStep::Version { msize, version })
     }
 
-    /// Ends the connection, whatever the runs answer: closes every open fid, the least number
-    /// first, and then frees all fids and ends the session.
+    /// Ends the connection, on which no run may await its attach, whatever the runs answer: closes
+    /// every open fid, the least number first, and then frees all fids and ends the session.
     pub fn hang_up<P: Port>(&mut self, alloc: Global, port: &mut P, now: u32)
         requires { self.old.awaited ≡ None }
         ensures answered { IsAnswered P.gives now m.HangUp self.old port.old r.Closed self.new
@@ -106,7 +108,8 @@ impl Session {
     }
 
     /// Answers a message by its steps. The reply is that of the last step that was taken: what it
-    /// grants, the first rule that fails, or out of memory.
+    /// grants, the first rule that fails, or out of memory. No run may await its attach, as none
+    /// does between two messages.
     pub fn answer<P: Port>(
         &mut self,
         alloc: Global,

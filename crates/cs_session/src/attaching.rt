@@ -19,7 +19,8 @@ use cs_permit::{FindFault, PassFault, Request, TreeName};
 use cs_run::Answer;
 use std::alloc::{AllocError, Global};
 
-/// The client's text as a user's name; None if it isn't a legal name of a user.
+/// The client's text as a user's name; None if it isn't a legal name of a user (users(6)). The
+/// error is out of memory.
 fn user_in(alloc: Global, uname: &str) -> Result<Option<UserName>, AllocError>
     ensures { IfOk result (λ user. user ≡ user_in uname.now) }
 {
@@ -32,8 +33,8 @@ fn user_in(alloc: Global, uname: &str) -> Result<Option<UserName>, AllocError>
 
 /// The name of the run that an attach asks for, and the name of its user. The user is None if the
 /// client's text isn't a user's name: the refusal, A6, comes only once the run has answered. An
-/// error is the reply that refuses the find. No fid changes; after `Ok` the table has room for the
-/// attach's fid.
+/// error is the reply that refuses the find: the first of the connection's rules that fails, or out
+/// of memory. No fid changes; after `Ok` the table has room for the attach's fid.
 pub(crate) fn decide_find<'a>(
     alloc: Global,
     awaits_attach: bool,
@@ -103,6 +104,7 @@ pub(crate) fn pass_refusal(fault: PassFault) -> Reply
 /// The reply to an attach for which the run gave a pass. If the run grants the attach, the fid is
 /// added, as the run's root; but A6 if `user` is None, because the client's text isn't a user's
 /// name. After any refusal no fid changes, but the run keeps the pass. It takes no memory.
+/// `decide_find` has checked that the fid is free and isn't NOFID, and made room for it.
 pub(crate) fn settle_attach(
     fids: &mut FidTable,
     fid: u32,

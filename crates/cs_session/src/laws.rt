@@ -35,8 +35,9 @@ pub fn own_denials_are_the_first_rule()
         → IsFirstToFail (own_rules now session step) rule }
 {}
 
-/// A message is its steps, one after the other, each with the mark of what memory refuses in it;
-/// its reply is the last step's. The port is an argument only for its type.
+/// A message is its steps, one after the other, each with a mark that says whether memory of the
+/// connection itself runs out in it; the message's reply is that to the last step. The port is an
+/// argument only for its type.
 pub fn message_is_steps<P: Port>(_port: &P)
     ensures { (now : ℕ) (message : Message) (marks : List OwnMark) (s t : SessionState) (p q : P)
         (reply : Reply) → Answers P.gives now message marks s p reply t q

@@ -14,7 +14,8 @@ use cs_names::Name;
 use cs_permit::{Call, CreateCall, OpenCall, Request};
 use cs_run::Answer;
 
-/// What an open asks the run of its fid. An error is the reply that refuses it.
+/// What an open asks the run of its fid. An error is the reply that refuses it: the first of the
+/// connection's rules that fails, or out of memory. `decide_create` is its twin.
 pub(crate) fn decide_open(
     awaits_attach: bool,
     msize: Option<u32>,
@@ -50,7 +51,9 @@ pub(crate) fn decide_open(
     Ok(RunQuestion::new(now, fid.run(), fid.pass(), call))
 }
 
-/// What a create asks the run of its directory's fid. An error is the reply that refuses it.
+/// What a create asks the run of its directory's fid. An error is the reply that refuses it: the
+/// first of the connection's rules that fails, or out of memory. A name that isn't legal fails a
+/// rule.
 pub(crate) fn decide_create(
     awaits_attach: bool,
     msize: Option<u32>,
@@ -95,7 +98,8 @@ pub(crate) fn decide_create(
 }
 
 /// Moves a fid that isn't open to the file of that number, and opens it in that mode. The run knows
-/// the open by `open_number`.
+/// the open by `open_number`. It takes no memory. A create uses it too. `decide_open` or
+/// `decide_create` has checked that the fid is there and isn't open.
 fn open_fid(fids: &mut FidTable, fid: u32, mode: u8, open_number: u32, number: u64)
     requires { IsSome (walked_at fids.old.fids fid) }
     ensures { fids.new.fids
@@ -107,7 +111,7 @@ fn open_fid(fids: &mut FidTable, fid: u32, mode: u8, open_number: u32, number: u
 }
 
 /// The reply to an open that the run answered. If the run grants it, the fid is open afterwards;
-/// else no fid changes.
+/// else no fid changes. `decide_open` has checked that the fid is there and isn't open.
 pub(crate) fn settle_open(fids: &mut FidTable, fid: u32, mode: u8, answer: Answer) -> Reply
     requires { IsSome (walked_at fids.old.fids fid) }
     ensures value { (result, fids.new.fids) ≡ open_after fids.old.fids fid mode answer }
@@ -127,7 +131,8 @@ pub(crate) fn settle_open(fids: &mut FidTable, fid: u32, mode: u8, answer: Answe
 }
 
 /// The reply to a create that the run answered. If the run grants it, the fid is that of the new
-/// file, and open; else no fid changes.
+/// file, and open; else no fid changes. `decide_create` has checked that the fid is there and isn't
+/// open.
 pub(crate) fn settle_create(fids: &mut FidTable, fid: u32, mode: u8, answer: Answer) -> Reply
     requires { IsSome (walked_at fids.old.fids fid) }
     ensures value { (result, fids.new.fids) ≡ create_after fids.old.fids fid mode answer }

@@ -9,12 +9,14 @@ use cs_run::Answer;
 use std::alloc::Global;
 
 /// The port of a connection. It keeps each run that the connection found and each pass that it was
-/// given; the connection's fids name both by their places in the port.
+/// given; the connection's fids name both by their places in the port, which are counted from 0 and
+/// never change.
 pub trait Port {
     /// From this state this question has this answer, and leads to that state.
     ghost gives: { Self → Question → PortAnswer → Self → Type 0 };
 
-    /// Finds the run of that name, and returns its place. An error says why none was found.
+    /// Finds the run of that name, and returns its place. An error says why none was found; the
+    /// port keeps no run then.
     fn find(&mut self, alloc: Global, name: &TreeName) -> Result<u32, FindFault>
         ensures { gives self.old (q.FindRun name.now.state.now name.now.run.now)
             (q.FindAnswer result) self.new };

@@ -18,9 +18,13 @@ use std::alloc::Global;
 /// A call to make, with its moment and the places in the port of its run and of its pass.
 #[derive(Drop)]
 pub(crate) struct RunQuestion<'a> {
+    /// The moment, in seconds since 1970.
     pub(crate) now: u32,
+    /// The run's place in the port.
     pub(crate) run: u32,
+    /// The pass's place in the port.
     pub(crate) pass: u32,
+    /// What the run is asked.
     pub(crate) call: Call<'a>,
 }
 
@@ -38,7 +42,7 @@ impl<'a> RunQuestion<'a> {
         }
     }
 
-    /// Makes the call, and returns the run's answer.
+    /// Makes the call, and returns the run's answer, which may be a refusal. The call is used up.
     pub(crate) fn ask<P: Port>(self, alloc: Global, port: &mut P) -> Answer
         ensures given { P.gives port.old (question_of self.entry) (CallAnswer result) port.new }
         ensures fits { FitsCall self.entry.call result }
@@ -70,7 +74,7 @@ pub(crate) fn first_failing_rule(
 }
 
 /// The reply to an answer that doesn't grant the call: the rule that denies it, or out of memory if
-/// it is Short.
+/// it is Short. Callers match the grant of their own call first.
 pub(crate) fn refusal(answer: Answer) -> Reply
     ensures value { result ≡ refusal answer }
     ensures plain { IsPlain result }

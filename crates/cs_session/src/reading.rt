@@ -19,7 +19,8 @@ use cs_permit::{Call, ReadCall, Request};
 use cs_run::Answer;
 use std::alloc::AllocError;
 
-/// How many bytes of an Rread aren't its data: size, type, tag and count (read(5)).
+/// How many bytes of an Rread aren't its data: a size of 4, a type of 1, a tag of 2 and a count of
+/// 4 (read(5)).
 pub const READ_OVERHEAD: u32 = 11;
 
 /// How many bytes a read asks of its run: `count`, but no more than fit in an Rread of that message
@@ -31,8 +32,8 @@ fn read_count(msize: Option<u32>, count: u32) -> u32
     count.min(msize.unwrap_or(0).saturating_sub(READ_OVERHEAD))
 }
 
-/// A copy of the place. It takes memory only if the place has a name; the contract of cs_fids'
-/// `Place::try_clone` doesn't say that.
+/// A copy of the place. The error is out of memory, which the copy takes only if the place has a
+/// name. cs_fids' `Place::try_clone` does the same, but its contract doesn't say that.
 fn try_clone_place(place: &Place) -> Result<Place, AllocError>
     ensures ok { IfOk result (λ copy. copy ≡ place.now) }
     ensures memory { OnErr result (is_some place.now.last ≡ true) }
@@ -47,7 +48,9 @@ fn try_clone_place(place: &Place) -> Result<Place, AllocError>
     })
 }
 
-/// What a read asks the run of its fid. An error is the reply that refuses it.
+/// What a read asks the run of its fid. An error is the reply that refuses it: the first of the
+/// connection's rules that fails, or out of memory, which happens only in a directory, whose place
+/// is copied.
 pub(crate) fn decide_read(
     awaits_attach: bool,
     msize: Option<u32>,
@@ -84,8 +87,8 @@ pub(crate) fn decide_read(
     Ok(RunQuestion::new(now, fid.run(), fid.pass(), call))
 }
 
-/// Keeps `place` as the one at which the fid's next read of a directory continues. If `place` is
-/// None, the fid keeps the place that it has.
+/// Keeps `place` as the one at which the next read of a directory by this open fid continues. If
+/// `place` is None, the fid keeps the place that it has.
 fn keep_next_place(fids: &mut FidTable, fid: u32, place: Option<Place>)
     requires { IsSome (opened_at fids.old.fids fid) }
     ensures { fids.new.fids ≡ read_left fids.old.fids fid (opened_at fids.old.fids fid) place }
@@ -97,7 +100,8 @@ fn keep_next_place(fids: &mut FidTable, fid: u32, place: Option<Place>)
 }
 
 /// The reply to a read that the run answered. If the run read entries of a directory, the fid keeps
-/// the place at which its next read continues; else no fid changes.
+/// the place at which its next read continues; else no fid changes. `decide_read` has checked that
+/// the fid is open.
 pub(crate) fn settle_read(fids: &mut FidTable, fid: u32, answer: Answer) -> Reply
     requires { IsSome (opened_at fids.old.fids fid) }
     ensures value { (result, fids.new.fids) ≡ read_after fids.old.fids fid answer }

@@ -32,7 +32,8 @@ use std::alloc::Global;
 use std::borrow::CowStr;
 
 /// The tag of a message, which its reply has too: the bytes 5 and 6, counted from 0, the low one
-/// first. (cs_world's `out_of_turn_reply` reads it too.)
+/// first. cs_world's `out_of_turn_reply` reads it in the same way: change both. The caller has at
+/// least 7 bytes.
 fn tag_in(bytes: &[u8]) -> u16
     requires { 7 ≤ length bytes.now }
     ensures { result ≡ tag_in bytes.now }
@@ -224,8 +225,8 @@ fn qid_in_range(qid: Qid) -> Qid
     }
 }
 
-/// The body of the message that carries a reply. It takes no memory. Found and Closed are never
-/// sent: no last step of a client's message replies so.
+/// The body of the message that carries a reply. It takes no memory. The caller has neither Found
+/// nor Closed, which are never sent: no last step of a client's message replies so.
 fn body_of(reply: Reply) -> RBody
     requires { IsOnWire reply }
     ensures value { (tag : ℕ) → r_view (record { tag = tag; body = result }) ≡ wire_of tag reply }
@@ -280,8 +281,9 @@ fn memory_text() -> &'static str
 }
 
 impl Session {
-    /// Answers the bytes of a message: the reply is the first rule that fails, out of memory, what
-    /// the message's last step answers, or Flush. If the message takes no step, nothing changes.
+    /// Answers the bytes of a message, of which the caller has at least 7, while no run awaits its
+    /// attach: the reply is the first rule that fails, out of memory, what the message's last step
+    /// answers, or Flush. If the message takes no step, nothing changes.
     fn receive<P: Port>(&mut self, alloc: Global, port: &mut P, now: u32, bytes: &[u8]) -> Reply
         requires whole { 7 ≤ length bytes.now }
         requires idle { self.old.awaited ≡ None }

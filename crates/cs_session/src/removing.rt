@@ -32,7 +32,8 @@ fn remove_run_question(now: u32, entry: FidEntry) -> RunQuestion<'static>
 }
 
 /// What a remove asks the run of its fid; the fid is free afterwards. An error is the reply that
-/// refuses it, and then no fid changes. It takes no memory.
+/// refuses it, the first of the connection's rules that fails; then no fid changes. It takes no
+/// memory.
 pub(crate) fn decide_remove(
     awaits_attach: bool,
     msize: Option<u32>,

@@ -25,14 +25,14 @@ pub enum ServeFault {
     ReadFault,
     /// A write failed, took no byte, or 1,000 (INTERRUPTIONS) in a row were interrupted.
     WriteFault,
-    /// What comes next is no message.
+    /// What comes next is no message, or the stream ends inside one (Cut).
     FrameFault(FrameFault),
     /// There was no memory for the buffers: nothing was read.
     Memory,
 }
 
 impl fmt::Display for ServeFault {
-    /// Writes the fault as a short text.
+    /// Writes the fault as a short text, without a line feed; of a FrameFault its own.
     fn fmt<W: fmt::Write>(&self, f: &mut fmt::Formatter<W>) -> fmt::Result {
         match self {
             ServeFault::ReadFault => write!(f, "the stream cannot be read"),
@@ -56,7 +56,7 @@ pub(crate) enum StopReason {
 
 /// The buffers of a connection: one that holds the longest message, and one for the replies, which
 /// holds two of the longest: while at most half of it is used, another reply has room. They never
-/// grow.
+/// grow. The error is out of memory.
 fn make_buffers(alloc: Global) -> Result<(Framer, Vec<u8>), AllocError>
     ensures left { IfOk result (λ x. pending_bytes x.0 ≡ []) }
     ensures size { IfOk result (λ x. MESSAGE_BYTES ≤ size_of x.0) }
@@ -69,7 +69,7 @@ fn make_buffers(alloc: Global) -> Result<(Framer, Vec<u8>), AllocError>
 }
 
 /// Answers a message, of at least 7 bytes, at the moment `now`, and appends the reply to `replies`,
-/// which has room for it.
+/// which has room for it. No run awaits its attach, before and afterwards.
 fn answer_one<P: Port>(
     alloc: Global,
     session: &mut Session,
@@ -93,7 +93,8 @@ fn answer_one<P: Port>(
 
 /// Answers the whole messages that came and appends the replies, until no whole message is left,
 /// what comes next is no message, or `replies` may have no room for another reply. Returns why it
-/// stopped. Neither a message nor a reply is copied.
+/// stopped. Neither a message nor a reply is copied. The caller has emptied `replies`, which has
+/// room for two of the longest messages.
 fn answer_some<P: Port, C: Clock>(
     alloc: Global,
     framer: &mut Framer,
@@ -128,7 +129,7 @@ fn answer_some<P: Port, C: Clock>(
 /// Answers every whole message that came, and writes the replies, as many at once as the buffer
 /// holds. If what comes next isn't a message, the error is FrameFault, once the replies to the
 /// messages before it are written. After WriteFault some replies are lost, and some messages that
-/// came may be unanswered.
+/// came may be unanswered. The caller has made `replies` by `make_buffers`.
 fn answer_all<S: Stream, P: Port, C: Clock>(
     alloc: Global,
     framer: &mut Framer,
@@ -172,9 +173,9 @@ fn answer_all<S: Stream, P: Port, C: Clock>(
 }
 
 /// Reads messages from the stream and answers them, until the stream ends: `Ok` if it ends between
-/// two messages. An error says why the connection can't go on. Every whole message that came before
-/// the error is answered, and its reply written, except after WriteFault, when some replies are
-/// lost.
+/// two messages. An error says why the connection ends. Every whole message that came before the
+/// error is answered, and its reply written, except after WriteFault, when some replies are lost.
+/// The caller has made both buffers by `make_buffers`, and a new session.
 fn converse<S: Stream, P: Port, C: Clock>(
     alloc: Global,
     framer: &mut Framer,
@@ -241,7 +242,8 @@ fn converse<S: Stream, P: Port, C: Clock>(
 }
 
 /// Serves a stream to its end: answers each whole message at its moment, and writes the replies in
-/// order. Then it hangs up, also after an error.
+/// order. Then it hangs up, also after an error. Each whole message that came before an error is
+/// answered, and its reply written; but after WriteFault some replies are lost.
 ///
 /// It returns `Ok` if the stream ended between two messages. An interrupted read or write is tried
 /// again, up to 999 in a row: the thousandth in a row is a fault. A connection makes at most

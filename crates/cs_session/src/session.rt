@@ -24,12 +24,15 @@ use cs_names::RuleId;
 use std::alloc::Global;
 use std::marker::Model;
 
-/// What is kept of a connection: the message size of its session, None if none has begun; the run
-/// that awaits its attach, if any; and its fids.
+/// What is kept of a connection. It is made with the connection. What 9P2000 calls a session begins
+/// in it with a Tversion, and again with each later one.
 #[derive(Drop)]
 pub struct Session {
+    /// The message size; None if no session has begun.
     msize: Option<u32>,
+    /// The run that awaits its attach: only between the two steps of an attach.
     awaited: Option<AwaitedRun>,
+    /// The fids, each with the places of its run and its pass in the port.
     fids: FidTable,
 }
 
@@ -98,8 +101,8 @@ impl Session {
         }
     }
 
-    /// Attaches to the run that was found. S5 if none was. Whatever the reply, no run awaits its
-    /// attach afterwards. Only the port takes memory.
+    /// Attaches to the run that was found. S5 if none was: then the port isn't asked. Whatever the
+    /// reply, no run awaits its attach afterwards. Only the port takes memory.
     pub fn attach_step<P: Port>(&mut self, alloc: Global, port: &mut P, now: u32) -> Reply
         ensures takes { IsStepTaken P.gives now self.old port.old AttachStep result self.new
             port.new }

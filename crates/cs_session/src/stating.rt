@@ -13,7 +13,8 @@ use cs_fids::FidTable;
 use cs_permit::{Call, Request, StatCall, WstatCall};
 use cs_run::Answer;
 
-/// What a stat asks the run of its fid. An error is the reply that refuses it. It takes no memory.
+/// What a stat asks the run of its fid. An error is the reply that refuses it: the first of the
+/// connection's rules that fails. It takes no memory.
 pub(crate) fn decide_stat(
     awaits_attach: bool,
     msize: Option<u32>,
@@ -39,7 +40,8 @@ pub(crate) fn decide_stat(
     Ok(RunQuestion::new(now, entry.run(), entry.pass(), call))
 }
 
-/// What a wstat asks the run of its fid. An error is the reply that refuses it.
+/// What a wstat asks the run of its fid. An error is the reply that refuses it: the first of the
+/// connection's rules that fails, or out of memory.
 pub(crate) fn decide_wstat(
     awaits_attach: bool,
     msize: Option<u32>,

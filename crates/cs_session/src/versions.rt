@@ -12,7 +12,8 @@ use cs_fids::{FidFault, FidTable};
 use cs_names::limits::{LEAST_MESSAGE_SIZE, MESSAGE_BYTES};
 use cs_names::{Pieces, RuleId};
 
-/// The text before its first period; all of it if it has none.
+/// The text before its first period; all of it if it has none. There is always a first piece, so
+/// the default is never used.
 fn before_period(text: &[u8]) -> &[u8]
     ensures { result.now ≡ before_period text.now }
 {
@@ -30,7 +31,7 @@ fn is_spoken(text: &[u8]) -> bool
 
 /// The reply to a version: the smaller of the client's and the server's message size, and whether
 /// the version is spoken. S4 if the client's size is too small for a session. `session_size` has
-/// the same two conditions and the same size.
+/// the same two conditions and the same size: change both.
 pub(crate) fn version_reply(msize: u32, version: &str) -> Reply
     ensures value { result ≡ version_reply msize version.now }
     ensures plain { IsPlain result }

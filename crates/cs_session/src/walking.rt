@@ -20,7 +20,8 @@ use cs_permit::{Call, Request, WalkCall};
 use cs_run::{Answer, Walk};
 
 /// What a walk asks the run of its fid, and a copy of that fid. An error is the reply that refuses
-/// it. No fid changes; after `Ok` the table has room for a new fid, if the walk makes one.
+/// it: the first of the connection's rules that fails, or out of memory. No fid changes; after `Ok`
+/// the table has room for a new fid, if the walk makes one.
 pub(crate) fn decide_walk(
     awaits_attach: bool,
     msize: Option<u32>,
@@ -74,7 +75,8 @@ pub(crate) fn decide_walk(
 }
 
 /// Makes `newfid` the fid of the walk's last file: it is added, or moved if it is `fid` itself, of
-/// which `from` is a copy. No fid changes if a rule stopped the walk.
+/// which `from` is a copy. No fid changes if a rule stopped the walk. `decide_walk` has checked the
+/// two fids, and made room for a new one.
 fn move_fid(fids: &mut FidTable, fid: u32, newfid: u32, from: Fid<Walked>, walk: &Walk)
     requires from { walked_at fids.old.fids fid ≡ Some from }
     requires named { newfid ≢ NOFID }
@@ -94,7 +96,8 @@ fn move_fid(fids: &mut FidTable, fid: u32, newfid: u32, from: Fid<Walked>, walk:
 }
 
 /// The reply to a walk that the run answered. The new fid is added, or moved if it is `fid` itself.
-/// If the run refuses the walk or a rule stops it, no fid changes.
+/// If the run refuses the walk or a rule stops it, no fid changes. `decide_walk` has checked the
+/// two fids, and made room for a new one; `from` is its copy of `fid`.
 pub(crate) fn settle_walk(
     fids: &mut FidTable,
     fid: u32,

@@ -13,8 +13,9 @@ use cs_fids::{FidEntry, FidTable};
 use cs_permit::{Call, Request, WriteCall};
 use cs_run::Answer;
 
-/// What a write asks the run of its fid. An error is the reply that refuses it. The call borrows
-/// the message's bytes.
+/// What a write asks the run of its fid. An error is the reply that refuses it: the first of the
+/// connection's rules that fails, or out of memory, because the call has a copy of the user's name.
+/// The call borrows the message's bytes.
 pub(crate) fn decide_write<'a>(
     awaits_attach: bool,
     msize: Option<u32>,

@@ -41,6 +41,6 @@ weight needs m k future = future.sets * count needs m k (has_place future.left)
 abbrev pub weigh : (ℕ → ℕ → Bool) → ℕ → ℕ → List Future → ℕ
 weigh needs m k futures = sum_by (weight needs m k) futures
 
--- the same number, or both are at least the greatest that is told apart
+-- the same number, or both are at least `most`
 abbrev pub Capped : ℕ → ℕ → ℕ → Type 0
 Capped most a b = min a most ≡ min b most

@@ -12,7 +12,7 @@ use Rattle.cs_sets.specs.Sound.{IsSound}
 use Rattle.cs_sets.specs.Laws.Lists.{Ordered}
 use Rattle.cs_sets.specs.Laws.Members.{IsBelow}
 
--- the row has just the future at k of some member of the places below k
+-- the row has exactly the future at k of some allowed set of the places below k
 pub record IsReached (needs : ℕ → ℕ → Bool) (n k : ℕ) (row : Row) : Type 0 where
   pub places : List ℕ
   pub below : IsBelow k places

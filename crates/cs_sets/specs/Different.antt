@@ -3,7 +3,7 @@ use Rattle.std.specs.Prelude.{◌≡◌, ℕ, zero, suc, ◌-◌, ◌&&◌, not,
 use Rattle.std.specs.List.{list_all, list_any, range_with_len, flat_map}
 use Rattle.cs_sets.specs.Every.{may, choices, every}
 
--- what is kept after one more: it is added if none that is kept is like it
+-- what is kept after one more element: the element is added if none that is kept is like it
 abbrev pub add_first : {X : Type 0} → (X → X → Bool) → List X → X → List X
 add_first like kept x = cond (list_any (λ y. like y x) kept) kept (kept ++ x ∷ [])
 

@@ -17,7 +17,7 @@ use Rattle.cs_sets.specs.Laws.Walking.{IsAt}
 abbrev pub row_cmp : Row → Row → Ordering
 row_cmp a b = slice_cmp nat_cmp a.words b.words
 
--- so many sets extend each set with this future, or more than are told apart
+-- how many sets extend each set with this future, or `most` if there are more
 abbrev pub IsCount : (ℕ → ℕ → Bool) → ℕ → ℕ → Row → ℕ → Type 0
 IsCount needs n most left count = (k : ℕ) (places : List ℕ) → k ≤ n → HasNone (has_place left) 0 k
     → IsAt needs n k places (has_place left) → count

@@ -8,7 +8,7 @@ use Rattle.cs_sets.specs.Every.{every}
 abbrev pub chosen : (ℕ → Bool) → ℕ → List ℕ
 chosen has k = filter has (range_with_len 0 k)
 
--- a list from the first element on that has just these places
+-- a list, from the first element on that has exactly these places
 abbrev pub from_on : List ℕ → List (List ℕ) → List (List ℕ)
 from_on places [] = []
 from_on places (x ∷ xs) = cond (pointwise nat_eq x places) (x ∷ xs) (from_on places xs)

@@ -17,7 +17,8 @@ pub record Loses (i k : ℕ) (places : List ℕ) : Type 0 where
   pub has_later : is_member places k ≡ true
   pub lacks_earlier : is_member places i ≡ false
 
--- of the places up to k, the set lacks just i and what needs it, and it has none beyond
+-- of the places up to k, the set lacks exactly i and what needs it by any chain, and it has none
+-- beyond k
 pub record LacksOne (needs : ℕ → ℕ → Bool) (i k : ℕ) (places : List ℕ) : Type 0 where
   pub below : (j : ℕ) → j ≤ k → is_member places j ≡ is_kept needs i j
   pub beyond : (j : ℕ) → k < j → is_member places j ≡ false

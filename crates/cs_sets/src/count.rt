@@ -1,5 +1,9 @@
-//! How many allowed sets there are, without going through them: by the futures of the sets of the
-//! places below each place.
+//! How many allowed sets there are, without going through them.
+//!
+//! The **future** of a set of places below k is the set of the places from k on that may still be
+//! added: those that need no place below k that the set lacks. Sets with equal futures can be
+//! extended in equally many ways, so it is enough to know, place by place, which futures there are
+//! and how many sets have each.
 ghost use Rattle.std.specs.Prelude.{◌≡◌, ◌+◌, ◌-◌, ◌<◌, ◌≤◌, ℕ, Bool, [], false, length, min};
 ghost use Rattle.std.specs.Prelude.{IfErr, IfOk, OnOk};
 ghost use Rattle.std.specs.List.Sorted.{IsSortedByKey};
@@ -17,19 +21,23 @@ use crate::row::Row;
 use cs_names::limits::MICRO_OPERATIONS;
 use std::alloc::{AllocError, Global};
 
-/// How many different futures a count follows at one place.
+/// How many different futures a count follows at one place. A count that would need more is
+/// TooMany.
 pub const FUTURES: usize = 1_048_576;
 
-/// A future, with how many sets of the places below have it.
+/// A future at a place k, with how many allowed sets of the places below k have it.
 #[derive(Clone, Copy, Debug)]
 pub struct Future {
-    /// The places from here on that need no place below that is missing.
+    /// The places from k on that may still be added.
     left: Row,
+    /// How many sets have this future; or the greatest number that the count is asked for, if there
+    /// are more.
     sets: u128,
 }
 
-/// Appends what becomes of the sets with this future: those without `place`, and, if they may have
-/// it, those with it.
+/// Appends the futures, at the place after `place`, of the sets whose future at `place` is
+/// `future`: of those without `place`, and, if it may be added, of those with it. After an error,
+/// which means that memory ran out, one of the two may be there.
 fn push_halves(
     next: &mut Vec<Future>,
     needed: &[Row],
@@ -65,7 +73,9 @@ fn push_halves(
     Ok(())
 }
 
-/// The futures at the place after `place`; equal ones stand apart.
+/// The futures at the place after `place`, by those at `place` in `level`. Equal ones aren't merged
+/// yet. Row `i` of `needed` has what needs place `i` by any chain. The only error is that memory
+/// runs out.
 fn split(
     alloc: Global,
     needed: &[Row],
@@ -89,7 +99,8 @@ fn split(
     Ok(next)
 }
 
-/// Adds a future to the last one, if that is equal, and else after it.
+/// Merges a future into the last one of `futures` if both are equal, or else appends it. A count
+/// above `most` becomes `most`. The only error is that memory runs out.
 fn add(futures: &mut Vec<Future>, future: &Future, most: u128) -> Result<(), AllocError>
     ensures weight { OnOk result ((needs : ℕ → ℕ → Bool) (m k : ℕ)
         → Capped most (weigh needs m k futures.new.items)
@@ -117,7 +128,8 @@ fn add(futures: &mut Vec<Future>, future: &Future, most: u128) -> Result<(), All
     Ok(())
 }
 
-/// The futures with equal neighbours made one. Counts above `most` become `most`.
+/// The futures with equal neighbours merged: their counts are added, and a sum above `most` becomes
+/// `most`. The only error is that memory runs out.
 fn merge(alloc: Global, futures: &[Future], most: u128) -> Result<Vec<Future>, AllocError>
     ensures weight { IfOk result (λ merged. (needs : ℕ → ℕ → Bool) (m k : ℕ)
         → Capped most (weigh needs m k merged.items) (weigh needs m k futures.now)) }
@@ -133,7 +145,7 @@ fn merge(alloc: Global, futures: &[Future], most: u128) -> Result<Vec<Future>, A
     Ok(merged)
 }
 
-/// The number of all sets with one of these futures, or `most` if it is more.
+/// The number of all sets with one of these futures, or `most` if there are more.
 fn total(futures: &[Future], most: u128) -> u128
     ensures { (needs : ℕ → ℕ → Bool) (k : ℕ) → result ≡ min (weigh needs 0 k futures.now) most }
 {
@@ -144,7 +156,8 @@ fn total(futures: &[Future], most: u128) -> u128
     sum
 }
 
-/// The only future of the empty set of no places: all places.
+/// The futures at place 0: the empty set is the only set of the places below it, and all places may
+/// still be added. Only the contract needs `most`. The only error is that memory runs out.
 fn first_level(alloc: Global, needed: &[Row], most: u128) -> Result<Vec<Future>, AllocError>
     requires { length needed.now ≤ MICRO_OPERATIONS }
     ensures weight { IfOk result
@@ -160,8 +173,9 @@ fn first_level(alloc: Global, needed: &[Row], most: u128) -> Result<Vec<Future>,
     Ok(level)
 }
 
-/// The different futures at the place after `place`, with how many sets have each. Counts above
-/// `most` become `most`.
+/// The different futures at the place after `place`, sorted, with how many sets have each, by those
+/// at `place` in `level`. Counts above `most` become `most`. The only error is that memory runs
+/// out.
 fn next_level(
     alloc: Global,
     needed: &[Row],
@@ -185,9 +199,9 @@ fn next_level(
     merge(alloc, next.as_slice(), most)
 }
 
-/// How many allowed sets there are, or `most` if there are more. `needed` has, for each place, the
-/// places that need it by any chain. TooMany if the sets of the places below some place have more
-/// than FUTURES different futures.
+/// How many allowed sets there are, or `most` if there are more. Row `i` of `needed` has the places
+/// that need place `i` by any chain. The error is TooMany if at some place there are more than
+/// FUTURES different futures, else Memory.
 pub fn count_sets(alloc: Global, needed: &[Row], most: u128) -> Result<u128, CountFault>
     requires { length needed.now ≤ MICRO_OPERATIONS }
     ensures count { IfOk result

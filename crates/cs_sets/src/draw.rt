@@ -1,5 +1,6 @@
-//! The allowed set with a number in the list of all, found place by place by how many sets extend
-//! those that have a place and those that lack it.
+//! The allowed set with a number in the order of all. It is found place by place, by how many sets
+//! extend those that lack the place, and those that have it. What a future is, the module `count`
+//! says.
 ghost use Rattle.std.specs.Prelude.{◌≡◌, ℕ, ◌+◌, ◌<◌, ◌≤◌, [], length, slice_index_or, IfOk, OnOk};
 ghost use Rattle.std.specs.BTreeMap.{get};
 ghost use Rattle.cs_sets.specs.Bits.{has_place};
@@ -15,21 +16,23 @@ use cs_names::limits::MICRO_OPERATIONS;
 use std::alloc::{AllocError, Global};
 use std::collections::BTreeMap;
 
-/// A set that is being drawn.
+/// A set that is being found by its number.
 #[derive(Clone, Copy, Debug)]
 struct Draw {
-    /// The first place that isn't decided.
+    /// The first place of which it isn't decided yet whether the set has it.
     first: usize,
-    /// The places from there on that may still be added.
+    /// The future of the members: the places from `first` on that may still be added.
     left: Row,
-    /// The members so far.
+    /// The places below `first` that the set has.
     members: Row,
-    /// The number of the set among those that extend the members.
+    /// The number of the set, from 0, among the allowed sets that extend the members.
     rest: u128,
 }
 
-/// How many sets extend a set with this future, or `most` if there are more. `first` is a place
-/// that is no later than each in `left`. `known` keeps each count that was made.
+/// How many allowed sets extend a set whose future is `left`, or `most`, which isn't 0, if there
+/// are more. No place of `left` is before `first`. `needed` is as in `set_numbered`. `known` has
+/// counts by futures, and gets those that are made here, even before an error, which means that
+/// memory ran out.
 fn count_from(
     needed: &[Row],
     known: &mut BTreeMap<Row, u128>,
@@ -66,7 +69,9 @@ fn count_from(
     Ok(count)
 }
 
-/// Decides whether the set has `place`, the next one that may be added.
+/// Decides whether the set has `place`, the next one that may be added. The sets that lack it come
+/// first, so their count decides. `needed`, `most` and `known` are those of `set_numbered`. After
+/// an error, which means that memory ran out, nothing is decided.
 fn decide(
     needed: &[Row],
     known: &mut BTreeMap<Row, u128>,
@@ -103,9 +108,9 @@ fn decide(
     Ok(())
 }
 
-/// The allowed set with this number in the list of all. `needed` has, for each place, the places
-/// that need it by any chain. `most` is more than there are allowed sets. `known` keeps counts for
-/// further draws.
+/// The allowed set with this number, from 0, in the order of all. Row `i` of `needed` has the
+/// places that need place `i` by any chain. `most` is more than there are allowed sets. `known`
+/// keeps counts for further calls. The only error is that memory runs out.
 pub fn set_numbered(
     needed: &[Row],
     known: &mut BTreeMap<Row, u128>,

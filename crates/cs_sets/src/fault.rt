@@ -1,4 +1,4 @@
-//! Why allowed sets can't be counted.
+//! Why allowed sets can't be counted or drawn.
 ghost use Rattle.std.specs.Prelude.{◌≡◌};
 ghost use Rattle.cs_sets.specs.declared.fault.CountFault.TheVariants.{Memory};
 
@@ -7,7 +7,8 @@ use std::alloc::AllocError;
 /// Why allowed sets can't be counted or drawn.
 #[derive(Clone, Copy, Debug, PartialEq, Eq)]
 pub enum CountFault {
-    /// The sets of the places below some place have more different futures than a count follows.
+    /// For some place, the sets of the places below it have more than FUTURES different futures;
+    /// or, if sets are drawn by their numbers, there are 2^64 sets or more.
     TooMany,
     /// Memory ran out.
     Memory,

@@ -1,5 +1,5 @@
-//! Laws of the list of all allowed sets. A call of a function here does nothing: its contract is
-//! the law.
+//! Laws of the list of all allowed sets, `every`. "Members" are the sets in it. A call of a
+//! function here does nothing: its contract is the law.
 ghost use Rattle.std.specs.Prelude.{◌≡◌, ◌≢◌, ◌+◌, ◌<◌, ℕ, Bool, false, true, List, [], length};
 ghost use Rattle.std.specs.Prelude.{slice_index_or};
 ghost use Rattle.std.specs.List.{All, AllPairs, Contains};
@@ -11,8 +11,8 @@ ghost use Rattle.cs_sets.specs.Holes.{LacksOne, Loses, hole, is_kept};
 ghost use Rattle.cs_sets.specs.Reach.{IsReach, IsTransitive};
 ghost use Rattle.cs_sets.specs.Laws.Firsts.{Some_of};
 
-/// Every member is allowed, every allowed set is a member, and the members ascend, so that each is
-/// there once. Their number is the count of those that extend the empty set.
+/// Every set of the list is allowed, every allowed set is in it, and the sets ascend, so that each
+/// is there once. There are as many as `count` finds.
 pub fn members_are_the_allowed_sets()
     ensures allowed { (needs : ℕ → ℕ → Bool) (n : ℕ) → IsBackward needs
         → All (IsAllowed needs n) (every needs n) }
@@ -27,9 +27,10 @@ pub fn members_are_the_allowed_sets()
         → length (every needs n) ≡ count needs n 0 (λ j. true) }
 {}
 
-/// Of two sets of one class, the first is enough: the sets that are found so place by place leave
-/// what the members leave, in the order of the members. Each allowed set has one among them that
-/// leaves the like, no two of them leave the like, and each is allowed. States are numbers here.
+/// Of all sets that leave states alike, the first is enough. The sets that are found place by
+/// place, one of each class, leave the same states as the first ones of the whole list, in the same
+/// order. Each allowed set has one among them that leaves a state like its own; two of them never
+/// leave states alike; and each is allowed. States are numbers here.
 pub fn different_members_leave_all()
     ensures same { (act : ℕ → ℕ → ℕ) (start : ℕ) (same like : ℕ → ℕ → Bool)
         (needs : ℕ → ℕ → Bool) (n : ℕ) → IsBackward needs → IsLike same → IsLike like
@@ -50,18 +51,17 @@ pub fn different_members_leave_all()
         → All (IsAllowed needs n) (different like act start needs n) }
 {}
 
-/// What is needed by any chain has the same members as what is needed directly, and passes on, as
-/// the walk asks.
+/// An order has the same allowed sets if a place needs directly all that it needed by a chain. That
+/// relation is transitive, as the count and the drawing require.
 pub fn chains_have_the_same_members()
     ensures same { (needs reach : ℕ → ℕ → Bool) (n : ℕ) → IsReach needs reach
         → every needs n ≡ every reach n }
     ensures passes_on { (needs reach : ℕ → ℕ → Bool) → IsReach needs reach → IsTransitive reach }
 {}
 
-/// What a plan with holes covers: if some allowed set has place `k` and lacks place `i`, then the
-/// hole of `i` that ends with `k` is one of the plan's, and it has `k` and lacks `i` too. And an
-/// allowed set that lacks only `i` and what needs it, of the places up to its last place `k`, is
-/// that hole.
+/// What a plan with holes covers. If some allowed set has place `k` and lacks place `i`, then the
+/// plan has the hole of `i` that ends with `k`, which has `k` and lacks `i`, too. And if an allowed
+/// set, of the places up to its last place `k`, lacks only `i` and what needs `i`, it is that hole.
 pub fn holes_cover_pairs()
     ensures kept { (needs : ℕ → ℕ → Bool) (n i k : ℕ) (places : List ℕ) → IsBackward needs
         → IsAllowed needs n places → Loses i k places → is_kept needs i k ≡ true }

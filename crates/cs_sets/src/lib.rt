@@ -1,7 +1,7 @@
 //! Sets of places that an order allows: all of them in order, how many there are, and the one with
-//! a number. The places are numbers, the order says which
-//! places each place needs, and a set is allowed if it has all that its members need. Nothing here
-//! knows what is at the places.
+//! a number. A place is a number from 0. The order says which earlier places each place needs, and
+//! a set is allowed if it has all that its places need. What is at a place isn't known here: in the
+//! other crates it is a micro-operation.
 #![tactic(auto)]
 
 mod count;

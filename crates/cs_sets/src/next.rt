@@ -1,4 +1,5 @@
-//! The allowed set after an allowed set, found from that set only.
+//! The allowed set after an allowed set, found from that set only. The order of the sets is in
+//! `sets`.
 ghost use Rattle.std.specs.Prelude.{◌≡◌, ◌∷◌, [], ◌≤◌, ℕ, false, length, if◌then◌else◌};
 ghost use Rattle.cs_sets.specs.Bits.{has_place};
 ghost use Rattle.cs_sets.specs.Chains.{IsBackward};
@@ -10,9 +11,9 @@ ghost use Rattle.cs_sets.specs.Rows.{bit_in};
 use crate::row::Row;
 use cs_names::limits::MICRO_OPERATIONS;
 
-/// Adds the last place that can be added, and removes all places after it: the last that the set
-/// lacks although it has all that this place needs. True if there is one; else the set is empty
-/// afterwards. Row `j` of `rows` has what place `j` needs. Allocates nothing.
+/// Finds the last place that the set lacks although it has all that this place needs; adds it, and
+/// removes all places after it. True if there is such a place; else the set is empty afterwards.
+/// Row `j` of `rows` has what place `j` needs. It allocates nothing.
 fn add_last(rows: &[Row], members: &mut Row) -> bool
     requires few { length rows.now ≤ MICRO_OPERATIONS }
     requires backward { IsBackward (bit_in rows.now) }
@@ -33,9 +34,9 @@ fn add_last(rows: &[Row], members: &mut Row) -> bool
     false
 }
 
-/// Makes the set the one after it in the list of all allowed sets. False if it was the last; then
-/// it is empty afterwards, as the first. Row `j` of `rows` has what place `j` needs. Allocates
-/// nothing.
+/// Makes an allowed set the one after it in the order of all allowed sets. False if it was the
+/// last; then it is empty afterwards, which is the first set. Row `j` of `rows` has what place `j`
+/// needs. It allocates nothing.
 pub fn next_set(rows: &[Row], members: &mut Row) -> bool
     requires few { length rows.now ≤ MICRO_OPERATIONS }
     requires backward { IsBackward (bit_in rows.now) }

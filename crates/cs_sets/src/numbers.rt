@@ -17,17 +17,17 @@ use std::alloc::{AllocError, Global};
 use std::collections::BTreeMap;
 use std::marker::Model;
 
-/// More than there may be sets.
+/// More than the number of sets may be: 2^64.
 const MOST: u128 = 1 << 64;
 
-/// All allowed sets of an order, each by its number in their order, which `Sets` has. Contracts see
+/// All allowed sets of an order, each by its number, from 0, in the order of `Sets`. Contracts see
 /// the list of the sets.
 #[derive(Debug, Drop)]
 pub struct Numbers<'a> {
     order: &'a Order,
     // how many sets there are
     count: u64,
-    // how many sets extend those with a future, of the futures that were asked for
+    // for some futures, how many sets extend a set that has it
     known: BTreeMap<Row, u128>,
 }
 
@@ -47,8 +47,8 @@ impl<'a> Model for Numbers<'a> {
 }
 
 impl<'a> Numbers<'a> {
-    /// The allowed sets of the order. TooMany if they can't be counted, as `Order::count` has it,
-    /// or if there are more than 2^64 - 1.
+    /// The allowed sets of the order. The error is TooMany if they can't be counted, as
+    /// `Order::count` has it, or if there are 2^64 or more; else Memory.
     pub fn of(alloc: Global, order: &'a Order) -> Result<Numbers<'a>, CountFault>
         ensures sets { IfOk result
             (λ sets. sets ≡ every (needs_in order.now) (length order.now)) }
@@ -75,7 +75,9 @@ impl<'a> Numbers<'a> {
         self.count
     }
 
-    /// The set with this number, from 0. What was counted for it is kept for the next one.
+    /// The set with this number, from 0; it must be below `len`. Counts that are made for it are
+    /// kept for later calls. The only error is that memory runs out; then the numbers are
+    /// unchanged, too.
     pub fn set(&mut self, number: u64) -> Result<Row, AllocError>
         requires { number < length self.old }
         ensures set { IfOk result (λ set. places_of set ≡ slice_index_or self.old number []) }

@@ -23,15 +23,16 @@ use cs_names::limits::MICRO_OPERATIONS;
 use std::alloc::{AllocError, Global};
 use std::marker::Model;
 
-/// Which places each place needs. Contracts see a table: for each place, which of the places before
-/// it it needs.
+/// Which places each place needs: only earlier ones. Contracts see a table, whose entries say for
+/// each place and each earlier one whether it is needed.
 #[derive(Debug, Drop)]
 pub struct Order {
-    /// For each place, what it needs.
+    /// For each place, the places that it needs.
     rows: Vec<Row>,
-    /// For each place, what it needs by any chain.
+    /// For each place, the places that it needs by any chain: directly, or because one of them
+    /// needs another.
     reach: Vec<Row>,
-    /// For each place, what needs it by any chain.
+    /// For each place, the places that need it by any chain.
     needed: Vec<Row>,
 }
 
@@ -48,7 +49,8 @@ impl Model for Order {
 }
 
 impl Order {
-    /// The order in which place `j` needs what row `j` has.
+    /// The order in which place `j` needs the places of row `j`. There are at most MICRO_OPERATIONS
+    /// rows, and each has only places before its own. The only error is that memory runs out.
     pub fn of(alloc: Global, rows: Vec<Row>) -> Result<Order, AllocError>
         requires few { length rows.items ≤ MICRO_OPERATIONS }
         requires backward { IsBackward (bit_in rows.items) }
@@ -66,7 +68,8 @@ impl Order {
         })
     }
 
-    /// How many places there are. What one of them needs is before it.
+    /// How many places there are. (The clause `backward` says of every order that a place needs
+    /// only places before it.)
     pub fn len(&self) -> usize
         ensures value { result ≡ length self.now }
         ensures few { result ≤ MICRO_OPERATIONS }
@@ -75,7 +78,8 @@ impl Order {
         self.rows.len()
     }
 
-    /// Whether place `j` needs place `i`.
+    /// Whether place `j` needs place `i` directly: the later place is the second argument. False if
+    /// `i` isn't before `j`. Both must be places of the order. No command calls this.
     pub fn needs(&self, i: usize, j: usize) -> bool
         requires first { i < length self.now }
         requires second { j < length self.now }
@@ -84,8 +88,9 @@ impl Order {
         self.rows[j].has_place(i)
     }
 
-    /// Whether place `j` needs place `i` by any chain: directly, or through others, each of which
-    /// needs the one before it.
+    /// Whether place `j` needs place `i` by any chain: directly, or because a place that it needs
+    /// needs `i` by a chain. The later place is the second argument. False if `i` isn't before `j`.
+    /// Both must be places of the order.
     pub fn needs_by_chain(&self, i: usize, j: usize) -> bool
         requires first { i < length self.now }
         requires second { j < length self.now }
@@ -94,7 +99,7 @@ impl Order {
         self.reach[j].has_place(i)
     }
 
-    /// Whether everything that place `j` needs is among these members.
+    /// Whether everything that place `j` needs directly is among these members.
     fn needs_only(&self, j: usize, members: &Row) -> bool
         requires { j < length self.now }
         ensures backward { IsBackward (needs_in self.now) }
@@ -128,8 +133,8 @@ impl Order {
         true
     }
 
-    /// Makes an allowed set the one after it in the list of all. False if it was the last; then it
-    /// is empty afterwards, as the first. Allocates nothing.
+    /// Makes an allowed set the next one in the order of all, which `Sets` says. False if it was
+    /// the last; then it is empty afterwards, which is the first set. It allocates nothing.
     pub fn advance(&self, members: &mut Row) -> bool
         requires { IsSet (needs_in self.now) (length self.now) members.old }
         ensures set { IsSet (needs_in self.now) (length self.now) members.new }
@@ -142,9 +147,9 @@ impl Order {
         next_set(&self.rows, members)
     }
 
-    /// How many allowed sets there are, or `most` if there are more. TooMany if for some place the
-    /// sets of the places below it have more than 1048576 different futures: the sets of places
-    /// from there on that may still be added.
+    /// How many allowed sets there are, or `most` if there are more. The error is TooMany if for
+    /// some place the sets of the places below it have more than FUTURES different futures (the
+    /// module `count` says what these are), else Memory.
     pub fn count(&self, alloc: Global, most: u128) -> Result<u128, CountFault>
         ensures count { IfOk result
             (λ count. count ≡ min (length (every (needs_in self.now) (length self.now))) most) }
@@ -154,7 +159,8 @@ impl Order {
         count_sets(alloc, self.needed(), most)
     }
 
-    /// For each place, a row of the places that need it by any chain.
+    /// For each place, a row of the places that need it by any chain. (The other clauses are laws
+    /// of every order.)
     pub(crate) fn needed(&self) -> &[Row]
         ensures long { length result.now ≡ length self.now }
         ensures few { length result.now ≤ MICRO_OPERATIONS }

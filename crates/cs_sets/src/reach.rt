@@ -8,8 +8,8 @@ use crate::row::Row;
 use cs_names::limits::MICRO_OPERATIONS;
 use std::alloc::{AllocError, Global};
 
-/// What place `k` needs by any chain: what it needs, and what each of these needs by any chain.
-/// `reach` has the rows of the places before it.
+/// What place `k` needs by any chain: what row `k` of `rows` has, and what each of these needs by
+/// any chain. `reach` has the rows of the places before `k`.
 fn reach_row(rows: &[Row], reach: &[Row], k: usize) -> Row
     requires inside { k < length rows.now }
     requires few { length rows.now ≤ MICRO_OPERATIONS }
@@ -27,7 +27,8 @@ fn reach_row(rows: &[Row], reach: &[Row], k: usize) -> Row
     row
 }
 
-/// For each place, a row of what it needs by any chain. `rows` has what each needs.
+/// For each place, a row of what it needs by any chain. Row `j` of `rows` has what place `j` needs
+/// directly, only places before it. The only error is that memory runs out.
 pub fn reach_of(alloc: Global, rows: &[Row]) -> Result<Vec<Row>, AllocError>
     requires { length rows.now ≤ MICRO_OPERATIONS }
     ensures long { IfOk result (λ reach. length reach.items ≡ length rows.now) }

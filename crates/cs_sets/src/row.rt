@@ -1,4 +1,4 @@
-//! Sets of places in bits.
+//! Sets of places, as bits.
 ghost use Rattle.std.specs.Prelude.{◌≡◌, ◌==◌, ◌||◌, ◌&&◌, ◌↔◌, not, ℕ, ◌<◌, ◌≤◌, false, true, nat_lt};
 ghost use Rattle.std.specs.Prelude.{IsTrue, MatchOption};
 ghost use Rattle.cs_sets.specs.Bits.{has_place};
@@ -7,12 +7,13 @@ ghost use Rattle.cs_sets.specs.Finding.{HasNone, IsNext};
 
 use cs_names::limits::MICRO_OPERATIONS;
 
-/// How many words of 64 bits a row has: a bit for each of MICRO_OPERATIONS places, with which it
-/// must change.
+/// How many words of 64 bits a row has: a bit for each of MICRO_OPERATIONS places. Change both
+/// together.
 const WORDS: usize = 16;
 
 /// A set of places below MICRO_OPERATIONS, as a bit for each: 64 places to a word, from the lowest
-/// bit on.
+/// bit on. (Rows are also compared, by their words, so that maps and sorts can use them; that order
+/// isn't the one of allowed sets.)
 #[derive(Clone, Copy, Debug, PartialEq, Eq, PartialOrd, Ord)]
 pub struct Row {
     words: [u64; WORDS],
@@ -26,7 +27,8 @@ impl Row {
         Row { words: [0; WORDS] }
     }
 
-    /// The first `end` places.
+    /// The set of the first `end` places, at most MICRO_OPERATIONS: those from 0 on, without `end`
+    /// itself.
     pub fn below(end: usize) -> Row
         requires { end ≤ MICRO_OPERATIONS }
         ensures { (k : ℕ) → has_place result k ≡ nat_lt k end }
@@ -38,7 +40,7 @@ impl Row {
         row
     }
 
-    /// Only says what is known of the words: there are 16 of 64 bits.
+    /// Does nothing: callers need its contract, that the row has 16 words of 64 bits.
     pub(crate) fn know_words(&self)
         ensures { IsSound self.now }
     {
@@ -47,7 +49,7 @@ impl Row {
         }
     }
 
-    /// Whether the row has the place.
+    /// Whether the row has the place, which must be below MICRO_OPERATIONS.
     pub fn has_place(&self, place: usize) -> bool
         requires { place < MICRO_OPERATIONS }
         ensures { result ≡ has_place self.now place }
@@ -55,7 +57,8 @@ impl Row {
         (self.words[place / 64] >> (place % 64)) & 1 == 1
     }
 
-    /// Adds the place; one that the row has already changes nothing.
+    /// Adds the place, which must be below MICRO_OPERATIONS. One that the row has already changes
+    /// nothing.
     pub fn set(&mut self, place: usize)
         requires { place < MICRO_OPERATIONS }
         ensures { (k : ℕ) → has_place self.new k ≡ (k == place || has_place self.old k) }
@@ -63,7 +66,8 @@ impl Row {
         self.words[place / 64] |= 1u64 << (place % 64);
     }
 
-    /// Removes the place; one that the row doesn't have changes nothing.
+    /// Removes the place, which must be below MICRO_OPERATIONS. One that the row doesn't have
+    /// changes nothing.
     pub fn clear(&mut self, place: usize)
         requires { place < MICRO_OPERATIONS }
         ensures { (k : ℕ) → has_place self.new k ≡ (has_place self.old k && not (k == place)) }
@@ -90,7 +94,7 @@ impl Row {
         }
     }
 
-    /// Whether the other row has every place of this one.
+    /// Whether the other row has every place of this row; true if this row has none.
     pub fn is_within(&self, other: &Row) -> bool
         ensures { IsTrue result ↔
             ((k : ℕ) → has_place self.now k ≡ true → has_place other.now k ≡ true) }
@@ -104,6 +108,7 @@ impl Row {
     }
 
     /// The first place from `first` on and before `end` that the row has; None if there is none.
+    /// `end` is at most MICRO_OPERATIONS.
     pub fn next_from(&self, first: usize, end: usize) -> Option<usize>
         requires { end ≤ MICRO_OPERATIONS }
         ensures { MatchOption result (HasNone (has_place self.now) first end)

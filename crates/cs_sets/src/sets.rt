@@ -10,9 +10,10 @@ use crate::row::Row;
 use cs_names::laws::know;
 use std::marker::Model;
 
-/// The allowed sets of an order that are still to come, ascending: A is before B if B has the first
-/// place in which the two differ. So the empty set is the first of all. As an iterator it finds
-/// each set from the one before it, and allocates nothing. Contracts see the list of the sets.
+/// The allowed sets of an order that are still to come. They ascend: of two sets, the one that
+/// lacks the first place in which they differ comes first. So the empty set is the first of all. As
+/// an iterator it finds each set from the one before it, and allocates nothing. Contracts see the
+/// list of the sets.
 #[derive(Debug, Drop)]
 pub struct Sets<'a> {
     order: &'a Order,
@@ -34,11 +35,11 @@ impl<'a> Model for Sets<'a> {
 }
 
 impl<'a> Sets<'a> {
-    /// All allowed sets of the order.
+    /// All allowed sets of the order, from the empty set on.
     pub fn of(order: &'a Order) -> Sets<'a>
         ensures { result ≡ every (needs_in order.now) (length order.now) }
     {
-        // that each place needs only earlier ones
+        // its contract says that each place needs only earlier ones
         know(order.len());
         Sets {
             order,

@@ -14,7 +14,8 @@ use std::alloc::Global;
 
 /// Answers the calls on the runs of a server. In code for any server, an answer is known to be
 /// `answered` or `attached` only if a function below gave it; each takes the run, which is under
-/// its lock. So no such code can answer without the lock.
+/// its lock. So no such code can answer without the lock. Both servers of this crate answer alike
+/// (`served`).
 pub trait AnswersCalls {
     /// The answers that `answer` gave.
     ghost answered: { GivesAnswer };
@@ -22,7 +23,8 @@ pub trait AnswersCalls {
     /// The results that `attach` gave.
     ghost attached: { GivesAttach };
 
-    /// Does a call for the run of that key under a pass, as `NumberedRun::call` does.
+    /// Does a call for the run of that key under a pass, as `NumberedRun::call` does: S5, and
+    /// nothing changes, if the pass isn't one of the run.
     fn answer(
         run: &mut NumberedRun,
         alloc: Global,
@@ -39,7 +41,8 @@ pub trait AnswersCalls {
         ensures keeps { KeepsBegin run.old run.new }
         ensures fits { FitsCall call.entry result };
 
-    /// Attaches a user to the run of that key, as `NumberedRun::attach` does.
+    /// Attaches a user to the run of that key under a new pass, as `NumberedRun::attach` does:
+    /// after an error there is no new pass.
     fn attach(
         run: &mut NumberedRun,
         alloc: Global,

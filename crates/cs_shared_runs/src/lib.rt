@@ -1,5 +1,5 @@
-//! Runs that threads share, each under its own lock, and their registry under another. No call
-//! holds two locks.
+//! Runs that threads share, each under its own lock, and their registry under another. No call of
+//! this crate holds two locks.
 #![tactic(auto)]
 
 mod answering;

@@ -21,7 +21,9 @@ use std::marker::{Model, PhantomData};
 /// `SharedRun::fresh` puts it under a lock.
 #[derive(Drop)]
 pub struct NumberedRun {
+    /// The number of the state over which the run was made.
     number: u32,
+    /// Under the lock of its `SharedRun`.
     run: Run<Built>,
 }
 
@@ -38,8 +40,8 @@ impl Model for NumberedRun {
 impl NumberedRun {
     /// Whether the run is over the state of that number. It always is, since `SharedRun::fresh`
     /// makes a handle and what its lock protects with the same number. But contracts see nothing
-    /// inside a lock, so no call can be proved to find its own run there: each checks the number,
-    /// and its line says what it returns for another.
+    /// inside a lock, so no call can be proved to find its own run there. Each call checks the
+    /// number, and says what it returns for another.
     fn is_of(&self, number: u32) -> bool
         ensures { IsTrue result ↔ (self.now.number ≡ number) }
     {
@@ -47,8 +49,8 @@ impl NumberedRun {
     }
 
     /// Does a call under a pass at the moment `now`, by `Run::step`. Denied by S5, with nothing
-    /// changed, if the pass isn't one of the run, or if the run is of another number (never so: see
-    /// `is_of`).
+    /// changed, if the pass isn't one of the run, or if the run is of another number (which never
+    /// happens: see `is_of`).
     pub(crate) fn call(
         &mut self,
         alloc: Global,
@@ -75,10 +77,10 @@ impl NumberedRun {
         self.run.step(alloc, pass, now, call)
     }
 
-    /// Attaches a user under a new pass at the moment `now`. If the attach is denied, as of an
-    /// unknown user, the pass is returned too and stays counted. Room or Memory if `Run::new_pass`
-    /// refuses the pass; Foreign if the run is of another number (never so: see `is_of`). After an
-    /// error the run is unchanged.
+    /// Attaches a user under a new pass at the moment `now`. If the attach is denied, as that of an
+    /// unknown user is, the pass is returned too, and counts to RUN_ATTACHES. Room or Memory if
+    /// `Run::new_pass` refuses the pass; Foreign if the run is of another number (which never
+    /// happens: see `is_of`). After an error the run is unchanged.
     pub(crate) fn attach(
         &mut self,
         alloc: Global,
@@ -108,8 +110,8 @@ impl NumberedRun {
         Ok((pass, answer))
     }
 
-    /// What `look` returns of the run; None if the run is of another number (never so: see
-    /// `is_of`).
+    /// What `look` returns of the run; None if the run is of another number (which never happens:
+    /// see `is_of`).
     pub(crate) fn inspect<T, K: Look<T> + Drop>(&self, number: u32, look: K) -> Option<T>
         ensures looks { self.now.number ≡ number
             → IsSomeAnd result (K.may_return look self.now.run) }
@@ -126,11 +128,13 @@ impl NumberedRun {
 }
 
 /// A run and the number of its state; the run began with a tree that the server has under that
-/// number, and with users that it loaded. Whatever is done under the lock is done by the calls
-/// below. Contracts see both.
+/// number, and with users that it loaded. Code that holds the lock uses only the functions below.
+/// Contracts see both.
 #[derive(Drop)]
 pub(crate) struct Locked<S: ServerBrand> {
+    /// All that the lock protects.
     inside: NumberedRun,
+    /// For the type S. It has no data.
     of: PhantomData<S>,
 }
 
@@ -147,7 +151,8 @@ impl<S: ServerBrand> Model for Locked<S> {
 }
 
 impl<S: ServerBrand> Locked<S> {
-    /// The run of the state of that number, to be put under a lock.
+    /// The run of the state of that number, to be put under a lock. The server must have such a
+    /// run, as `SharedRun::fresh` requires.
     pub(crate) fn new(number: u32, run: Run<Built>) -> Locked<S>
         requires { S.serves number run.fresh run.users }
         ensures { result ≡ record { number = number; run = run } }
@@ -158,7 +163,8 @@ impl<S: ServerBrand> Locked<S> {
         }
     }
 
-    /// Does a call under a pass, as `NumberedRun::call` does. The key is the handle's.
+    /// Does a call under a pass, as `NumberedRun::call` does: S5, and nothing changes, if the pass
+    /// isn't one of the run. The key is the handle's.
     pub(crate) fn call(
         &mut self,
         alloc: Global,
@@ -177,7 +183,8 @@ impl<S: ServerBrand> Locked<S> {
         S::answer(&mut self.inside, alloc, key, pass, now, call)
     }
 
-    /// Attaches a user under a new pass, as `NumberedRun::attach` does. The key is the handle's.
+    /// Attaches a user under a new pass, as `NumberedRun::attach` does, with the same errors. The
+    /// key is the handle's.
     pub(crate) fn attach(
         &mut self,
         alloc: Global,
@@ -194,7 +201,7 @@ impl<S: ServerBrand> Locked<S> {
         S::attach(&mut self.inside, alloc, key, now, user)
     }
 
-    /// What `look` returns of the run, as `NumberedRun::inspect` says.
+    /// What `look` returns of the run; None as `NumberedRun::inspect` says, which never happens.
     pub(crate) fn inspect<T, K: Look<T> + Drop>(&self, number: u32, look: K) -> Option<T>
         ensures looks { self.now.number ≡ number
             → IsSomeAnd result (K.may_return look self.now.run) }

@@ -19,10 +19,11 @@ use std::alloc::{AllocError, Global};
 use std::marker::Model;
 use std::sync::Arc;
 
-/// The published states of the server's scene and their shared runs. Contracts see what they see of
-/// a `States`, and of each run its key.
+/// The published states of the server's scene and their shared runs. Contracts see the same as of a
+/// `States`, and of each run only its key.
 #[derive(Drop)]
 pub struct Registry<S: ServerBrand> {
+    /// Under the lock of a `SharedRegistry`, if threads share it.
     states: States<SharedRun<S>>,
 }
 
@@ -41,6 +42,7 @@ impl<S: ServerBrand> Model for Registry<S> {
 /// The users that a registry loaded. Only `Registry::reload` makes one. Contracts see their rows.
 #[derive(Drop)]
 pub struct LoadedUsers {
+    /// The list, which the registry has too.
     users: Arc<Users>,
 }
 
@@ -56,7 +58,8 @@ impl Model for LoadedUsers {
 
 impl<S: ServerBrand> Registry<S> {
     /// A registry of the server's scene with no published state and no run. New runs get these
-    /// users until another list is loaded. An error means out of memory.
+    /// users until another list is loaded. An error means out of memory. The type `S` must allow
+    /// the scene and the users.
     pub fn new(
         alloc: Global,
         scene: Arc<Scene>,
@@ -74,8 +77,9 @@ impl<S: ServerBrand> Registry<S> {
         })
     }
 
-    /// The registry of these states and their runs, such as cs_publish's `publish_all` returns. The
-    /// states are of the server's scene, and each run has its own key.
+    /// Library surface: no command calls it. The registry of these states and their runs, such as
+    /// cs_publish's `publish_all` returns. The states are of the server's scene, and each run has
+    /// its own key.
     pub fn of(states: States<SharedRun<S>>) -> Registry<S>
         requires own { S.is_scene states.scene }
         requires keyed { All IsKeyed states.runs }
@@ -91,7 +95,8 @@ impl<S: ServerBrand> Registry<S> {
         self.states.scene()
     }
 
-    /// How many states of the scene's plan aren't published yet, as `States::missing` counts them.
+    /// How many states of the scene's plan aren't published yet, as `States::missing` counts them;
+    /// 0 if all are.
     pub fn missing(&self) -> u32
         ensures count { result ≡ missing_of self.now }
         ensures few { result ≤ length self.now.scene.plan }
@@ -100,8 +105,9 @@ impl<S: ServerBrand> Registry<S> {
         self.states.missing()
     }
 
-    /// Publishes a state under its number, as `States::publish` does: refused as Stranger, Twice or
-    /// Memory, in this order. A refused state is dropped, and the registry is unchanged.
+    /// Library surface: the commands call `publish_own`. Publishes a state under its number, as
+    /// `States::publish` does: refused as Stranger, Twice or Memory, in this order. A refused state
+    /// is dropped, and the registry is unchanged.
     pub fn publish(&mut self, alloc: Global, state: Published) -> Result<(), PublishFault>
         ensures publishes { Publishes self.old state result self.new }
         ensures own { S.is_scene self.old.scene }
@@ -111,7 +117,8 @@ impl<S: ServerBrand> Registry<S> {
 
     /// Publishes a state of the only scene that may be the server's, as `publish` does but without
     /// comparing contents. The state may be refused as Twice or Memory, never as Stranger. A
-    /// refused state is dropped, and the registry is unchanged.
+    /// refused state is dropped, and the registry is unchanged. The caller knows by the type `S`
+    /// that the state's scene is the server's.
     pub fn publish_own(&mut self, alloc: Global, state: Published) -> Result<(), PublishFault>
         requires { IsOnly S.is_scene state.scene }
         ensures publishes { Publishes self.old state result self.new }
@@ -122,9 +129,10 @@ impl<S: ServerBrand> Registry<S> {
         self.states.publish_own(alloc, state)
     }
 
-    /// Finds or makes the run of a key, as `States::find_key` does, and returns a handle of it.
-    /// Memory also if the run has as many handles as can be: then the find stays counted, and a run
-    /// that this find made stays in the registry. After any other error the registry is unchanged.
+    /// Finds or makes the run of a key, as `States::find_key` does, and returns a handle of it. Its
+    /// refusals are the same: Unpublished, Full or Memory. Memory also if the run has as many
+    /// handles as can be: then the find stays counted, and a run that this find made stays in the
+    /// registry. After any other error the registry is unchanged.
     pub fn find_key(&mut self, alloc: Global, key: RunKey) -> Result<SharedRun<S>, FindFault>
         ensures finds { FindsShared self.old key result self.new }
         ensures key { IfOk result (λ shared. shared ≡ key) }
@@ -138,6 +146,7 @@ impl<S: ServerBrand> Registry<S> {
 
     /// Loads these users, for the runs that are made from now on, and returns them as the list that
     /// was loaded. An error, if the list has as many handles as can be, leaves the old list loaded.
+    /// The type `S` must allow the list.
     pub fn reload(&mut self, users: Arc<Users>) -> Result<LoadedUsers, AllocError>
         requires { S.loads (arc_value users) }
         ensures value { IfOk result (λ loaded. loaded ≡ arc_value users) }
@@ -149,8 +158,8 @@ impl<S: ServerBrand> Registry<S> {
         Ok(LoadedUsers { users })
     }
 
-    /// Handles of all runs, in the order of their keys, or an error if memory runs out or a run has
-    /// as many handles as can be.
+    /// Handles of all runs, in the order of their keys: by the numbers of their states, and then by
+    /// name. The error is out of memory, or that a run has as many handles as can be.
     pub fn runs(&self, alloc: Global) -> Result<Vec<SharedRun<S>>, AllocError>
         ensures all { IfOk result (λ runs. IsPermutation (keys_of self.now.runs) runs.items) }
         ensures sorted { IfOk result (λ runs. IsSorted key_cmp runs.items) }
@@ -161,8 +170,8 @@ impl<S: ServerBrand> Registry<S> {
     }
 }
 
-/// Handles of all runs, in the order in which they were made, or an error if memory runs out or a
-/// run has as many handles as can be.
+/// Handles of all runs, in the order in which they were made. The error is out of memory, or that a
+/// run has as many handles as can be. Each run must be under its own key, as in every registry.
 fn all_runs<S: ServerBrand>(
     alloc: Global,
     states: &States<SharedRun<S>>,

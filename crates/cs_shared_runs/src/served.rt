@@ -27,7 +27,8 @@ pub trait ServerBrand: AnswersCalls {
     ghost is_scene: { Scene → Type 0 };
 }
 
-/// Names a server of any scene.
+/// Names a server of any scene. For tests: the commands use `Brand` of std, which has the same
+/// relations.
 pub struct AnyScene;
 
 impl ServerBrand for AnyScene {
@@ -56,7 +57,8 @@ impl AnswersCalls for AnyScene {
 
     ghost attached = { λ key now call result. Unit {0} };
 
-    /// As `NumberedRun::call`.
+    /// Does the call by `NumberedRun::call`, for which only the number of the key counts. The impls
+    /// for `AnyScene` and for `Brand` have the same body: change both.
     fn answer(
         run: &mut NumberedRun,
         alloc: Global,
@@ -68,7 +70,8 @@ impl AnswersCalls for AnyScene {
         run.call(alloc, key.number(), pass, now, call)
     }
 
-    /// As `NumberedRun::attach`.
+    /// Attaches by `NumberedRun::attach`, with the same errors; only the number of the key counts.
+    /// The impls for `AnyScene` and for `Brand` have the same body: change both.
     fn attach(
         run: &mut NumberedRun,
         alloc: Global,
@@ -85,7 +88,8 @@ impl AnswersCalls for Brand {
 
     ghost attached = { λ key now call result. Unit {0} };
 
-    /// As `NumberedRun::call`.
+    /// Does the call by `NumberedRun::call`, for which only the number of the key counts. The impls
+    /// for `AnyScene` and for `Brand` have the same body: change both.
     fn answer(
         run: &mut NumberedRun,
         alloc: Global,
@@ -97,7 +101,8 @@ impl AnswersCalls for Brand {
         run.call(alloc, key.number(), pass, now, call)
     }
 
-    /// As `NumberedRun::attach`.
+    /// Attaches by `NumberedRun::attach`, with the same errors; only the number of the key counts.
+    /// The impls for `AnyScene` and for `Brand` have the same body: change both.
     fn attach(
         run: &mut NumberedRun,
         alloc: Global,

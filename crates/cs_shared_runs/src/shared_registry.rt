@@ -23,7 +23,9 @@ use std::sync::{Arc, Mutex, Wait};
 /// run's.
 #[derive(Drop)]
 pub struct SharedRegistry<S: ServerBrand> {
+    /// Outside the lock, as it never changes.
     scene: Arc<Scene>,
+    /// The same scene with its published states, the runs and the loaded users.
     inside: Mutex<Registry<S>>,
 }
 
@@ -40,7 +42,8 @@ impl<S: ServerBrand> Model for SharedRegistry<S> {
 
 impl<S: ServerBrand> SharedRegistry<S> {
     /// A shared registry of the server's scene with no published state and no run. New runs get
-    /// these users until another list is loaded. An error means out of memory.
+    /// these users until another list is loaded. An error means out of memory. The type `S` must
+    /// allow the scene and the users.
     pub fn new(
         alloc: Global,
         scene: Arc<Scene>,
@@ -59,8 +62,8 @@ impl<S: ServerBrand> SharedRegistry<S> {
         })
     }
 
-    /// The registry, put under a lock for threads to share. An error, if its scene has as many
-    /// handles as can be, drops the registry.
+    /// Library surface: no command calls it. The registry, put under a lock for threads to share.
+    /// An error, if its scene has as many handles as can be, drops the registry.
     pub fn of(registry: Registry<S>) -> Result<SharedRegistry<S>, AllocError>
         ensures { IfOk result (λ shared. shared ≡ registry.scene) }
     {
@@ -81,7 +84,7 @@ impl<S: ServerBrand> SharedRegistry<S> {
         &self.scene
     }
 
-    /// The registry without its lock: no other thread has it any more.
+    /// The registry without its lock, which nobody can hold: the caller owns it.
     pub fn into_registry(self) -> Registry<S> {
         self.inside.into_inner()
     }
@@ -94,10 +97,11 @@ impl<S: ServerBrand> SharedRegistry<S> {
         self.inside.lock(rt).missing()
     }
 
-    /// Publishes a state under its number, by `States::publish` under the lock. If no other scene
-    /// may be the server's, the result is Stranger exactly if the scene has no such state. No
-    /// clause says when it is Twice or Memory, since contracts see nothing under the lock. After an
-    /// error the state is dropped, and the registry is unchanged.
+    /// Library surface: the commands call `publish_own`. Publishes a state under its number, by
+    /// `States::publish` under the lock. If no other scene may be the server's, the result is
+    /// Stranger exactly if the scene has no such state. No clause says when it is Twice or Memory,
+    /// since contracts see nothing under the lock. After an error the state is dropped, and the
+    /// registry is unchanged.
     pub fn publish(
         &self,
         rt: &impl Wait,
@@ -110,9 +114,9 @@ impl<S: ServerBrand> SharedRegistry<S> {
         self.inside.lock(rt).publish(alloc, state)
     }
 
-    /// Publishes a state of the scene, which is the only one that may be the server's, as `publish`
-    /// does but without comparing contents. The state may be refused as Twice or Memory, never as
-    /// Stranger; it is dropped then, and the registry is unchanged.
+    /// Publishes a state of the scene, which is the only one that may be the server's, under its
+    /// number, without comparing contents. `crashfs serve` calls this one. The state may be refused
+    /// as Twice or Memory, never as Stranger; it is dropped then, and the registry is unchanged.
     pub fn publish_own(
         &self,
         rt: &impl Wait,
@@ -126,10 +130,9 @@ impl<S: ServerBrand> SharedRegistry<S> {
         self.inside.lock(rt).publish_own(alloc, state)
     }
 
-    /// Finds the run of that name over the state of that number, or makes it, by `States::find`
-    /// under the lock, and returns a handle of it. Memory also if the run has as many handles as
-    /// can be: then the find stays counted, and a run that this find made stays in the registry. No
-    /// clause says when a find is refused.
+    /// Library surface: the commands call `find_key`. Finds or makes the run of that name over the
+    /// state of that number, and returns a handle of it, as `find_key` does, with the same
+    /// refusals.
     pub fn find(
         &self,
         rt: &impl Wait,
@@ -142,8 +145,12 @@ impl<S: ServerBrand> SharedRegistry<S> {
         self.find_key(rt, alloc, RunKey::new(number, name))
     }
 
-    /// Finds or makes the run of a key, and returns a handle of it, as `find` does for the key's
-    /// number and name, with the same refusals.
+    /// Finds the run of a key, or makes it, by `States::find_key` under the lock, and returns a
+    /// handle of it. Unpublished if the key's state isn't published; else Full if the run was found
+    /// RUN_ATTACHES times already, or would be new and there are RUNS runs; else Memory. Memory
+    /// also if the run has as many handles as can be: then the find stays counted, and a run that
+    /// this find made stays in the registry. After any other error the registry is unchanged. No
+    /// clause says when a find is refused, since contracts see nothing under the lock.
     pub fn find_key(
         &self,
         rt: &impl Wait,
@@ -156,7 +163,8 @@ impl<S: ServerBrand> SharedRegistry<S> {
     }
 
     /// Loads another list of users, for the runs that are made from then on. A run that exists
-    /// keeps the list with which it was made. If memory runs out, the old list stays.
+    /// keeps the list with which it was made. If memory runs out, the old list stays. The type `S`
+    /// must allow the list.
     pub fn reload(
         &self,
         rt: &impl Wait,
@@ -170,9 +178,9 @@ impl<S: ServerBrand> SharedRegistry<S> {
         self.inside.lock(rt).reload(users)
     }
 
-    /// Handles of all runs that there were while the lock was held, ordered by the numbers of their
-    /// states and then by name. An error means out of memory, or that a run has as many handles as
-    /// can be.
+    /// Library surface: the commands call `Registry::runs`. Handles of all runs that there were
+    /// while the lock was held, ordered by the numbers of their states and then by name. An error
+    /// means out of memory, or that a run has as many handles as can be.
     pub fn runs(&self, rt: &impl Wait, alloc: Global) -> Result<Vec<SharedRun<S>>, AllocError>
         ensures { IfOk result (λ runs. IsSorted key_cmp runs.items) }
     {

@@ -24,7 +24,9 @@ use std::sync::{Arc, Mutex, Wait};
 /// Each call takes the run's lock once, and no other.
 #[derive(Drop)]
 pub struct SharedRun<S: ServerBrand> {
+    /// Outside the lock, as it never changes.
     key: RunKey,
+    /// The run, under its own lock.
     run: Arc<Mutex<Locked<S>>>,
 }
 
@@ -38,7 +40,9 @@ impl<S: ServerBrand> Model for SharedRun<S> {
 
 impl<S: ServerBrand> SharedRun<S> {
     /// A handle of a new run of that key, which has no open file and an empty journal. `lower` is
-    /// the tree of the run's state. An error means out of memory.
+    /// the tree of the run's state. An error means out of memory. The type `S` must allow a run
+    /// over this tree with these users under the key's number, and the tree must be one that can
+    /// grow (`can_grow` of cs_journal).
     pub fn fresh(
         alloc: Global,
         key: RunKey,
@@ -72,10 +76,10 @@ impl<S: ServerBrand> SharedRun<S> {
     }
 
     /// Attaches a user under a new pass at the moment `now`, in seconds since 1970. If the attach
-    /// is denied, as of an unknown user, the pass is returned too and counts to RUN_ATTACHES. Room
-    /// if the run gave RUN_ATTACHES passes already; else Memory if an allocation fails. (Foreign,
-    /// for a run of another number under the lock, is never returned.) After an error the run is
-    /// unchanged.
+    /// is denied, as that of an unknown user is, the pass is returned too, and counts to
+    /// RUN_ATTACHES. Room if the run gave RUN_ATTACHES passes already; else Memory if an allocation
+    /// fails. (Foreign, for a run of another number under the lock, is never returned.) After an
+    /// error the run is unchanged.
     pub fn attach(
         &self,
         rt: &impl Wait,
@@ -108,8 +112,9 @@ impl<S: ServerBrand> SharedRun<S> {
         self.run.lock(rt).call(alloc, &self.key, pass, now, call)
     }
 
-    /// What `look` returns of the run, under the lock. (None, for a run of another number under the
-    /// lock, is never returned. But contracts see nothing inside a lock, so it isn't proved.)
+    /// What `look` returns of the run, under the lock: `look` must make no call on the same run, or
+    /// the thread waits forever. (None, for a run of another number under the lock, is never
+    /// returned. But contracts see nothing inside a lock, so it isn't proved.)
     pub fn inspect<T, K: Look<T> + Drop>(&self, rt: &impl Wait, look: K) -> Option<T>
         ensures { IsLookOf S.serves self.now.number (K.may_return look) result }
     {
@@ -128,7 +133,8 @@ impl<S: ServerBrand> Held for SharedRun<S> {
 
     ghost is_fresh = { λ key tree users shared. shared ≡ key };
 
-    /// A handle of a new run, as `SharedRun::fresh` makes it, with a copy of the key.
+    /// A handle of a new run, as `SharedRun::fresh` makes it, with a copy of the key. The error is
+    /// out of memory.
     fn fresh(
         alloc: Global,
         key: &RunKey,

@@ -82,6 +82,6 @@ nodes_in m = map (λ e. e.1.node) (entries m)
 abbrev pub with_records : List (Path × Record) → List (Path × StartEntry) → List (Path × Record)
 with_records rs es = rs ++ with_numbers_from (length rs) (map_entries record_of es)
 
--- these nodes, and those of the entries
+-- these nodes, and then the nodes of the entries
 abbrev pub with_nodes : List Node → List (Path × StartEntry) → List Node
 with_nodes ns es = ns ++ map (λ e. e.1.node) es

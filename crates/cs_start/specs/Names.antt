@@ -10,7 +10,7 @@ use Rattle.cs_tree_model.specs.Tree.{Path}
 abbrev pub path_of : List ℕ → Option Path
 path_of text = result_ok (path_in text)
 
--- the same of a text that is known to spell one
+-- the path of a text that is known to spell one
 abbrev pub spelled_path : List ℕ → Path
 spelled_path text = unwrap_or (path_of text) []
 
@@ -23,8 +23,8 @@ below_root (name ∷ names) = Some (name ∷ names)
 abbrev pub entry_path_of : List ℕ → Option Path
 entry_path_of text = option_and_then below_root (path_of text)
 
--- a text that spells a path of so many names, which aren't too many for a directory; with 0 names
--- the text spells nothing that is known
+-- the text spells the path, which has `count` names, not too many for a directory; or `count` is 0,
+-- and the text isn't known
 abbrev pub MaySpell : ℕ → List ℕ → Path → Type 0
 MaySpell count text p =
     0 < count → (path_of text ≡ Some p) × (count ≡ length p) × (count ≤ TRACE_PATH_NAMES + 1)

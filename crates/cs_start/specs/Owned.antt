@@ -17,12 +17,12 @@ number_of (File kind file) = file
 abbrev pub is_own : ℕ → StartEntry → Bool
 is_own n e = e.own && (number_of e.node == n)
 
--- the path of the last such entry
+-- the path of the last of these entries at whose path the file was made
 abbrev pub own_in : ℕ → List (Path × StartEntry) → Option Path
 own_in n [] = None
 own_in n (e ∷ es) = option_or (own_in n es) (if is_own n e.1 then Some e.0 else None)
 
--- or the root's path, if there is none
+-- the path that was found, or the root's path if none was
 abbrev pub or_root : Option Path → Path
 or_root None = []
 or_root (Some p) = p

@@ -31,7 +31,7 @@ in_directory d (e ∷ es) = (d ++ e.0 ∷ [], e.1) ∷ in_directory d es
 abbrev pub siblings_of : Path → List (NameBytes × StartEntry) → Siblings
 siblings_of d es = record { directory = d; entries = from_entries (in_directory d es) }
 
--- each name is that of a file
+-- each name is a legal one of a file
 abbrev pub HaveLegalNames : List (NameBytes × StartEntry) → Type 0
 HaveLegalNames [] = Unit {0}
 HaveLegalNames (e ∷ es) = IsLegalName e.0 × HaveLegalNames es
@@ -48,7 +48,7 @@ AreIn s = (p : Path) → IsSome (get s.entries p) → IsIn s.directory p
 abbrev pub AreElsewhere : Siblings → StartEntries → Type 0
 AreElsewhere s m = (n : NameBytes) → get m (s.directory ++ n ∷ []) ≡ None
 
--- these entries too, one after another
+-- the map with these entries, put in one after another
 abbrev pub with_all : StartEntries → List (Path × StartEntry) → StartEntries
 with_all m [] = m
 with_all m (e ∷ es) = with_all (insert m e.0 e.1) es

@@ -27,7 +27,7 @@ with_whole_paths d es = map (λ e. (whole_path d e.0, e.1)) es
 abbrev pub start_records : Path → List (StartPath × StartEntry) → List (Path × Record)
 start_records d es = with_numbers_from 0 (map_entries record_of (with_whole_paths d es))
 
--- a path that is kept by its name has a legal one
+-- if a path is kept by its name, the name is legal
 abbrev pub IsLegalPath : StartPath → Type 0
 IsLegalPath (Whole p) = Unit {0}
 IsLegalPath (Child name) = IsLegalName (string_bytes name)

@@ -1,6 +1,6 @@
-//! Maps of entries of the start by their whole paths, alone or next to the siblings, which are kept
-//! by name. After an error, the trace is given up; entries may be missing then, or only some of
-//! them appended to the lists of the start.
+//! Maps of entries of the start by their whole paths (`by_path`, `others`), and how such a map and
+//! the siblings, which are kept apart by name, become one. After an error, entries may be missing,
+//! or only some of them appended to the lists of the start; the callers drop both.
 ghost use Rattle.std.specs.Prelude.{◌≡◌, ◌++◌, false, IfOk, OnErr, OnOk, length};
 ghost use Rattle.std.specs.FinMap as map;
 ghost use Rattle.std.specs.List.{list_any};
@@ -21,8 +21,9 @@ use std::alloc::{AllocError, Global};
 use std::collections::BTreeMap;
 use std::ops::Bound;
 
-/// Whether an entry of this map is below the path. In the order of paths, it would come right after
-/// the path, as in `Placed::has_below`. It takes no memory.
+/// Whether an entry of this map is below the path, at any depth; the path's own entry isn't. In the
+/// order of paths it would come right after the path, so only one entry is looked at. It takes no
+/// memory.
 pub(crate) fn has_below(by_path: &BTreeMap<Path, StartEntry>, path: &Path) -> bool
     ensures value { result ≡ list_any (λ e. is_below path.now e.0) by_path.now.entries }
     ensures order { map.entries (map.from_entries {R = path_cmp} by_path.now.entries)
@@ -37,7 +38,8 @@ pub(crate) fn has_below(by_path: &BTreeMap<Path, StartEntry>, path: &Path) -> bo
     }
 }
 
-/// Appends the entries of one map to the lists, in the order of paths.
+/// Appends the entries of a map to the lists of the start, in the order of paths. The callers take
+/// care that they come after all that the lists have.
 pub(crate) fn append_map(
     by_path: BTreeMap<Path, StartEntry>,
     lists: &mut StartLists,
@@ -56,8 +58,8 @@ pub(crate) fn append_map(
     Ok(())
 }
 
-/// Puts the entry at the path in this map, and returns whether it replaced another. An error
-/// changes nothing.
+/// Puts the entry at the path in this map, and returns whether it replaced another. After an error
+/// the map is as it was.
 pub(crate) fn insert_in_map(
     by_path: &mut BTreeMap<Path, StartEntry>,
     path: Path,
@@ -73,7 +75,7 @@ pub(crate) fn insert_in_map(
     Ok(before.is_some())
 }
 
-/// Puts each entry of the list at its path in this map, over any entry that is there.
+/// Puts each entry of the list at its path in this map, in place of an entry that is there.
 fn insert_all(
     by_path: &mut BTreeMap<Path, StartEntry>,
     list: Vec<(Path, StartEntry)>,
@@ -87,8 +89,8 @@ fn insert_all(
     Ok(())
 }
 
-/// Puts the entries that were kept apart back into the map of the others. If none were (None),
-/// nothing changes.
+/// Puts the entries that were kept apart back into the map of the others. If `siblings` is None,
+/// none were, and nothing changes.
 pub(crate) fn put_back(
     alloc: Global,
     by_path: &mut BTreeMap<Path, StartEntry>,
@@ -108,9 +110,9 @@ pub(crate) fn put_back(
     }
 }
 
-/// Splits the others at the siblings: those before the siblings stay, and those after them are
-/// returned. The others must have no entry below the directory of the siblings, since such an entry
-/// could come between two siblings. If the directory has no entries, all of the others stay.
+/// Splits the other entries at the siblings: those before the siblings in the order of paths stay,
+/// and those after them are returned. No other entry may be below the directory of the siblings,
+/// since it could come between two of them. If there are no siblings, all others stay.
 fn split_off_after(
     alloc: Global,
     others: &mut BTreeMap<Path, StartEntry>,
@@ -139,9 +141,9 @@ fn split_off_after(
     }
 }
 
-/// Appends both maps to the lists, in the order of paths: the others before the siblings, the
-/// siblings, and the others after them. As for `split_off_after`, the others must have no entry
-/// below the directory of the siblings.
+/// Appends both maps to the lists of the start, in the order of paths: the other entries before the
+/// siblings, the siblings, and the others after them. As for `split_off_after`, no other entry may
+/// be below the directory of the siblings.
 fn append_split(
     alloc: Global,
     others: BTreeMap<Path, StartEntry>,
@@ -169,9 +171,9 @@ fn append_split(
     Ok(())
 }
 
-/// Appends both maps to the lists, in the order of paths. If some of the others are below the
-/// directory of the siblings, they may come between siblings, so the two maps are put together
-/// first; otherwise it is faster to append them one after another (`append_split`).
+/// Appends both maps to the lists of the start, in the order of paths. If some other entry is below
+/// the directory of the siblings, it may come between two siblings, so the siblings are put back
+/// first. If not, it is faster to append them between the others (`append_split`).
 pub(crate) fn append_both(
     alloc: Global,
     others: BTreeMap<Path, StartEntry>,

@@ -1,4 +1,4 @@
-//! The file, symbolic link or directory at a path at the start.
+//! The file, symbolic link or directory at a path at the start, and the record that it becomes.
 ghost use Rattle.std.specs.Prelude.{◌≡◌, ◌↔◌, false, IfOk, IsTrue};
 ghost use Rattle.cs_tree_model.specs.Fresh.{fresh_record};
 ghost use Rattle.cs_tree_model.specs.Record.{metadata_of, metadata_of_ref};
@@ -15,15 +15,17 @@ use std::alloc::AllocError;
 pub struct StartEntry {
     /// What it is, with its number.
     pub node: Node,
-    /// Whether a file or a symbolic link was made at this path. Further paths of a file have
-    /// entries that are copies.
+    /// Whether it is a file or a symbolic link whose own start line has this path. False for a
+    /// further path of a file, which a link gives it, and for a directory.
     pub own: bool,
+    /// Its owner, group and permissions.
     pub rights: Shared<Rights>,
-    /// The bytes of a file, or the target of a symbolic link.
+    /// The bytes of a file, or the target of a symbolic link; a directory has none.
     pub content: Shared<Content>,
 }
 
-/// The bits of a record's mode that say what it is of.
+/// The bits of a record's mode, above the permissions, that say what it is of: DMDIR for a
+/// directory, DMSYMLINK of 9P2000.u for a symbolic link, none for a file.
 fn kind_bits(node: Node) -> u32
     ensures { result ≡ kind_bits node }
 {
@@ -42,7 +44,8 @@ fn file_mode(node: Node, permissions: u16) -> u32
 }
 
 impl StartEntry {
-    /// The entry for another path of its file. It shares the rights and the content.
+    /// The entry for a further path of the file (`own` is false). It shares the rights and the
+    /// content with this one.
     pub fn try_clone(&self) -> Result<StartEntry, AllocError>
         ensures { IfOk result (λ copy. copy ≡ record self.now { own = false }) }
     {
@@ -54,15 +57,15 @@ impl StartEntry {
         })
     }
 
-    /// The mode of the entry's record.
+    /// The mode of the entry's record, with the bits of its kind.
     fn mode(&self) -> u32
         ensures { result ≡ file_mode self.now.node self.now.rights.permissions }
     {
         file_mode(self.node, self.rights.get().permissions)
     }
 
-    /// The fields of the entry's record, of that number. Nobody has changed it: its version and
-    /// times are 0, and its owner counts as the user who changed it last.
+    /// The metadata of the entry's record, with this number. No client has changed it: its version
+    /// and times are 0, and the user who changed it last (muid) is its owner.
     pub(crate) fn metadata(&self, number: u64) -> Metadata<'_>
         ensures { metadata_of_ref result
             ≡ metadata_of (fresh_record number (record_of self.now)) }
@@ -81,7 +84,8 @@ impl StartEntry {
         }
     }
 
-    /// Whether the records of both entries are equal but for their numbers. It takes no memory.
+    /// Whether the records of both entries are equal but for their numbers: owner, group, mode and
+    /// content are. It takes no memory.
     pub(crate) fn has_same_record(&self, other: &StartEntry) -> bool
         ensures { IsTrue result ↔ (record_of self.now ≡ record_of other.now) }
     {

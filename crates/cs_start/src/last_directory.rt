@@ -1,5 +1,6 @@
-//! The directory of the last start line, with the text that spells its path. Most often the path of
-//! the next line is in the same directory; then only the last name of that path is checked.
+//! The directory above the path of a start line, with the text that spells it. Most often the path
+//! of the next line is in the same directory, and its text begins with that text: then only its
+//! last name is checked.
 ghost use Rattle.std.specs.Prelude.{◌≡◌, ◌<◌, ◌∷◌, ◌++◌, ℕ, List, [], IfOk, IfSome, Some, length};
 ghost use Rattle.cs_names.specs.Legal.{IsLegalName};
 ghost use Rattle.cs_tree_model.specs.Tree.{parent_path};
@@ -10,9 +11,11 @@ use cs_names::{Name, Path};
 use std::alloc::{AllocError, Global};
 use std::marker::Model;
 
-/// A directory, with the text that spells its path if it is known. Contracts see the path.
+/// A directory of the start, with the text that spells its path if that is known: that of the last
+/// start line, or the one whose entries are kept apart. Contracts see the path.
 #[derive(Drop)]
 pub struct LastDirectory {
+    /// The path.
     path: Path,
     /// The text that spells the path; empty if the text isn't known, and for the root.
     text: String,
@@ -33,7 +36,8 @@ impl Model for LastDirectory {
 }
 
 /// The parent of the path that the text spells, with the text that spells the parent: the part
-/// before the last `/`. None if the parent is the root, or if the text spells no path.
+/// before the last `/`. None if the parent is the root, or if that part spells no path or what
+/// follows is no legal name.
 fn text_above<'a>(text: &'a str) -> Option<PathText<'a>>
     ensures above { IfSome result (λ above. (p : List (List ℕ))
         → path_of text.now ≡ Some p → above ≡ parent_path p) }
@@ -61,9 +65,9 @@ fn name_after<'a>(text: &'a str, above: &str) -> Option<&'a str>
 }
 
 impl LastDirectory {
-    /// The parent directory of the path; `text` spells the same path, and the root's parent is the
-    /// root. The text of the directory is known then, unless the directory is the root or its path
-    /// has too many names (`PathText::is_long`).
+    /// The directory above the path, which `text` spells, too; above the root is the root. The text
+    /// of the directory is known then, unless the directory is the root or its path has too many
+    /// names (`PathText::is_long`).
     pub fn parent_of(
         alloc: Global,
         path: &Path,
@@ -95,13 +99,13 @@ impl LastDirectory {
     }
 
     /// Whether the text of the directory has 64 bytes or more: a rough bound, from which on whole
-    /// paths in the directory are slow to compare. False if the text isn't known.
-    /// (`PathText::is_long` counts names.)
+    /// paths in the directory are slow to compare. False if the text isn't known. No clause says
+    /// so, since it decides only how entries are kept. (`PathText::is_long` counts names.)
     pub fn has_long_text(&self) -> bool {
         self.text.len() >= 64
     }
 
-    /// The path of that name in the directory.
+    /// The path of the name in the directory, as a new Path.
     pub fn child(&self, alloc: Global, name: &str) -> Result<Path, AllocError>
         requires { IsLegalName name.now }
         ensures { IfOk result (λ path. path ≡ self.now ++ name.now ∷ []) }
@@ -109,7 +113,7 @@ impl LastDirectory {
         self.path.child(alloc, name)
     }
 
-    /// A copy of the directory, with its text.
+    /// A copy of the directory, with its text if that is known.
     pub fn try_clone(&self, alloc: Global) -> Result<LastDirectory, AllocError>
         ensures { IfOk result (λ copy. copy ≡ self.now) }
     {
@@ -122,8 +126,8 @@ impl LastDirectory {
 
     /// The last name of the path that the text spells, if the text is that of the directory, a `/`
     /// and a legal name; only that name is checked. None for any other text, which may still spell
-    /// a path in the directory, and for every text if that of the directory isn't known or the
-    /// directory is the root.
+    /// a path in the directory; and for every text if the directory is the root, or its own text
+    /// isn't known. It takes no memory.
     pub fn name_in_text<'a>(&self, text: &'a str) -> Option<&'a str>
         ensures entry { IfSome result (λ name.
             entry_path_of text.now ≡ Some (self.now ++ name.now ∷ [])) }
@@ -136,7 +140,7 @@ impl LastDirectory {
     }
 
     /// The path that the text spells, if `name_in_text` finds its last name; None for any other
-    /// text, which may still spell a path.
+    /// text, which may still spell a path. It takes no memory.
     pub fn path_in<'a>(&self, text: &'a str) -> Option<PathText<'a>>
         ensures path { IfSome result (λ path. entry_path_of text.now ≡ Some path) }
         ensures above { IfSome result (λ path. parent_path path ≡ self.now) }

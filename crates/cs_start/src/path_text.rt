@@ -1,4 +1,5 @@
-//! A path that a line spells: checked without taking memory, and then copied.
+//! A path as the text of a line spells it: checked without taking memory, and copied only later. A
+//! text spells a path if it is `/`, or has a legal name after each `/`.
 ghost use Rattle.std.specs.Prelude.{◌≡◌, ◌<◌, ◌+◌, ◌↔◌, IfOk, IsTrue, Some, length};
 ghost use Rattle.cs_names.specs.declared.limits.TheConstants.{TRACE_PATH_NAMES};
 ghost use Rattle.cs_start.specs.Names.{entry_path_of, path_of, spelled_path};
@@ -11,7 +12,9 @@ use std::marker::Model;
 /// A text that spells a path, and how many names the path has. Contracts see the path.
 #[derive(Drop)]
 pub struct PathText<'a> {
+    /// The text, which spells a path.
     text: &'a str,
+    /// How many names the path has; 0 for the root.
     count: usize,
 }
 
@@ -28,7 +31,7 @@ impl<'a> Model for PathText<'a> {
 }
 
 impl<'a> PathText<'a> {
-    /// The path that the text spells, perhaps the root; None if it spells none.
+    /// The path that the text spells, which may be the root; None if it spells none.
     pub fn of(text: &'a str) -> Option<PathText<'a>>
         ensures { result ≡ path_of text.now }
     {
@@ -50,7 +53,7 @@ impl<'a> PathText<'a> {
         Some(path)
     }
 
-    /// The path of a text that is known to spell one, of `count` names. The text isn't checked
+    /// The path of a text that is known to spell a path of `count` names. The text isn't checked
     /// again.
     pub(crate) fn of_checked(text: &'a str, count: usize) -> PathText<'a>
         requires legal { path_of text.now ≡ Some (spelled_path text.now) }
@@ -81,7 +84,8 @@ impl<'a> PathText<'a> {
         Path::from_text(alloc, self.text)
     }
 
-    /// Whether the path has more names than a path in a line may have, and one more.
+    /// Whether the path has more than TRACE_PATH_NAMES + 1 names. The text of such a directory
+    /// isn't kept, since each path in it is TooLarge.
     pub(crate) fn is_long(&self) -> bool
         ensures { IsTrue result ↔ (TRACE_PATH_NAMES + 1 < length self.now) }
     {

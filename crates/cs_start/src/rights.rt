@@ -1,4 +1,4 @@
-//! Owner, group and permissions of a file or a directory.
+//! Owner, group and permissions of a file, a symbolic link or a directory: its rights.
 ghost use Rattle.std.specs.Prelude.{◌≡◌, IfOk};
 
 use cs_names::UserName;
@@ -7,9 +7,11 @@ use std::alloc::AllocError;
 /// Owner, group and permissions of a file, a symbolic link or a directory.
 #[derive(Debug, Drop, PartialEq)]
 pub struct Rights {
+    /// The name of the owner.
     pub owner: UserName,
+    /// The name of the group.
     pub group: UserName,
-    /// The nine bits of three octal digits.
+    /// Three octal digits, nine bits: r, w and x of the owner, the group and others.
     pub permissions: u16,
 }
 

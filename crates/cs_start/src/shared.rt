@@ -1,13 +1,15 @@
-//! A value that entries share, so that one more of them needs no copy.
+//! A value that several entries share, so that each further one needs no copy.
 ghost use Rattle.std.specs.Prelude.{◌≡◌, IfOk};
 
 use std::alloc::{AllocError, Global};
 use std::marker::Model;
 use std::sync::Arc;
 
-/// A value that several entries may share. Contracts see the value.
+/// A value that several entries may share. It never changes, and is dropped with the last of them.
+/// Contracts see the value.
 #[derive(Debug, Drop)]
 pub struct Shared<T> {
+    /// The value, with a count of who shares it.
     value: Arc<T>,
 }
 
@@ -22,14 +24,14 @@ impl<T> Model for Shared<T> {
 }
 
 impl<T> Shared<T> {
-    /// The value, lent.
+    /// The value, borrowed.
     pub fn get(&self) -> &T
         ensures { result.now ≡ self.now }
     {
         &self.value
     }
 
-    /// The same value, for one more entry. It isn't copied.
+    /// The same value for one more entry. It isn't copied. After an error nothing changes.
     pub fn try_clone(&self) -> Result<Shared<T>, AllocError>
         ensures { IfOk result (λ shared. shared ≡ self.now) }
     {
@@ -39,7 +41,7 @@ impl<T> Shared<T> {
 }
 
 impl<T: Drop> Shared<T> {
-    /// A value that may be shared.
+    /// The value, which may be shared from now on. After an error it is dropped.
     pub fn new(alloc: Global, value: T) -> Result<Shared<T>, AllocError>
         ensures { IfOk result (λ shared. shared ≡ value) }
     {

@@ -1,6 +1,6 @@
-//! The entries of one directory at the start, by name. To compare names is faster than to compare
-//! whole paths, which are long if the directory is deep. After an error, the trace is given up;
-//! entries may be missing then, or only some of them appended.
+//! The entries of one directory at the start, by name. Names are faster to compare than whole
+//! paths, which are long if the directory is deep. After an error, entries may be missing, or only
+//! some of them appended; the callers drop both.
 ghost use Rattle.std.specs.Prelude.{◌≡◌, ◌≢◌, ◌∷◌, ◌++◌, [], IfNone, IfOk, IfSome, IsTrue, OnOk};
 ghost use Rattle.std.specs.Prelude.{None, Some, false};
 ghost use Rattle.std.specs.Prelude.{length};
@@ -25,6 +25,7 @@ use std::marker::Model;
 /// their whole paths.
 #[derive(Drop)]
 pub(crate) struct Siblings {
+    /// The directory, with its text if that is known.
     directory: LastDirectory,
     /// Each entry by the last name of its path.
     by_name: BTreeMap<String, StartEntry>,
@@ -45,7 +46,7 @@ impl Model for Siblings {
         model.HaveLegalNames (by_bytes siblings.by_name.entries) };
 }
 
-/// The last name of the path, if the path's parent is the directory. None for a path elsewhere or
+/// The last name of the path, if the directory is right above it. None for a path elsewhere or
 /// further down, and for the root, which has no last name.
 fn name_in<'a>(directory: &LastDirectory, path: &'a Path) -> Option<&'a str>
     ensures there { IfSome result (λ name. path.now ≡ directory.now ++ name.now ∷ []) }
@@ -65,7 +66,7 @@ fn name_in<'a>(directory: &LastDirectory, path: &'a Path) -> Option<&'a str>
 }
 
 impl Siblings {
-    /// No entries yet, of that directory.
+    /// The entries of the directory, of which there are none yet.
     pub(crate) fn new(alloc: Global, directory: LastDirectory) -> Siblings
         ensures directory { result.directory ≡ directory }
         ensures entries { result.entries ≡ map.empty }
@@ -76,7 +77,7 @@ impl Siblings {
         }
     }
 
-    /// The path of the directory that all entries are in, even if there are none.
+    /// The path of the directory that all entries are in; there may be none.
     pub(crate) fn directory(&self) -> &Path
         ensures value { result.now ≡ self.now.directory }
         ensures all { AreIn self.now }
@@ -95,7 +96,7 @@ impl Siblings {
         self.directory.name_in_text(text)
     }
 
-    /// Whether the path's parent is the directory; such a path may or may not have an entry. No
+    /// Whether the directory is right above the path. Such a path may or may not have an entry; no
     /// other path has one. False for the root.
     pub(crate) fn is_in_directory(&self, path: &Path) -> bool
         ensures there { IsTrue result → IsIn self.now.directory path.now }
@@ -120,8 +121,7 @@ impl Siblings {
         }
     }
 
-    /// Puts the entry at the path of that name in the directory, and returns whether it replaced
-    /// another.
+    /// Puts the entry under the name, and returns whether it replaced another.
     pub(crate) fn insert_named(
         &mut self,
         alloc: Global,
@@ -162,7 +162,8 @@ impl Siblings {
         }
     }
 
-    /// The first path, in the order of paths, that has an entry; None if there are no entries.
+    /// The first path, in the order of paths, that has an entry, copied; None if there are no
+    /// entries.
     pub(crate) fn first(&self, alloc: Global) -> Result<Option<Path>, AllocError>
         ensures some { IfOk result (λ first.
             IfSome first (λ path. BeginsAt self.now.entries path)) }
@@ -189,12 +190,14 @@ impl Siblings {
         Ok(())
     }
 
-    /// How many entries there are. No clause says so, since the number only sizes vectors.
+    /// How many entries there are. No clause says so, since the number is only used to reserve
+    /// memory.
     pub(crate) fn count(&self) -> usize {
         self.by_name.len()
     }
 
-    /// Appends the record and the node of each of the siblings to the lists, in the order of paths.
+    /// Appends the record and the node of each entry to the lists of the start, in the order of
+    /// paths.
     pub(crate) fn append_to(self, alloc: Global, lists: &mut StartLists) -> Result<(), AllocError>
         ensures records { OnOk result (lists.new.records
             ≡ with_records lists.old.records (map.entries self.entries)) }

@@ -1,5 +1,5 @@
-//! The lists of the start: the records, their nodes, and the places of the files' records. Entries
-//! are appended in the order of paths.
+//! The lists of the start: the records, their nodes, and the places of the files' records. The
+//! callers append entries in the order of paths.
 ghost use Rattle.std.specs.Prelude.{◌≡◌, ◌∷◌, ◌++◌, [], IfOk, OnOk, length, replicate, slice_set};
 ghost use Rattle.std.specs.Prelude.{string_bytes};
 ghost use Rattle.cs_names.specs.Legal.{IsLegalName};
@@ -12,19 +12,23 @@ use cs_entries::Node;
 use cs_names::Path;
 use std::alloc::{AllocError, Global};
 
-/// The entries so far, and the node of each.
+/// The lists of the entries that were appended so far.
 #[derive(Drop)]
 pub struct StartLists {
+    /// Their records, with their paths.
     pub records: Start,
+    /// The node of each record, in the same order: a directory, a file or a symbolic link by its
+    /// number.
     pub nodes: Vec<Node>,
-    /// For each file, by its number, the place of the record at the path that it was made at; 0
-    /// until that entry is appended.
+    /// For each file and symbolic link, by its number, the place of the record at the path that its
+    /// own start line has; 0 until that entry is appended.
     pub places: Vec<usize>,
 }
 
 impl StartLists {
-    /// Empty lists, with memory for `count` entries, of a start with so many files. Entries in the
-    /// directory keep only their names.
+    /// Empty lists, with memory for `count` entries, of a start with `files` files and symbolic
+    /// links. Entries in the directory, if they are appended by `append_child`, will have only
+    /// their names.
     pub fn with_capacity(
         alloc: Global,
         directory: Path,
@@ -42,9 +46,9 @@ impl StartLists {
         })
     }
 
-    /// Appends an entry, whose record has the next number, and the entry's node, and keeps the
-    /// place of the record if a file was made at the path. An error may leave the place and the
-    /// node without the record; the trace is given up then.
+    /// Appends the entry at the path: its record, which has the next number, and its node. If it is
+    /// the file's own path (`own`), the place of the record is kept. After an error the place and
+    /// the node may be kept without the record; the caller drops the lists.
     pub fn append(&mut self, path: Path, entry: StartEntry) -> Result<(), AllocError>
         ensures records { OnOk result
             (self.new.records ≡ with_records self.old.records ((path, entry) ∷ [])) }
@@ -58,7 +62,7 @@ impl StartLists {
         self.records.push(path, entry)
     }
 
-    /// Appends the entry of that name in the directory, as `append` does.
+    /// Appends the entry with the name in the directory, as `append` does.
     pub fn append_child(
         &mut self,
         alloc: Global,
@@ -79,7 +83,7 @@ impl StartLists {
         self.records.push_child(alloc, directory, name, entry)
     }
 
-    /// Keeps the place of the next record for the file of that number. If there is no such file,
+    /// Keeps the place of the next record for the file with this number. If there is no such file,
     /// nothing changes.
     fn set_place(&mut self, file: u32)
         ensures records { self.new.records ≡ self.old.records }
@@ -94,8 +98,8 @@ impl StartLists {
         }
     }
 
-    /// Keeps the place of the next record, which is that of the entry, if a file was made at the
-    /// entry's path.
+    /// Keeps the place of the next record, which is that of the entry, if `own` is true of the
+    /// entry: for the number in its node. (It never is for a directory.)
     fn keep_place(&mut self, entry: &StartEntry)
         ensures records { self.new.records ≡ self.old.records }
         ensures nodes { self.new.nodes.items ≡ self.old.nodes.items }

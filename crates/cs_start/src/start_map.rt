@@ -1,6 +1,5 @@
-//! The files, symbolic links and directories at the start, by their paths. After an error, the
-//! trace is given up; entries may be missing then, or only some of them appended to the lists of
-//! the start.
+//! The files, symbolic links and directories at the start, by their paths. After an error, entries
+//! may be missing, or only some of them appended to the lists of the start; the caller drops both.
 ghost use Rattle.std.specs.Prelude.{◌≡◌, IfOk, OnOk, length, replicate};
 ghost use Rattle.std.specs.FinMap as map;
 ghost use Rattle.std.specs.Option.{is_some, option_map};
@@ -18,11 +17,12 @@ use std::alloc::{AllocError, Global};
 use std::collections::BTreeMap;
 use std::marker::Model;
 
-/// What is at each path at the start. Contracts see a finite map, in the order of
-/// paths.
+/// What is at each path at the start. The entries of one directory may be kept apart, by name:
+/// start lines come directory by directory, and names are faster to compare than long paths.
+/// Contracts see a finite map, in the order of paths, whether or not some are kept apart.
 #[derive(Drop)]
 pub struct StartMap {
-    /// All entries, or all others if those of one directory are kept apart.
+    /// All entries, but for those that are kept apart.
     by_path: BTreeMap<Path, StartEntry>,
     /// The entries of one directory, if they are kept apart. Then no entry in `by_path` is in that
     /// directory, but some may be further down.
@@ -57,8 +57,8 @@ impl StartMap {
         }
     }
 
-    /// The entry at the path; None if nothing is there. It takes no memory. The entry of a path in
-    /// the directory that is kept apart is only in `siblings`; `insert` chooses as here.
+    /// The entry at the path; None if nothing is there. It takes no memory. A path in the directory
+    /// that is kept apart is looked up only in `siblings`; `insert` chooses in the same way.
     pub fn entry(&self, path: &Path) -> Option<&StartEntry>
         ensures { option_map (λ entry. entry.now) result ≡ map.get self.now path.now }
     {
@@ -76,7 +76,8 @@ impl StartMap {
 
     /// Puts the entries that were kept apart back among the others. Then, if nothing is below the
     /// directory yet, its entries are kept apart from now on, which makes it faster to insert many;
-    /// otherwise none are kept apart. An error may lose those that were kept apart.
+    /// if something is, none are kept apart. What the map has stays the same. After an error, those
+    /// that were kept apart may be lost.
     pub fn keep_apart(&mut self, alloc: Global, directory: &LastDirectory) -> Result<(), AllocError>
         ensures { OnOk result (self.new ≡ self.old) }
     {
@@ -89,8 +90,7 @@ impl StartMap {
         Ok(())
     }
 
-    /// Puts the entry at the path, in the map that `entry` looks in. Returns whether it replaced
-    /// another.
+    /// Puts the entry at the path. Returns whether it replaced another.
     pub fn insert(
         &mut self,
         alloc: Global,
@@ -112,8 +112,8 @@ impl StartMap {
         }
     }
 
-    /// As `insert`, of the path that the text spells. If that path is in the directory that is kept
-    /// apart, most often only its last name is copied (`Siblings::name_in_text`).
+    /// As `insert`, for the path that the text spells. If the text is that of the directory that is
+    /// kept apart, a `/` and a legal name (`Siblings::name_in_text`), only that name is copied.
     pub fn insert_spelled(
         &mut self,
         alloc: Global,
@@ -133,8 +133,9 @@ impl StartMap {
         self.insert(alloc, whole, entry)
     }
 
-    /// How many entries there are. No clause says so, since the number only sizes vectors. The sum
-    /// can't overflow, since all entries are in memory; `saturating_add` spares the proof.
+    /// How many entries there are. No clause says so, since the number is only used to reserve
+    /// memory. The sum can't overflow, since all entries are in memory; `saturating_add` spares the
+    /// proof.
     fn count(&self) -> usize {
         match &self.siblings {
             None => self.by_path.len(),
@@ -142,8 +143,8 @@ impl StartMap {
         }
     }
 
-    /// The directory of the entries that are kept by name; the root if none are. No clause says so,
-    /// since `Start` decides by it only how it keeps paths.
+    /// The directory whose entries are kept apart; the root if none are. No clause says so, since
+    /// `Start` only chooses by it which paths to keep by name.
     fn named_directory(&self, alloc: Global) -> Result<Path, AllocError> {
         match &self.siblings {
             None => Ok(Path::root(alloc)),
@@ -168,8 +169,9 @@ impl StartMap {
         }
     }
 
-    /// A record of each entry, in the order of their paths and numbered from 0; and, in the same
-    /// order, the node of each: a directory, or a file by its number.
+    /// The lists of the start: a record of each entry, in the order of their paths and numbered
+    /// from 0; in the same order the node of each; and for each of the first `files` files and
+    /// symbolic links, the place of its record. After an error the map is dropped.
     pub fn into_lists(self, alloc: Global, files: usize) -> Result<StartLists, AllocError>
         ensures records { IfOk result (λ lists. lists.records ≡ records_in self) }
         ensures nodes { IfOk result (λ lists. lists.nodes.items ≡ nodes_in self) }

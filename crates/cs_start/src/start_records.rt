@@ -1,5 +1,5 @@
-//! The files and directories at the start. An entry of the directory that was kept apart keeps only
-//! its name, since its whole path may be long.
+//! The records of the start, in the order of their paths. An entry of the directory that was kept
+//! apart has only its name here, since its whole path may be long.
 ghost use Rattle.std.specs.Prelude.{◌≡◌, ◌∷◌, ◌++◌, ◌<◌, ◌↔◌, [], IfOk, IsTrue, OnOk, Some, length};
 ghost use Rattle.std.specs.Prelude.{option_map, slice_get, string_bytes};
 ghost use Rattle.cs_names.specs.Legal.{IsLegalName};
@@ -16,17 +16,20 @@ use std::marker::Model;
 /// The path of an entry, whole or by its last name.
 #[derive(Debug, Drop)]
 pub(crate) enum StartPath {
+    /// The whole path.
     Whole(Path),
     /// The path of that name in the directory of the `Start`.
     Child(String),
 }
 
-/// The files and directories at the start, in the order of their paths. Contracts see the list of
-/// the paths, each with its record; the records are numbered by their places, from 0.
+/// The files, symbolic links and directories at the start, in the order of their paths. Contracts
+/// see the list of the paths, each with its record; the records are numbered by their places, from
+/// 0. It never changes once the start is read.
 #[derive(Debug, Drop)]
 pub struct Start {
-    /// The directory of the entries that keep only a name.
+    /// The directory of the entries that have only a name.
     directory: Path,
+    /// Each entry with its path. The place of a record is its index.
     entries: Vec<(StartPath, StartEntry)>,
 }
 
@@ -52,7 +55,7 @@ fn is_child(path: &Path, directory: &Path, name: &str) -> bool
     }
 }
 
-/// Whether a path and a path that may be kept by its name are equal.
+/// Whether a path is equal to another, which may be kept by its name in `directory`.
 fn is_path(path: &Path, directory: &Path, other: &StartPath) -> bool
     ensures { IsTrue result ↔ (path.now ≡ whole_path directory.now other.now) }
 {
@@ -62,7 +65,7 @@ fn is_path(path: &Path, directory: &Path, other: &StartPath) -> bool
     }
 }
 
-/// Whether names in two directories spell equal paths.
+/// Whether the path of a name in one directory is equal to that of a name in another.
 fn are_same_children(directory: &Path, name: &str, other: &Path, other_name: &str) -> bool
     ensures { IsTrue result
         ↔ (directory.now ++ name.now ∷ [] ≡ other.now ++ other_name.now ∷ []) }
@@ -70,7 +73,8 @@ fn are_same_children(directory: &Path, name: &str, other: &Path, other_name: &st
     name == other_name && directory == other
 }
 
-/// Whether two paths, each of which may be kept by its name, are equal.
+/// Whether two paths of two starts, each of which may be kept by its name in the directory of its
+/// start, are equal.
 fn are_same_paths(directory: &Path, path: &StartPath, other: &Path, other_path: &StartPath) -> bool
     ensures { IsTrue result
         ↔ (whole_path directory.now path.now ≡ whole_path other.now other_path.now) }
@@ -84,7 +88,8 @@ fn are_same_paths(directory: &Path, path: &StartPath, other: &Path, other_path: 
     }
 }
 
-/// The path of the name in the directory, kept by its name if the directory is `own`.
+/// The path of the name in `directory`: kept by its name if that is `own`, the directory of the
+/// start; whole if not.
 fn child_path(
     alloc: Global,
     own: &Path,
@@ -103,7 +108,8 @@ fn child_path(
 }
 
 impl Start {
-    /// No entries yet, with memory for `count`. Entries in the directory keep only their names.
+    /// A start without entries yet, with memory for `count`. Entries in the directory, if they are
+    /// appended by `push_child`, will have only their names.
     pub(crate) fn with_capacity(
         alloc: Global,
         directory: Path,
@@ -117,7 +123,8 @@ impl Start {
         })
     }
 
-    /// Appends the entry, with the next number. An error changes nothing.
+    /// Appends the entry at the path; its record has the next number. After an error the start is
+    /// as it was, and the entry is dropped.
     pub(crate) fn push(&mut self, path: Path, entry: StartEntry) -> Result<(), AllocError>
         ensures { OnOk result (self.new ≡ with_records self.old ((path, entry) ∷ [])) }
     {
@@ -125,7 +132,8 @@ impl Start {
         Ok(())
     }
 
-    /// Appends the entry of that name in the directory, with the next number.
+    /// Appends the entry with the name in the directory; its record has the next number. After an
+    /// error the start is as it was, and the entry is dropped.
     pub(crate) fn push_child(
         &mut self,
         alloc: Global,
@@ -142,14 +150,15 @@ impl Start {
         Ok(())
     }
 
-    /// How many files and directories there are.
+    /// How many records there are: a file with several paths has one for each.
     pub fn len(&self) -> usize
         ensures { result ≡ length self.now }
     {
         self.entries.len()
     }
 
-    /// The directory, and the path and the entry at that place.
+    /// The path and the entry at this place. The directory, in front of both, is that of paths that
+    /// are kept by name.
     fn entry(&self, place: usize) -> (&Path, &StartPath, &StartEntry)
         requires { place < length self.now }
         ensures value { slice_get self.now place
@@ -160,7 +169,7 @@ impl Start {
         (&self.directory, path, entry)
     }
 
-    /// The path at that place, copied.
+    /// A copy of the path of the record at this place.
     pub fn path_of(&self, alloc: Global, place: usize) -> Result<Path, AllocError>
         requires { place < length self.now }
         ensures { IfOk result (λ path.
@@ -173,8 +182,8 @@ impl Start {
         }
     }
 
-    /// The fields of the record at that place. Nobody has changed it: its version and times are 0,
-    /// and its owner counts as the user who changed it last.
+    /// The metadata of the record at this place, whose number is the place. No client has changed
+    /// it: its version and times are 0, and the user who changed it last (muid) is its owner.
     pub fn metadata(&self, place: usize) -> Metadata<'_>
         requires { place < length self.now }
         ensures { option_map (λ e. metadata_of e.1) (slice_get self.now place)
@@ -184,7 +193,7 @@ impl Start {
         entry.metadata(place as u64)
     }
 
-    /// The content of the record at that place.
+    /// The content of the record at this place, borrowed; a directory has none.
     pub fn content(&self, place: usize) -> &Content
         requires { place < length self.now }
         ensures { option_map (λ e. e.1.content) (slice_get self.now place) ≡ Some result.now }
@@ -193,7 +202,8 @@ impl Start {
         entry.content.get()
     }
 
-    /// Whether the path at this place is that at a place of the other start. It takes no memory.
+    /// Whether the path of the record at this place is that of the record at `other_place` of the
+    /// other start. It takes no memory.
     pub fn is_same_path(&self, place: usize, other: &Start, other_place: usize) -> bool
         requires first { place < length self.now }
         requires second { other_place < length other.now }
@@ -217,7 +227,8 @@ impl Start {
             && are_same_paths(directory, path, other_directory, other_path)
     }
 
-    /// Whether the paths and records of both are equal, in the same order. It takes no memory.
+    /// Whether both starts have the same paths with equal records, in the same order. It takes no
+    /// memory.
     pub fn is_same_start(&self, other: &Start) -> bool
         ensures { IsTrue result ↔ (self.now ≡ other.now) }
     {

@@ -18,12 +18,12 @@ abbrev pub IsAfterLast : Option NameBytes → NameBytes → Type 0
 IsAfterLast None name = Unit {0}
 IsAfterLast (Some last) name = slice_cmp nat_cmp last name ≡ Less
 
--- and before the bound, if there is one
+-- the name comes before the bound, if there is one
 abbrev pub IsBeforeBound : Option NameBytes → NameBytes → Type 0
 IsBeforeBound None name = Unit {0}
 IsBeforeBound (Some bound) name = slice_cmp nat_cmp name bound ≡ Less
 
--- the entries from the one place on and before the other are those of the directory whose names
+-- the entries from the first place on and before the second are those of the directory whose names
 -- come after the last one
 pub record AreAfterName (entries : List Entry) (directory : ℕ) (last : Option NameBytes)
     (first end : ℕ) : Type 0 where

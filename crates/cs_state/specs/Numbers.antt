@@ -13,7 +13,7 @@ empty_own = record { id = 0; number = 0; slot = None }
 abbrev pub own_in_place : List Own → ℕ → Own
 own_in_place own k = slice_index_or own k empty_own
 
--- how many ids of the two come before this one
+-- how many ids of the two lists come before this one
 abbrev pub number_in : List ℕ → List Own → ℕ → ℕ
 number_in kept own id =
     count_with_key_below (λ k. k) kept id + count_with_key_below (λ (o : Own). o.id) own id
@@ -21,18 +21,18 @@ number_in kept own id =
 abbrev pub IsOwn : List Own → ℕ → Type 0
 IsOwn own id = (k : ℕ) × (k < length own) × ((own_in_place own k).id ≡ id)
 
--- in one of the two
+-- the id is in one of the two lists
 abbrev pub HasId : List ℕ → List Own → ℕ → Type 0
 HasId kept own id = IsKept kept id ⊎ IsOwn own id
 
--- what is there is what is there at the start, or what the state has of its own
+-- what was found has a kept id and what is there at the start, or is one of the state's own entries
 abbrev pub IsFound : List ℕ → List Slot → List Own → Found → Type 0
 IsFound kept slots own f =
     (IsKept kept f.id × (f.slot ≡ slot_at slots f.id))
     ⊎ ((k : ℕ) × (k < length own) × ((own_in_place own k).id ≡ f.id)
     × ((own_in_place own k).slot ≡ f.slot))
 
--- both ascend, no id is in both, and each of its own has its number
+-- both lists ascend, no id is in both, and each own entry has its number
 pub record IsMerge (kept : List ℕ) (own : List Own) : Type 0 where
   pub kept_up : (i j : ℕ) → i < j → j < length kept → kept_at kept i < kept_at kept j
   pub own_up : (i j : ℕ) → i < j → j < length own

@@ -12,16 +12,16 @@ use Rattle.cs_apm.specs.Rules.{op_at}
 use Rattle.cs_state.specs.declared.owner_steps.OwnerSteps.{OwnerSteps}
 use Rattle.cs_paths.specs.Marks.{numbers_that_pass}
 
--- it sets those of the file
+-- the micro-operation sets owner, group and permissions of the file
 abbrev pub sets_rights : ℕ → MicroOp → Bool
 sets_rights n (SetAttr (targets.File file) rights) = file == n
 sets_rights n _ = false
 
--- the places of those that set the file's
+-- the places of the micro-operations that set those of the file
 abbrev pub rights_places : List MicroOp → ℕ → List ℕ
 rights_places ops file = numbers_that_pass (λ k. sets_rights file (op_at ops k)) (length ops)
 
--- those that are kept under the number
+-- the row with the number; empty if there is none
 abbrev pub row_in : BTreeMap ℕ (Vec ℕ) → ℕ → List ℕ
 row_in rows number = option_map_or (λ row. row.items) (get nat_cmp rows number) []
 
@@ -31,28 +31,29 @@ directory_set (CreateDirEntry e (Directory d) rights bytes) = Some d
 directory_set (SetAttr (targets.Directory d path) rights) = Some d
 directory_set _ = None
 
--- it sets those of the directory of the number
+-- the micro-operation makes the directory, or sets its owner, group and permissions
 abbrev pub sets_directory : ℕ → MicroOp → Bool
 sets_directory n op = option_map_or (λ d. d == n) (directory_set op) false
 
--- the places of those that set the directory's
+-- the places of the micro-operations that do so to the directory
 abbrev pub directory_places : List MicroOp → ℕ → List ℕ
 directory_places ops directory =
     numbers_that_pass (λ k. sets_directory directory (op_at ops k)) (length ops)
 
--- each file, and each directory, has those that set its owner, group and permissions
+-- each file, and each directory, has a row with the places of those that set its owner, group and
+-- permissions
 pub record AreOwnerSteps (ops : List MicroOp) (steps : OwnerSteps) : Type 0 where
   pub files : (file : ℕ) → row_in steps.rows file ≡ rights_places ops file
   pub directories : (directory : ℕ)
       → row_in steps.directories directory ≡ directory_places ops directory
 
--- each row has those of its directory
+-- each row has the places of its directory
 abbrev pub AreDirectoryRows : List MicroOp → (ℕ → Option (Vec ℕ)) → Type 0
 AreDirectoryRows ops rows =
     (directory : ℕ) (row : Vec ℕ) → rows directory ≡ Some row
     → row.items ≡ directory_places ops directory
 
--- each row has those of its file
+-- each row has the places of its file
 abbrev pub AreRightsRows : List MicroOp → (ℕ → Option (Vec ℕ)) → Type 0
 AreRightsRows ops rows =
     (file : ℕ) (row : Vec ℕ) → rows file ≡ Some row → row.items ≡ rights_places ops file

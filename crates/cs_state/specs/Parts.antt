@@ -22,7 +22,7 @@ use Rattle.cs_state.specs.Shares.{slots_left, ids_kept, places_by_path}
 use Rattle.cs_state.specs.Shares.{IsShared, IsShares}
 use Rattle.cs_state.specs.Steps.{members_in, AreAllSteps}
 
--- what was found is of the trace
+-- everything in the parts is computed from the trace
 pub record AreParts (parts : Parts) : Type 0 where
   pub whole : IsWhole parts.trace parts.micros parts.tables
   pub shares : IsShares parts.micros.ops parts.tables parts.shares
@@ -49,12 +49,12 @@ abbrev pub file_in : Parts → List ℕ → ℕ → Content
 file_in parts places file =
     slice_index_or (files_left parts.trace parts.micros.ops places) file no_content
 
--- and of its owner, group and permissions
+-- what a set leaves of the owner, group and permissions of the file
 abbrev pub owner_in : Parts → List ℕ → ℕ → Rights
 owner_in parts places file =
     slice_index_or (owners_left parts.trace parts.micros.ops places) file no_rights
 
--- and of that of the directory
+-- what a set leaves of the owner, group and permissions of the directory
 abbrev pub directory_in : Parts → List ℕ → ℕ → Rights
 directory_in parts places directory =
     slice_index_or (directories_left parts.trace parts.micros.ops places) directory no_rights
@@ -64,12 +64,12 @@ abbrev pub record_in : Parts → List ℕ → Node → Record
 record_in parts places node =
     record_of (state_of (start_state parts.trace) parts.micros.ops places) node
 
--- at most so many bytes of it, from an offset on
+-- at most `count` bytes of a file, from an offset on; None of a directory
 abbrev pub read_in : Parts → List ℕ → Node → ℕ → ℕ → Option (List ℕ)
 read_in parts places node offset count =
     option_map (λ bytes. take count (drop offset bytes)) (record_in parts places node).content
 
--- the metadata of a record that was never changed
+-- the metadata of a record that no client has changed
 abbrev pub unchanged_metadata : ℕ → Rights → ℕ → Kind → MetadataBuf
 unchanged_metadata number rights bit kind = record {
   number = number;

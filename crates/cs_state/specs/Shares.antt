@@ -45,17 +45,17 @@ Leaves place step.Other = Unit {0}
 abbrev pub IsLeft : List Step → ℕ → Type 0
 IsLeft steps place = (k : ℕ) → k < length steps → Leaves place (step_at steps k)
 
--- the step changes it
+-- the step changes what the entry of the place holds
 abbrev pub Touches : ℕ → Step → Type 0
 Touches place (step.Set i s) = i ≡ place
 Touches place (step.Move i j) = (i ≡ place) ⊎ (j ≡ place)
 Touches place step.Other = ⊥
 
--- one of the steps does
+-- one of the steps changes what the entry of the place holds
 abbrev pub IsTouched : List Step → ℕ → Type 0
 IsTouched steps place = (k : ℕ) × (k < length steps) × Touches place (step_at steps k)
 
--- the same of the entry with an id; no step touches the root
+-- no step changes what the entry with an id holds; no step touches the root
 abbrev pub IsIdLeft : List ℕ → List Step → ℕ → Type 0
 IsIdLeft places steps id = (place : ℕ) → place_of_id places id ≡ Some place → IsLeft steps place
 
@@ -130,8 +130,8 @@ ids_by_path shares = ids_after shares.paths
 abbrev pub ids_kept : Shares → ℕ → List ℕ
 ids_kept shares t = option_map_or (λ o. o.kept.items) (slice_get shares.ids.items t) []
 
--- the two lists have the ids of the slots that have something, and each of its own has what is
--- there
+-- the two lists have the ids of the slots that have something, and each own entry has what is in
+-- its slot
 pub record IsShared (slots : List Slot) (kept : List ℕ) (own : List Own) : Type 0 where
   pub merge : IsMerge kept own
   pub listed : (id : ℕ) → is_entry (slot_at slots id) ≡ true → HasId kept own id

@@ -41,12 +41,12 @@ tree_in s = state_in (arc_value s.parts) (places_in s)
 abbrev pub entries_in : State → List Entry
 entries_in s = (arc_value s.parts).tables.entries.items
 
--- where directories are in it
+-- the entries at which directories are in the state
 abbrev pub positions_shown : State → List ℕ
 positions_shown s =
     positions_of (arc_value s.parts).micros.ops (arc_value s.parts).tables s.moved
 
--- the path of an id in it
+-- the path that an id has in the state
 abbrev pub path_shown : State → ℕ → Path
 path_shown s id =
     path_of_id (position_by (entries_in s) (positions_shown s))
@@ -70,25 +70,25 @@ number_shown s directory name =
     option_and_then (number_of_place s)
     (place_of_entry (entries_in s) (entry_in directory name))
 
--- the number, in the order of paths, of the directory with this number of its own; the root's is 0
+-- the number in the state of the directory with this number in the trace; the root has 0 in both
 abbrev pub number_of_directory : State → ℕ → Option ℕ
 number_of_directory s directory =
     cond (directory == 0) (Some 0) (number_of_place s (kept_at (positions_shown s) directory))
 
--- it is the number of what a state has at an id
+-- the number in the state is that of what the state has at an id
 abbrev pub IsNumberOf : State → ℕ → ℕ → Node → Type 0
 IsNumberOf s number id node =
     (slot_at (slots_in s) id ≡ Some node) × (number_of_id (slots_in s) id ≡ Some number)
 
--- it is what has the number in the order of paths
+-- the node is what has the number in the state
 abbrev pub IsNodeAt : State → ℕ → Node → Type 0
 IsNodeAt s number node = (id : ℕ) × IsNumberOf s number id node
 
--- the directory has the number in the order of paths
+-- the directory has the number in the state
 abbrev pub IsDirectoryAt : State → ℕ → ℕ → Type 0
 IsDirectoryAt s number d = (id : ℕ) × IsNumberOf s number id (Directory d)
 
--- a file has it, or nothing
+-- a file has the number in the state, or nothing has it
 abbrev pub IsNoDirectory : State → ℕ → Type 0
 IsNoDirectory s number =
     ((id : ℕ) × (kind : FileKind) × (file : ℕ) × IsNumberOf s number id (File kind file))

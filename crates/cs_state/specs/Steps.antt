@@ -24,18 +24,18 @@ abbrev pub resizes : ℕ → MicroOp → Bool
 resizes n (ChangeFileSize file size) = file == n
 resizes n _ = false
 
--- the byte lies in that page
+-- the byte is in the page
 abbrev pub is_page : Option ℕ → ℕ → Bool
 is_page None byte = false
 is_page (Some page) byte = byte / PAGE_BYTES == page
 
--- it cuts off a file of this size, or writes into the page, if there is one
+-- it makes a file of this size shorter, or writes into the page, if there is one
 abbrev pub reaches : Option ℕ → ℕ → MicroOp → Bool
 reaches page size (ChangeFileSize file to) = nat_lt to size
 reaches page size (WriteBlock file block start at bytes) = is_page page (start + at)
 reaches page size _ = false
 
--- no file is too large, and bytes lie in one page
+-- no file is too large, and all bytes of a write are in one page
 abbrev pub IsFitting : MicroOp → Type 0
 IsFitting (ChangeFileSize file to) = to ≤ LARGE_FILE_BYTES
 IsFitting (WriteBlock file block start at bytes) =
@@ -47,23 +47,24 @@ abbrev pub size_before : ℕ → ℕ → List MicroOp → ℕ → ℕ
 size_before n size ops zero = size
 size_before n size ops (suc k) = size_after n (size_before n size ops k) (op_at ops k)
 
--- the micro-operation at the place cuts the file off, or writes into the page
+-- the micro-operation at the place makes the file shorter, or writes into the page
 abbrev pub touches : ℕ → ℕ → List MicroOp → Option ℕ → ℕ → Bool
 touches n size ops page k =
     changes_file n (op_at ops k) && reaches page (size_before n size ops k) (op_at ops k)
 
--- those of the file's steps that reach the page
+-- the places of the micro-operations that reach the page of the file
 abbrev pub row_at : FileSteps → ℕ → List ℕ
 row_at steps page = option_map_or (λ row. row.items) (get nat_cmp steps.pages page) steps.cuts.items
 
--- those that change the file, which has so many bytes at the start
+-- the lists of places are of the micro-operations that change file n, which has `size` bytes at
+-- first
 pub record AreFileSteps (n size : ℕ) (ops : List MicroOp) (steps : FileSteps) : Type 0 where
   pub sizes : steps.size_changes.items
       ≡ numbers_that_pass (λ k. resizes n (op_at ops k)) (length ops)
   pub rows : (page : ℕ)
       → row_at steps page ≡ numbers_that_pass (touches n size ops (Some page)) (length ops)
 
--- each file that something changes has those that change it
+-- each file that some micro-operation changes has its lists of places
 pub record AreAllSteps (t : Trace) (ops : List MicroOp) (changed : List Bool)
     (all : List FileSteps) : Type 0 where
   pub long : length all ≡ length changed
@@ -71,17 +72,18 @@ pub record AreAllSteps (t : Trace) (ops : List MicroOp) (changed : List Bool)
       → slice_get changed file ≡ Some true
       → AreFileSteps file (length (content_before t ops file).bytes) ops steps
 
--- those of a list that pass the test
+-- the elements of a list that pass the test
 abbrev pub items_that_pass : (ℕ → Bool) → List ℕ → List ℕ
 items_that_pass f [] = []
 items_that_pass f (k ∷ ks) = cond (f k) (k ∷ []) [] ++ items_that_pass f ks
 
--- those of the places that reach the page, or cut the file off; it has these sizes before each
+-- those of the places that reach the page, or make the file shorter, which has these sizes before
+-- each micro-operation
 abbrev pub places_reaching : List ℕ → List MicroOp → List ℕ → Option ℕ → List ℕ
 places_reaching sizes ops places page =
     items_that_pass (λ k. reaches page (slice_index_or sizes k 0) (op_at ops k)) places
 
--- each row has those that reach its page
+-- each row has the places that reach its page
 abbrev pub AreRows : List ℕ → List MicroOp → List ℕ → (ℕ → Option (Vec ℕ)) → Type 0
 AreRows sizes ops places rows =
     (page : ℕ) (row : Vec ℕ) → rows page ≡ Some row
@@ -103,7 +105,7 @@ content_after_cut f _ = f
 abbrev pub member_struck : List MicroOp → List Bool → Content → ℕ → Content
 member_struck ops members f k = if mark_at members k then content_after_cut f (op_at ops k) else f
 
--- the file after those of the places that are members
+-- the file after the micro-operations at those of the places that are members
 abbrev pub struck_by : List MicroOp → List Bool → Content → List ℕ → Content
 struck_by ops members f places = fold (member_struck ops members) f places
 
@@ -112,7 +114,7 @@ abbrev pub AgreeIn : ℕ → Content → Content → Type 0
 AgreeIn page f g =
     (i : ℕ) → page * PAGE_BYTES ≤ i → i < page * PAGE_BYTES + PAGE_BYTES → byte_of f i ≡ byte_of g i
 
--- what of the part lies in the page is that of the file
+-- the bytes of the part that are in the page are those of the file
 abbrev pub IsPartIn : ℕ → ℕ → Content → List ℕ → Type 0
 IsPartIn page offset f part =
     (k : ℕ) → k < length part → page * PAGE_BYTES ≤ offset + k

@@ -1,4 +1,5 @@
-//! An atlas: a trace with all that its crash states share, and how the state of a set is made.
+//! An atlas: a trace with all that its crash states share, from which the state of any allowed set
+//! is made.
 ghost use Rattle.std.specs.Prelude.{◌≡◌, length, IfOk};
 ghost use Rattle.cs_tree_model.specs.Tree.{IsTree};
 ghost use Rattle.cs_micro.specs.Micros.{AreLegalFromStart, micros_in};
@@ -21,15 +22,14 @@ use std::alloc::{AllocError, Global};
 use std::marker::Model;
 use std::sync::Arc;
 
-/// The store of a state, as an atlas makes it.
+/// The store of a state, as `Atlas::build` returns it.
 pub type Built = StateTree;
 
-/// A trace with its micro-operations, and with what is computed once for all its states: every
-/// entry that ever holds something, what it holds at the start, and what each micro-operation does
-/// to it.
-/// Contracts see the trace.
+/// A trace with its micro-operations, and with what is computed once for all its states. It never
+/// changes. Contracts see the trace.
 #[derive(Drop)]
 pub struct Atlas {
+    /// All of it, which each state shares: so a state may outlive its atlas.
     parts: Arc<Parts>,
 }
 
@@ -47,7 +47,8 @@ impl Model for Atlas {
 
 impl Atlas {
     /// The atlas of a trace and its micro-operations, which must be those that `break_up` returns.
-    /// What all states share is computed here, once. After an error both are dropped.
+    /// What all states share is computed here, once. After an error the trace and the
+    /// micro-operations are dropped.
     pub fn of(alloc: Global, trace: Trace, micros: Micros) -> Result<Atlas, AllocError>
         requires broken { micros ≡ micros_in trace }
         requires legal { AreLegalFromStart trace micros }
@@ -78,7 +79,7 @@ impl Atlas {
         &self.parts.trace
     }
 
-    /// What the trace breaks into: its micro-operations and sync points.
+    /// The micro-operations and sync points of the trace.
     pub fn micros(&self) -> &Micros
         ensures value { result.now ≡ micros_in self.now }
         ensures legal { AreLegalFromStart self.now result.now }
@@ -86,9 +87,9 @@ impl Atlas {
         &self.parts.micros
     }
 
-    /// The state of an allowed set, whose members are the micro-operations at these places. It
-    /// shares with the other states what is the same in all. (`build` of cs_apm makes a plain
-    /// store.)
+    /// The state of an allowed set, whose members are the micro-operations at these places. The
+    /// order of the trace's own profile must allow it. The state shares with the others what is the
+    /// same in all. (`build` of cs_apm makes a plain store of the same tree.)
     pub fn build(&self, alloc: Global, places: &[u32]) -> Result<Built, AllocError>
         requires { IsAllowed (needs_of (micros_in self.now)) (length (micros_in self.now).ops)
             places.now }

@@ -1,6 +1,6 @@
-//! What a state doesn't share with the others: what is at the touched ids, at which states may
-//! differ. `kept` ids are those at which every state has the same. An id is a place in the order of
-//! paths that the state has.
+//! What a state doesn't share with the others (its own entries): what is at the touched ids, those
+//! of entries that some step changes, at which states may differ. The kept ids are those at which
+//! every state has the same.
 ghost use Rattle.std.specs.Prelude.{◌≡◌, ◌+◌, ◌<◌, ◌^◌, ◌++◌, ℕ, length, IfOk, OnOk};
 ghost use Rattle.cs_apm.specs.Orders.{needs_of};
 ghost use Rattle.cs_sets.specs.Sets.{IsAllowed};
@@ -18,7 +18,8 @@ use cs_paths::path_order::slot_of_id;
 use std::alloc::{AllocError, Global};
 
 /// Appends what is in the slot of the touched id, with its number in the state; nothing if the slot
-/// is empty. `before` is how many kept ids are before it.
+/// is empty. `before` is how many kept ids are before the id, and `own` has all own entries before
+/// it. After an error nothing was appended.
 fn push_own(own: &mut Vec<Own>, id: u32, before: u32, slot: Option<Node>) -> Result<(), AllocError>
     requires { before + length own.old.items < 2 ^ 32 }
     ensures { OnOk result
@@ -31,9 +32,9 @@ fn push_own(own: &mut Vec<Own>, id: u32, before: u32, slot: Option<Node>) -> Res
     Ok(())
 }
 
-/// What is at those touched ids at which there is something, with their numbers in the state.
-/// `places` has the entries by their paths, `slots` what each entry holds, and `kept_below` how
-/// many kept ids are before each id.
+/// What is at those touched ids at which there is something, with their numbers in the state, in
+/// ascending order. `places` has the places of entries in the order of paths, `slots` what the
+/// entry at each place holds, and `kept_below` how many kept ids are before each id.
 fn touched_entries(
     alloc: Global,
     touched: &[u32],
@@ -58,9 +59,9 @@ fn touched_entries(
     Ok(own)
 }
 
-/// What the state of a set doesn't share with the others. The steps of the members, which are at
-/// these places, are made in a copy of the slots, and what the slots of the touched ids then have
-/// is collected. The set keeps `moved` moves of directories.
+/// The own entries of the state of an allowed set, whose members are at these places. The members'
+/// steps are made in a copy of the slots; then what the slots of touched ids have is collected.
+/// `moved` is how many of the trace's moves of directories are members.
 pub fn own_of(
     alloc: Global,
     parts: &Parts,

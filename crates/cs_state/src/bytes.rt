@@ -1,4 +1,6 @@
-//! The bytes of a state's file: those at the start, with what the members of its set wrote.
+//! The bytes of a state's file: those before any change, with what the members of its set wrote.
+//! `members` has for each micro-operation whether it is a member. The bytes before any change are
+//! those at the start, or those with which the file is made.
 
 ghost use Rattle.std.specs.Prelude.{◌≡◌, ◌≢◌, ◌+◌, ◌*◌, ◌<◌, ◌≤◌, ◌^◌, ◌⊎◌, [], ℕ, true, false};
 ghost use Rattle.std.specs.Prelude.{drop, fold, length, map, slice_index_or, take, IfOk, IsErr};
@@ -18,9 +20,10 @@ use crate::members::{count_members, is_member};
 use cs_micro::MicroOp;
 use std::alloc::{AllocError, Global};
 
-/// The size of the file after the members: what the last member in `size_changes` sets, or `size`,
-/// the size at the start, if none is a member. `size_changes` has the places of the
-/// micro-operations that change the size, of which the members must be the first.
+/// The size of the file after the members, in bytes: what the last member in `size_changes` sets,
+/// or `size`, the one before any change, if none is a member. `size_changes` has the places of all
+/// micro-operations that change the size. The members must be the first of them, as P1 makes them
+/// in an allowed set.
 pub fn size_after_members(
     file: usize,
     size: u64,
@@ -43,7 +46,8 @@ pub fn size_after_members(
     size_after(file, size, &ops[size_changes[count - 1] as usize])
 }
 
-/// At most `count` of the bytes, from the offset on; none if the offset is at their end or past it.
+/// At most `count` of the bytes, from the offset on: fewer near their end, and none at their end or
+/// past it. (`part_of` of cs_tree and `part_of` of cs_overlay do the same.)
 fn piece_at(bytes: &[u8], offset: usize, count: usize) -> &[u8]
     ensures { result.now ≡ take count (drop offset bytes.now) }
 {
@@ -70,9 +74,11 @@ pub fn copy_piece(
     Vec::from_slice(alloc, piece)
 }
 
-/// Applies a change of size or a write, whichever file it names, to a part of a file that begins at
-/// the offset. The part keeps its length: a change of size zeroes what is past the new size. Any
-/// other micro-operation changes nothing. (`FileContent` of cs_apm does the same to a whole file.)
+/// Applies a cut or a write, whichever file it names, to a part of a file that begins at the
+/// offset. The part keeps its length. A change of size zeroes all that is past the new size, hidden
+/// bytes too: callers pass only changes that make the file shorter. Any other micro-operation
+/// changes nothing. (`FileContent::apply` of cs_apm does the same to a whole file, but a greater
+/// size leaves the bytes past it hidden there.)
 fn apply_to_part(part: &mut [u8], offset: usize, op: &MicroOp)
     requires room { offset + length part.old < 2 ^ 64 }
     requires small { IsSmall op.now }
@@ -93,8 +99,8 @@ fn apply_to_part(part: &mut [u8], offset: usize, op: &MicroOp)
 }
 
 /// Applies the micro-operations at those of the places that are members, in their order, to a part
-/// of a file that begins at the offset. The callers pass only places at which this file is changed:
-/// `apply_to_part` doesn't compare files.
+/// of a file that begins at the offset. The caller passes only places of writes into this file, and
+/// of changes that make it shorter: `apply_to_part` doesn't look at the file's number.
 fn apply_members_to_part(
     part: &mut [u8],
     offset: usize,
@@ -116,9 +122,9 @@ fn apply_members_to_part(
     }
 }
 
-/// Applies the micro-operations at those of the places that are members, in their order, to those
-/// bytes of a part that are in one page, of which there must be at least one. The part begins at
-/// the offset in the file; `page` is the page's number.
+/// Applies the micro-operations at those of the places that are members, in their order, to the
+/// bytes of a part that are in one page; the others stay. At least one must be in the page. The
+/// part begins at the offset in the file; `page` is the page's number in the file.
 fn apply_to_page(
     part: &mut [u8],
     offset: usize,
@@ -148,8 +154,8 @@ fn apply_to_page(
 }
 
 /// `count` bytes, at least one, of a file after the members, from the offset on, with zeros past
-/// its end. `start` has its bytes at the start, and `steps` the places of the micro-operations that
-/// change it.
+/// its end. `start` has its bytes before any change, and `steps` the places of the micro-operations
+/// that change it. Page by page, only those are applied that reach the page.
 pub fn part_left(
     alloc: Global,
     start: &[u8],

@@ -1,5 +1,5 @@
-//! A part of a file: `count` of its bytes from an offset on, with zeros past its end, and what
-//! changes them.
+//! A part of a file: some of its bytes from an offset on, with zeros past its end, and what changes
+//! them. cs_same_states uses these functions, too.
 ghost use Rattle.std.specs.Prelude.{◌≡◌, ◌+◌, ◌<◌, ◌≤◌, ◌^◌, length, take, IfOk};
 ghost use Rattle.cs_trace.specs.declared.limits.TheConstants.{LARGE_FILE_BYTES};
 ghost use Rattle.cs_apm.specs.States.{Content, overwritten};
@@ -8,8 +8,8 @@ ghost use Rattle.cs_state.specs.Windows.{whole_content, IsPart};
 use cs_apm::content::put_at;
 use std::alloc::{AllocError, Global};
 
-/// A copy of `count` bytes of a file from the offset on, with zeros past its end. (`copy_piece`
-/// ends there.)
+/// A copy of `count` bytes of a file from the offset on, with zeros past its end. `bytes` are all
+/// bytes of the file. (`copy_piece` returns fewer bytes there, in place of zeros.)
 pub fn copy_part(
     alloc: Global,
     bytes: &[u8],
@@ -27,8 +27,8 @@ pub fn copy_part(
     Ok(part)
 }
 
-/// Zeroes those bytes of a part that are past the first `size` bytes of the file. The part begins
-/// at the offset in the file.
+/// Zeroes those bytes of a part that are past the first `size` bytes of the file, as a change of
+/// size to `size` does. The part begins at the offset in the file.
 pub fn zero_past(part: &mut [u8], offset: usize, size: usize)
     ensures long { length part.new ≡ length part.old }
     ensures part { (f : Content) → IsPart offset f part.old
@@ -39,8 +39,8 @@ pub fn zero_past(part: &mut [u8], offset: usize, size: usize)
     part[from..].fill(0);
 }
 
-/// Writes those bytes of the piece that fall into a part; nothing if none does. The part begins at
-/// `offset` in the file, and the piece at `at`.
+/// Writes those bytes of the piece that fall into a part; if none does, nothing changes. The part
+/// begins at `offset` in the file, and the piece at `at`.
 pub fn write_piece(part: &mut [u8], offset: usize, at: usize, piece: &[u8])
     requires room { offset + length part.old < 2 ^ 64 }
     requires small { at + length piece.now ≤ LARGE_FILE_BYTES }

@@ -1,5 +1,5 @@
-//! Which micro-operations of a trace change a file, and which of its pages. A file's bytes at the
-//! start are here too. An error is that memory ran out; what was collected is then dropped.
+//! Which micro-operations of a trace change a file, and which of its pages. A file's bytes before
+//! any change are here, too.
 ghost use Rattle.std.specs.Prelude.{◌≡◌, ◌+◌, ◌/◌, ◌<◌, ◌≤◌, ◌^◌, ℕ, true, None, Some, length};
 ghost use Rattle.std.specs.Prelude.{slice_get, slice_index_or, IfOk, IsSome, OnOk};
 ghost use Rattle.std.specs.BTreeMap.{get};
@@ -21,24 +21,26 @@ use cs_trace::Trace;
 use std::alloc::{AllocError, Global};
 use std::collections::BTreeMap;
 
-/// How many bytes a page has. Files are read by pages, and no write into a block crosses the end of
-/// one: the size of a block divides it.
+/// How many bytes a page has, whatever the size of a block. Files are read by pages, and no write
+/// into a block crosses the end of a page, since the size of a block divides that of a page.
 pub const PAGE_BYTES: u64 = 4_096;
 
-/// The places of the micro-operations that change a file.
+/// The places of the micro-operations that change a file, in several lists, each ascending. One
+/// makes the file shorter if it sets a smaller size than the file has after all before it.
 #[derive(Debug, Drop)]
 pub struct FileSteps {
-    /// Those that change its size.
+    /// The places of those that change its size.
     pub size_changes: Vec<u32>,
-    /// Those that make it shorter: only these reach a page that none writes into.
+    /// The places of those that make it shorter: only these reach a page that none writes into.
     pub cuts: Vec<u32>,
-    /// For each page that one writes into, by its number: those that do, and those that make the
-    /// file shorter.
+    /// For each page that one writes into, by its number: the places of those that write into it
+    /// or make the file shorter.
     pub pages: BTreeMap<u64, Vec<u32>>,
 }
 
-/// The file's size after a micro-operation: the size that it sets, if it sets this file's, and
-/// otherwise `size`, the size before it.
+/// The file's size in bytes after a micro-operation: the size that it sets, if it sets this file's,
+/// and if not, `size`, the size before it. `size_after_op` in `reaching` of cs_same_states has the
+/// same body.
 pub fn size_after(file: usize, size: u64, op: &MicroOp) -> u64
     ensures { result ≡ size_after file size op.now }
 {
@@ -57,7 +59,7 @@ pub fn size_after(file: usize, size: u64, op: &MicroOp) -> u64
     }
 }
 
-/// Whether the micro-operation changes the size of the file.
+/// Whether the micro-operation is a change of the size of the file.
 fn resizes(file: usize, op: &MicroOp) -> bool
     ensures { result ≡ resizes file op.now }
 {
@@ -67,8 +69,9 @@ fn resizes(file: usize, op: &MicroOp) -> bool
     }
 }
 
-/// Whether the micro-operation makes its file shorter than `size`, or writes into the page. If
-/// `page` is None, no write counts. The callers pass only changes of one file.
+/// Whether the micro-operation makes its file shorter than `size`, or writes into the page with
+/// this number. If `page` is None, no write counts. The file's number isn't looked at: callers pass
+/// only changes of one file.
 fn reaches(page: Option<u64>, size: u64, op: &MicroOp) -> bool
     requires { IsSmall op.now }
     ensures { result ≡ reaches page size op.now }
@@ -80,8 +83,8 @@ fn reaches(page: Option<u64>, size: u64, op: &MicroOp) -> bool
     }
 }
 
-/// Whether the micro-operation changes the size or the bytes of the file. (As `changes_file` of
-/// cs_apm, but the file's number is a usize.)
+/// Whether the micro-operation changes the size or the bytes of the file: as `changes_file` of
+/// cs_apm, but with the file's number as a usize. Change both together.
 fn writes_or_resizes(file: usize, op: &MicroOp) -> bool
     ensures { result ≡ changes_file file op.now }
 {
@@ -93,8 +96,8 @@ fn writes_or_resizes(file: usize, op: &MicroOp) -> bool
     }
 }
 
-/// The size of the file before each micro-operation, if all those before it are members. `start` is
-/// its size at the start.
+/// The size of the file before each micro-operation of the trace, if all before it are members, in
+/// bytes. `start` is its size before any change.
 fn sizes_before(
     alloc: Global,
     file: usize,
@@ -115,7 +118,7 @@ fn sizes_before(
     Ok(sizes)
 }
 
-/// The places of the micro-operations that change the size of the file.
+/// The places of the micro-operations that change the size of the file, ascending.
 fn resizing_places(alloc: Global, file: usize, ops: &[MicroOp]) -> Result<Vec<u32>, AllocError>
     requires { length ops.now < 2 ^ 20 }
     ensures { IfOk result
@@ -129,7 +132,7 @@ fn resizing_places(alloc: Global, file: usize, ops: &[MicroOp]) -> Result<Vec<u3
     Ok(places)
 }
 
-/// The places of the micro-operations that change the size or the bytes of the file.
+/// The places of the micro-operations that change the size or the bytes of the file, ascending.
 fn changing_places(alloc: Global, file: usize, ops: &[MicroOp]) -> Result<Vec<u32>, AllocError>
     requires { length ops.now < 2 ^ 20 }
     ensures { IfOk result
@@ -143,8 +146,9 @@ fn changing_places(alloc: Global, file: usize, ops: &[MicroOp]) -> Result<Vec<u3
     Ok(places)
 }
 
-/// Those of the places whose micro-operations write into the page, or make the file shorter. If
-/// `page` is None, no write counts. `sizes` has the file's size before each micro-operation.
+/// Those of the places whose micro-operations write into the page with this number, or make the
+/// file shorter. If `page` is None, no write counts. `sizes` has the file's size before each
+/// micro-operation of the trace, and the places are of changes of the file.
 fn places_reaching(
     alloc: Global,
     page: Option<u64>,
@@ -167,8 +171,9 @@ fn places_reaching(
     Ok(found)
 }
 
-/// Adds the page's row, unless it has one: those of the places that write into the page, or make
-/// the file shorter.
+/// Adds the row of the page with this number: those of the places that write into the page, or make
+/// the file shorter. If the page has a row, nothing changes. After an error no row was added.
+/// (`add_file_row` and `add_directory_row` of `owner_steps` have the same body.)
 fn add_page_row(
     alloc: Global,
     rows: &mut BTreeMap<u64, Vec<u32>>,
@@ -196,8 +201,8 @@ fn add_page_row(
     Ok(())
 }
 
-/// For each page that a micro-operation at one of the places writes into: the places of those that
-/// write into it or make the file shorter.
+/// For each page that a micro-operation at one of the places writes into, by the page's number: the
+/// places of those that write into it or make the file shorter.
 fn page_rows(
     alloc: Global,
     sizes: &[u64],
@@ -232,8 +237,8 @@ impl FileSteps {
         }
     }
 
-    /// The places of the micro-operations that change the file of this number, which has `start`
-    /// bytes at the start.
+    /// The places of the micro-operations that change the file with this number, which has `start`
+    /// bytes before any change.
     fn of(
         alloc: Global,
         file: usize,
@@ -256,8 +261,8 @@ impl FileSteps {
         })
     }
 
-    /// The places of the micro-operations that write into the page, or make the file shorter; only
-    /// the latter if none writes into it.
+    /// The places of the micro-operations that write into the page with this number, or make the
+    /// file shorter. If none writes into the page, only those that make the file shorter.
     pub fn row(&self, page: u64) -> &[u32]
         ensures { result.now ≡ row_at self.now page }
     {
@@ -268,8 +273,9 @@ impl FileSteps {
     }
 }
 
-/// The bytes that the micro-operation makes a file or a symbolic link with; none if it makes
-/// neither. (A private function of cs_apm has the same body.)
+/// The bytes with which the micro-operation makes a symbolic link: its target. Empty if it makes
+/// anything else, or nothing: a new file has no bytes. (Private functions in `files` of cs_apm and
+/// in `starts` of cs_same_states have the same body.)
 fn bytes_made(op: &MicroOp) -> &[u8]
     ensures { content_of_bytes result.now ≡ content_made op.now }
 {
@@ -279,8 +285,9 @@ fn bytes_made(op: &MicroOp) -> &[u8]
     }
 }
 
-/// The bytes with which a micro-operation makes the file of this number after the start's; empty if
-/// none does. `makings` has the place of the making of each of them.
+/// The bytes with which a file that isn't there at the start is made; empty if no micro-operation
+/// makes it. `number` counts only such files, from 0, and `makings` has the place of the making of
+/// each. (`starts` of cs_same_states has the same body.)
 fn made_bytes<'a>(ops: &'a [MicroOp], makings: &[u32], number: usize) -> &'a [u8]
     requires { AreMakings ops.now makings.now }
     ensures { result.now ≡ (slice_index_or (files_made ops.now) number no_content).bytes }
@@ -291,9 +298,9 @@ fn made_bytes<'a>(ops: &'a [MicroOp], makings: &[u32], number: usize) -> &'a [u8
     }
 }
 
-/// The bytes of the file at the start, or those that it is made with: a symbolic link's target. The
-/// record that `tables` has for a file at the start is a file's, so it has bytes. `start_bytes` of
-/// cs_same_states has the same body; `file_before` of cs_apm copies the same bytes.
+/// The bytes of the file before any change: those at the start, or those with which it is made, a
+/// symbolic link's target. Empty if the trace has no such file. The tables are those of the trace.
+/// `start_bytes` of cs_same_states has the same body; `file_before` of cs_apm copies these bytes.
 pub fn start_bytes<'a>(
     trace: &'a Trace,
     ops: &'a [MicroOp],
@@ -312,7 +319,8 @@ pub fn start_bytes<'a>(
     content.bytes().unwrap_or(&[])
 }
 
-/// The places of the micro-operations that change the file; no places if, by `tables`, none does.
+/// The places of the micro-operations that change the file; no places if `tables.changed` says that
+/// none does.
 fn steps_of_file(
     alloc: Global,
     trace: &Trace,
@@ -337,7 +345,8 @@ fn steps_of_file(
     Ok(steps)
 }
 
-/// For each file, by its number, the places of the micro-operations that change it.
+/// For each file and symbolic link of the trace, by its number, the places of the micro-operations
+/// that change it.
 pub fn all_steps(
     alloc: Global,
     trace: &Trace,

@@ -1,5 +1,5 @@
-//! The ids at which all states that keep the same moves of directories have the same, and those at
-//! which they may differ.
+//! The ids at which all states with the same moves of directories have the same (the kept ids), and
+//! those at which they may differ (the touched ids).
 ghost use Rattle.std.specs.Prelude.{◌≡◌, length, IfOk};
 ghost use Rattle.cs_paths.specs.PathOrders.{ArePlaces};
 ghost use Rattle.cs_state.specs.Shares.{AreForOrders, AreIds};
@@ -9,20 +9,22 @@ use cs_apm::tables::Tables;
 use cs_paths::path_order::{marks_by_path, slots_by_path};
 use std::alloc::{AllocError, Global};
 
-/// Ids of an order of paths, by what the steps of the trace do to their entries.
+/// The ids of an order of paths, divided by what the steps of the trace do to their entries. An id
+/// whose entry never holds anything is in neither list.
 #[derive(Debug, Drop)]
 pub struct KeptIds {
-    /// The ids at which every state has the same, ascending.
+    /// The ids at which there is something at the start that no step touches, ascending, with 0,
+    /// the root's: every state has the same there.
     pub kept: Vec<u32>,
-    /// For each id, how many of these are before it.
+    /// For each id, how many of `kept` are lower.
     pub kept_below: Vec<u32>,
     /// The ids of the entries that some step touches, ascending: there, states may differ.
     pub touched: Vec<u32>,
 }
 
 impl KeptIds {
-    /// The ids of the order with these places. `marks` has, for each entry, whether some step
-    /// touches it.
+    /// The ids of the order of paths that `places` gives: the places of entries by their paths.
+    /// `marks` has, for each entry by its place, whether some step touches it.
     pub fn of(
         alloc: Global,
         tables: &Tables,

@@ -1,6 +1,6 @@
-//! Which entries some step touches, and which are kept: every state has the same there. The marks
-//! of steps are by the entries' places; the lists of what is touched and kept are by ids, places in
-//! an order of paths, of which the slots and the marks here are in that order.
+//! Which entries some step touches, and which are kept: every state has the same there. In
+//! `marks_of` the marks are by the entries' places; in the functions after it, marks and slots are
+//! in an order of paths, so that their indices are ids.
 ghost use Rattle.std.specs.Prelude.{◌≡◌, ◌+◌, ◌<◌, ◌^◌, ◌⊎◌, ℕ, cond, false, true};
 ghost use Rattle.std.specs.Prelude.{length, IfOk};
 ghost use Rattle.std.specs.List.{All};
@@ -14,7 +14,8 @@ use cs_entries::Node;
 use cs_paths::passing::push_if;
 use std::alloc::{AllocError, Global};
 
-/// Marks the entries that a step changes: two of a move, none of `Step::Other`, and otherwise one.
+/// Marks the entries that a step touches: two of a move, one of a `Step::Set`, none of a
+/// `Step::Other`.
 fn mark_touched(marks: &mut [bool], step: Step)
     requires { FitsIn (length marks.old) step }
     ensures long { length marks.new ≡ length marks.old }
@@ -33,7 +34,7 @@ fn mark_touched(marks: &mut [bool], step: Step)
     }
 }
 
-/// For each of `count` entries, whether one of the steps changes it.
+/// For each of `count` entries, by its place, whether one of the steps touches it.
 pub fn marks_of(alloc: Global, steps: &[Step], count: usize) -> Result<Vec<bool>, AllocError>
     requires { All (FitsIn count) steps.now }
     ensures long { IfOk result (λ marks. length marks.items ≡ count) }
@@ -49,7 +50,7 @@ pub fn marks_of(alloc: Global, steps: &[Step], count: usize) -> Result<Vec<bool>
     Ok(marks)
 }
 
-/// The marked ids, ascending.
+/// The marked ids, ascending: those of touched entries.
 pub fn marked_ids(alloc: Global, marks: &[bool]) -> Result<Vec<u32>, AllocError>
     requires { length marks.now < 2 ^ 20 }
     ensures { IfOk result
@@ -62,7 +63,7 @@ pub fn marked_ids(alloc: Global, marks: &[bool]) -> Result<Vec<u32>, AllocError>
     Ok(found)
 }
 
-/// Whether the id is kept: there is something from the start on, and no step changes it.
+/// Whether the id is kept: there is something at the start, and no step touches it.
 fn is_kept_id(marks: &[bool], slots: &[Option<Node>], id: usize) -> bool
     requires marked { id < length marks.now }
     requires there { id < length slots.now }
@@ -71,8 +72,7 @@ fn is_kept_id(marks: &[bool], slots: &[Option<Node>], id: usize) -> bool
     !marks[id] && slots[id].is_some()
 }
 
-/// The kept ids, ascending: there is something from the start on, and no step changes
-/// it.
+/// The kept ids, ascending: there is something at the start, and no step touches it.
 pub fn kept_of(
     alloc: Global,
     marks: &[bool],
@@ -91,7 +91,7 @@ pub fn kept_of(
     Ok(found)
 }
 
-/// One more than the count if it passes, otherwise the count.
+/// The count, and one more if `passes` is true.
 fn count_if(count: u32, passes: bool) -> u32
     requires { count < 2 ^ 20 }
     ensures { result ≡ count + cond passes 1 0 }
@@ -99,7 +99,7 @@ fn count_if(count: u32, passes: bool) -> u32
     if passes { count + 1 } else { count }
 }
 
-/// For each id, how many of the kept ids are before it; the id itself doesn't count.
+/// For each id, how many of the kept ids are lower.
 pub fn kept_below(
     alloc: Global,
     marks: &[bool],

@@ -1,5 +1,5 @@
-//! The entries of a directory by their names, whatever a state has there. A place is one among all
-//! entries, which are in the order of directories and then of names.
+//! The entries of a directory by their names, whatever a state has there. Entries are in the order
+//! of their directories' numbers and then of names, as bytes.
 ghost use Rattle.std.specs.Prelude.{◌≡◌, ◌<◌, ◌≤◌, ℕ, length};
 ghost use Rattle.std.specs.Option.{option_copied, option_map};
 ghost use Rattle.cs_entries.specs.Paths.{entry_in};
@@ -10,7 +10,7 @@ use cs_apm::walk::range_of;
 use cs_entries::Entry;
 use cs_names::Name;
 
-/// The place of the directory's entry of this name; None if it isn't among the entries.
+/// The place of the entry with this name in the directory; None if the trace has no such entry.
 pub fn place_of_entry(entries: &[Entry], directory: u32, name: &str) -> Option<usize>
     requires { AreAscending entries.now }
     ensures { result ≡ place_of_entry entries.now (entry_in directory name.now) }
@@ -25,8 +25,9 @@ pub fn place_of_entry(entries: &[Entry], directory: u32, name: &str) -> Option<u
     }
 }
 
-/// The places from which on and before which the directory's entries are whose names come after
-/// `last`, or all of them if that is None.
+/// The range of the places of those of the directory's entries whose names come after `last`, or of
+/// all of them if `last` is None: the first place, and the one after the last. Both are the same if
+/// there are none.
 pub fn range_after(entries: &[Entry], directory: u32, last: Option<&Name>) -> (usize, usize)
     requires { AreAscending entries.now }
     ensures order { result.0 ≤ result.1 }

@@ -1,6 +1,6 @@
-//! The numbers of the files and directories of a state: their places in the order of paths, from 0.
-//! They are computed from the kept ids, which states share, and the state's own entries. An id is a
-//! place in the order that the paths of all entries have in the state.
+//! The numbers of the files and directories of a state: how many it has before them in the order of
+//! paths. They are computed from the kept ids, which states share, and the state's own entries:
+//! both lists ascend, no id is in both, and together they have all that the state has.
 ghost use Rattle.std.specs.Prelude.{◌≡◌, ◌+◌, ◌^◌, ◌<◌, ◌≤◌, ℕ, length, IfNone, IfSome};
 ghost use Rattle.std.specs.List.Sorted.{IsNonDecreasingBy};
 ghost use Rattle.cs_state.specs.Numbers.{own_in_place, count_with_key_below, kept_at, number_in};
@@ -11,25 +11,28 @@ ghost use Rattle.cs_paths.specs.PathOrders.{slots_by_path};
 use cs_entries::Node;
 use cs_paths::path_order::slot_of_id;
 
-/// A touched entry that holds something in a state.
+/// A state's own entry: one that some step touches, and that holds something in this state.
 #[derive(Clone, Copy, Debug)]
 pub struct Own {
     /// The entry's id.
     pub id: u32,
-    /// How many that hold something come before it in the state; the root is one of them.
+    /// The number of what it holds: how many files and directories of the state come before it in
+    /// the order of paths, the root too.
     pub number: u32,
-    /// What it holds.
+    /// What it holds; never None.
     pub slot: Option<Node>,
 }
 
-/// The root, or an entry that holds something in a state, by its id.
+/// The root, or an entry that holds something in a state.
 #[derive(Clone, Copy, Debug)]
 pub struct Found {
+    /// Its id; 0 for the root.
     pub id: u32,
+    /// What it holds; the root's directory for the root. Never None.
     pub slot: Option<Node>,
 }
 
-/// How many of the own entries have a number below this one. The count must be at least `least` and
+/// How many of the own entries have a number below `number`. The count must be at least `least` and
 /// at most `most`; the binary search is between these two. Either may be past the list's end.
 fn numbers_below(own: &[Own], least: usize, most: usize, number: u64) -> usize
     requires rising { IsNonDecreasingBy (λ (o : Own). o.number) own.now }
@@ -47,8 +50,8 @@ fn numbers_below(own: &[Own], least: usize, most: usize, number: u64) -> usize
     from + own[from..end].partition_point(|o| (o.number as u64) < number)
 }
 
-/// How many of the own entries have an id below this one. The count must be at least `least` and at
-/// most `most`; the binary search is between these two. Either may be past the list's end.
+/// How many of the own entries have an id below the given id. The count must be at least `least`
+/// and at most `most`; the binary search is between these two. Either may be past the list's end.
 fn ids_below(own: &[Own], least: usize, most: usize, id: u32) -> usize
     requires rising { IsNonDecreasingBy (λ (o : Own). o.id) own.now }
     requires least { (k : ℕ) → k < least → k < length own.now → (own_in_place own.now k).id < id }
@@ -62,8 +65,9 @@ fn ids_below(own: &[Own], least: usize, most: usize, id: u32) -> usize
     from + own[from..end].partition_point(|o| o.id < id)
 }
 
-/// The entry with this number in the state: its id, and what it holds. None if the state has no
-/// such number. `places` has the entries by their paths, and `slots` what each holds at the start.
+/// The root or the entry with this number in the state: its id, and what it holds. None if the
+/// state has no such number. `kept` has the kept ids and `own` the state's own entries, `places`
+/// the places of entries in the order of paths, and `slots` what each holds at the start, by place.
 pub fn found_at_number(
     kept: &[u32],
     places: &[u32],
@@ -80,8 +84,8 @@ pub fn found_at_number(
     ensures number { IfSome result (λ f. number_in kept.now own.now f.id ≡ number) }
     ensures none { IfNone result (length kept.now + length own.now ≤ number) }
 {
-    // Below a number of the state there are `number` others, each of an own entry or of a kept
-    // id: so at most `number` of own entries, and at least `number` less `kept.len()`.
+    // A number of the state has `number` others below it, each of an own entry or of a kept id: so
+    // at most `number` are of own entries, and at least `number` less `kept.len()`.
     let most = number as usize;
     let before = numbers_below(own, most.saturating_sub(kept.len()), most, number);
     if before < own.len() {
@@ -103,8 +107,8 @@ pub fn found_at_number(
     }
 }
 
-/// The number of what is at this id. `kept` has the kept ids, `kept_below` how many of them are
-/// before each id, and `own` the state's own entries. None if nothing is there in the state.
+/// The number of what is at this id in the state; None if nothing is there. `kept` has the kept
+/// ids, `kept_below` how many of them are lower than each id, and `own` the state's own entries.
 pub fn number_of(kept: &[u32], kept_below: &[u32], own: &[Own], id: u32) -> Option<u64>
     requires merge { IsMerge kept.now own.now }
     requires there { id < length kept_below.now }

@@ -1,6 +1,6 @@
 //! Which micro-operations of a trace set the owner, group and permissions of a file or of a
-//! directory. Its `owner` is all three here. An error is that memory ran out; what was collected is
-//! then dropped.
+//! directory. In the names here, `owner` and `rights` mean all three. A row is a list of places,
+//! ascending. In an allowed set, the members of a row are the first of it, by P2 or P7.
 ghost use Rattle.std.specs.Prelude.{◌≡◌, ◌<◌, ◌^◌, ℕ, length, true, IfOk, IsSome, OnOk};
 ghost use Rattle.std.specs.BTreeMap.{get};
 ghost use Rattle.std.specs.Ordering.{nat_cmp};
@@ -25,15 +25,15 @@ use std::collections::BTreeMap;
 /// directories.
 #[derive(Debug, Drop)]
 pub struct OwnerSteps {
-    /// For each file whose owner, group and permissions some micro-operation sets, by its number:
-    /// the places of all that do.
+    /// For each file whose owner, group and permissions some micro-operation sets, by the file's
+    /// number: the places of all that do. The making of a file isn't one of them.
     pub rows: BTreeMap<u32, Vec<u32>>,
-    /// The same of the directories, by theirs. One that a micro-operation makes has the place of
-    /// its making too: that sets them as well.
+    /// For each directory that some micro-operation makes, or whose owner, group and permissions
+    /// one sets, by the directory's number: the places of all that do.
     pub directories: BTreeMap<u32, Vec<u32>>,
 }
 
-/// Whether the micro-operation sets the owner, group and permissions of the file.
+/// Whether the micro-operation sets the owner, group and permissions of the file: a `set_attr`.
 fn sets_rights(file: u32, op: &MicroOp) -> bool
     ensures { result ≡ sets_rights file op.now }
 {
@@ -58,8 +58,9 @@ fn rights_places(alloc: Global, file: u32, ops: &[MicroOp]) -> Result<Vec<u32>, 
     Ok(places)
 }
 
-/// Adds the file's row, unless it has one: the places of the micro-operations that set its owner,
-/// group and permissions.
+/// Adds the file's row: the places of the micro-operations that set its owner, group and
+/// permissions. If the file has a row, nothing changes. After an error no row was added.
+/// (`add_directory_row`, and `add_page_row` of `file_steps`, have the same body.)
 fn add_file_row(
     alloc: Global,
     rows: &mut BTreeMap<u32, Vec<u32>>,
@@ -82,8 +83,9 @@ fn add_file_row(
     Ok(())
 }
 
-/// The number of the directory whose owner, group and permissions the micro-operation sets, also by
-/// making it; None if it sets those of none.
+/// The number of the directory that the micro-operation makes, or whose owner, group and
+/// permissions it sets; None if it does neither. (`directory_set` of cs_same_states has the same
+/// body.)
 fn directory_set(op: &MicroOp) -> Option<u32>
     ensures { result ≡ directory_set op.now }
 {
@@ -100,7 +102,8 @@ fn directory_set(op: &MicroOp) -> Option<u32>
     }
 }
 
-/// The places of the micro-operations that set the owner, group and permissions of the directory.
+/// The places of the micro-operations that make the directory or set its owner, group and
+/// permissions.
 fn directory_places(alloc: Global, directory: u32, ops: &[MicroOp]) -> Result<Vec<u32>, AllocError>
     requires { length ops.now < 2 ^ 20 }
     ensures { IfOk result (λ places. places.items ≡ directory_places ops.now directory) }
@@ -116,8 +119,9 @@ fn directory_places(alloc: Global, directory: u32, ops: &[MicroOp]) -> Result<Ve
     Ok(places)
 }
 
-/// Adds the directory's row, unless it has one: the places of the micro-operations that set its
-/// owner, group and permissions.
+/// Adds the directory's row: the places of the micro-operations that make it or set its owner,
+/// group and permissions. If the directory has a row, nothing changes. After an error no row was
+/// added. (`add_file_row`, and `add_page_row` of `file_steps`, have the same body.)
 fn add_directory_row(
     alloc: Global,
     rows: &mut BTreeMap<u32, Vec<u32>>,
@@ -140,7 +144,8 @@ fn add_directory_row(
     Ok(())
 }
 
-/// The rows of all files.
+/// The rows of all files that have one: those whose owner, group and permissions some
+/// micro-operation sets.
 fn file_rows(alloc: Global, ops: &[MicroOp]) -> Result<BTreeMap<u32, Vec<u32>>, AllocError>
     requires { length ops.now < 2 ^ 20 }
     ensures { IfOk result
@@ -159,7 +164,8 @@ fn file_rows(alloc: Global, ops: &[MicroOp]) -> Result<BTreeMap<u32, Vec<u32>>, 
     Ok(rows)
 }
 
-/// The rows of all directories.
+/// The rows of all directories that have one: those that some micro-operation makes, or whose
+/// owner, group and permissions one sets.
 fn directory_rows(alloc: Global, ops: &[MicroOp]) -> Result<BTreeMap<u32, Vec<u32>>, AllocError>
     requires { length ops.now < 2 ^ 20 }
     ensures { IfOk result
@@ -175,8 +181,7 @@ fn directory_rows(alloc: Global, ops: &[MicroOp]) -> Result<BTreeMap<u32, Vec<u3
 }
 
 impl OwnerSteps {
-    /// The places of the micro-operations that set the owner, group and permissions of files and
-    /// directories, by their numbers.
+    /// The rows of all files and directories of a trace with these micro-operations.
     pub fn of(alloc: Global, ops: &[MicroOp]) -> Result<OwnerSteps, AllocError>
         requires { length ops.now < 2 ^ 20 }
         ensures { IfOk result (AreOwnerSteps ops.now) }
@@ -186,8 +191,8 @@ impl OwnerSteps {
         Ok(OwnerSteps { rows, directories })
     }
 
-    /// The places of the micro-operations that set the owner, group and permissions of the
-    /// directory, also by making it; empty if none does.
+    /// The places of the micro-operations that make the directory or set its owner, group and
+    /// permissions; empty if none does.
     pub fn directory_row(&self, directory: u32) -> &[u32]
         ensures { result.now ≡ row_in self.now.directories directory }
     {
@@ -197,8 +202,8 @@ impl OwnerSteps {
         }
     }
 
-    /// The places of the micro-operations that set the owner, group and permissions of the file;
-    /// empty if none does.
+    /// The places of the micro-operations that set the owner, group and permissions of the file,
+    /// without its making; empty if none does.
     pub fn row(&self, file: u32) -> &[u32]
         ensures { result.now ≡ row_in self.now.rows file }
     {
@@ -210,9 +215,9 @@ impl OwnerSteps {
 }
 
 /// The owner, group and permissions of the file after the members: those that the last member in
-/// `places` sets, or `owner`, those that it was made with, if none is a member. `places` has the
-/// micro-operations that set them, of which the members must be the first. (`owner_left` of cs_apm
-/// gives the same, and goes through all members.)
+/// `places` sets, or `owner`, those at the start or as it is made, if none is a member. `places` is
+/// the file's row, of which the members must be the first. (`owner_left` of cs_apm finds the same,
+/// and looks at all members.)
 pub fn owner_after_members<'a>(
     file: u32,
     owner: &'a Rights,
@@ -235,9 +240,9 @@ pub fn owner_after_members<'a>(
 }
 
 /// The owner, group and permissions of the directory after the members: those that the last member
-/// in `places` sets or makes it with, or `owner`, those that it has at the start, if none is a
-/// member. `places` has the micro-operations that do, of which the members must be the first.
-/// (`directory_left` of cs_apm gives the same, and goes through all members.)
+/// in `places` makes it with or sets, or `owner`, those at the start, if none is a member. `places`
+/// is the directory's row, of which the members must be the first. (`directory_left` of cs_apm
+/// finds the same, and looks at all members.)
 pub fn directory_after_members<'a>(
     directory: u32,
     owner: &'a Rights,

@@ -1,5 +1,6 @@
-//! Metadata and bytes of what an entry of a state holds. The `owner` of a file or directory is its
-//! owner, group and permissions here, as in `owner_steps`.
+//! Metadata and bytes of what an entry of a state holds. `parts` are those of the trace, and
+//! `members` has for each micro-operation whether the state has it. In names, `owner` means owner,
+//! group and permissions, as in `owner_steps`. A file may be a symbolic link.
 
 ghost use Rattle.std.specs.Prelude.{◌≡◌, ◌≢◌, ◌+◌, ◌<◌, ◌≤◌, ◌^◌, [], true, Some, drop, length};
 ghost use Rattle.std.specs.Prelude.{slice_get, take, IfErr, IfOk, IsErr, IsSomeAnd};
@@ -23,7 +24,8 @@ use cs_trace::Rights;
 use cs_tree_model::{DMDIR, DMSYMLINK, Kind, Metadata};
 use std::alloc::{AllocError, Global};
 
-/// The bytes of the file at the start, or as it is made: as `start_bytes` has them.
+/// The bytes of the file before any change: those at the start, or those with which it is made
+/// (`start_bytes`).
 fn bytes_at_start<'a>(parts: &'a Parts, file: u32) -> &'a [u8]
     requires { AreParts parts.now }
     ensures { result.now ≡ bytes_before parts.now file }
@@ -36,8 +38,8 @@ fn bytes_at_start<'a>(parts: &'a Parts, file: u32) -> &'a [u8]
     )
 }
 
-/// The size, after the members, of a file that some micro-operation changes; `size` is its size at
-/// the start.
+/// The size in bytes, after the members, of a file that some micro-operation changes; `size` is its
+/// size before any change.
 fn changed_size(parts: &Parts, members: &[bool], file: u32, size: u64) -> u64
     requires parts { AreParts parts.now }
     requires known { file < length parts.now.tables.owners.items }
@@ -56,7 +58,8 @@ fn changed_size(parts: &Parts, members: &[bool], file: u32, size: u64) -> u64
     )
 }
 
-/// The size of the file after the members: that at the start if no micro-operation changes it.
+/// The size of the file after the members, in bytes: the one before any change if no
+/// micro-operation of the trace changes it.
 fn file_size(parts: &Parts, members: &[bool], file: u32) -> u64
     requires parts { AreParts parts.now }
     requires known { file < length parts.now.tables.owners.items }
@@ -71,8 +74,9 @@ fn file_size(parts: &Parts, members: &[bool], file: u32) -> u64
     }
 }
 
-/// `count` bytes, at least one, from an offset on, of a file that some micro-operation changes; all
-/// must be before its end. `start` has its bytes at the start.
+/// `count` bytes, from the offset on, of a file that some micro-operation changes, as the members
+/// leave it. It must be at least one byte, and all must be before the file's end. `start` has the
+/// file's bytes before any change.
 fn changed_part(
     alloc: Global,
     parts: &Parts,
@@ -100,9 +104,9 @@ fn changed_part(
     Ok(part)
 }
 
-/// At most `count` bytes after the members, from the offset on, of a file that some micro-operation
-/// changes: fewer, or none, near its end or past it. `start` has its bytes at the start. Memory can
-/// run out only if there is a byte to read.
+/// At most `count` bytes, from the offset on, of a file that some micro-operation changes, as the
+/// members leave it: fewer near its end, and none at its end or past it. `start` has the file's
+/// bytes before any change. Memory can run out only if there is a byte to read.
 fn changed_bytes(
     alloc: Global,
     parts: &Parts,
@@ -134,8 +138,8 @@ fn changed_bytes(
     Ok(bytes)
 }
 
-/// At most `count` bytes of the file after the members, from the offset on: fewer, or none, near
-/// its end or past it. Memory can run out only if there is a byte to read.
+/// At most `count` bytes of the file after the members, from the offset on: fewer near its end, and
+/// none at its end or past it. Memory can run out only if there is a byte to read.
 fn file_bytes(
     alloc: Global,
     parts: &Parts,
@@ -162,7 +166,8 @@ fn file_bytes(
     }
 }
 
-/// The owner, group and permissions of the directory after the members.
+/// The owner, group and permissions of the directory, given by its number in the trace, after the
+/// members.
 fn directory_owner_of<'a>(parts: &'a Parts, members: &[bool], directory: u32) -> &'a Rights
     requires parts { AreParts parts.now }
     requires known { directory < length parts.now.tables.directories.items }
@@ -174,7 +179,8 @@ fn directory_owner_of<'a>(parts: &'a Parts, members: &[bool], directory: u32) ->
     directory_after_members(directory, made, parts.micros.ops(), steps, members)
 }
 
-/// The owner, group and permissions of the file after the members.
+/// The owner, group and permissions of the file, given by its number in the trace, after the
+/// members.
 fn owner_of<'a>(parts: &'a Parts, members: &[bool], file: u32) -> &'a Rights
     requires parts { AreParts parts.now }
     requires known { file < length parts.now.tables.owners.items }
@@ -186,10 +192,10 @@ fn owner_of<'a>(parts: &'a Parts, members: &[bool], file: u32) -> &'a Rights
     owner_after_members(file, made, parts.micros.ops(), steps, members)
 }
 
-/// The metadata of a record that was never changed: version and times are 0, and the owner is also
-/// the user who changed it last. `bit` is DMDIR for a directory, DMSYMLINK for a symbolic link, 0
-/// for another file; of the permissions, the lowest nine bits count. (`record_with` of cs_apm makes
-/// such a record.)
+/// The metadata of a record that no client has changed: version and times are 0, and the user who
+/// changed it last (muid) is the owner. `bit` is DMDIR for a directory, DMSYMLINK for a symbolic
+/// link, and 0 for another file. Of the permissions, the lowest nine bits count. (`record_with` of
+/// cs_apm makes such a record.)
 fn unchanged_metadata(number: u64, rights: &Rights, bit: u32, kind: Kind) -> Metadata<'_>
     requires { bit ≤ DMDIR }
     ensures { metadata_of_ref result ≡ unchanged_metadata number rights.now bit kind }
@@ -207,7 +213,8 @@ fn unchanged_metadata(number: u64, rights: &Rights, bit: u32, kind: Kind) -> Met
     }
 }
 
-/// The bit of the mode of a file of this kind. (A private function of cs_apm has the same body.)
+/// The bit that a file of this kind has in its mode above the permissions: DMSYMLINK of 9P2000.u
+/// for a symbolic link, 0 for a regular file. (`kind_bit` in `making` of cs_apm has the same body.)
 fn kind_bit(kind: FileKind) -> u32
     ensures { result ≡ kind_bit kind }
 {
@@ -217,8 +224,9 @@ fn kind_bit(kind: FileKind) -> u32
     }
 }
 
-/// The metadata, with this number, of what an entry holds after the members: that of the record
-/// that `record_at` of cs_apm makes.
+/// The metadata, after the members, of the file, symbolic link or directory `node`. `number` is the
+/// one that it has in the state's tree, not the node's. (`record_at` in `making` of cs_apm makes
+/// the record with this metadata.)
 pub fn metadata_of<'a>(parts: &'a Parts, members: &[bool], number: u64, node: Node) -> Metadata<'a>
     requires parts { AreParts parts.now }
     requires known { IsKnown (length parts.now.tables.directories.items)
@@ -240,9 +248,9 @@ pub fn metadata_of<'a>(parts: &'a Parts, members: &[bool], number: u64, node: No
     }
 }
 
-/// At most `count` bytes, from the offset on, of the file that an entry holds after the members:
-/// fewer, or none, near its end or past it. None of a directory. Memory can run out only if there
-/// is a byte to read.
+/// At most `count` bytes, from the offset on, of the file `node` after the members: fewer near its
+/// end, and none at its end or past it. None (not an empty list) for a directory. Memory can run
+/// out only if there is a byte to read.
 pub fn read_node(
     alloc: Global,
     parts: &Parts,

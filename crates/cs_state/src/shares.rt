@@ -17,14 +17,15 @@ use std::alloc::{AllocError, Global};
 /// What all states of a trace share in addition to its tables.
 #[derive(Debug, Drop)]
 pub struct Shares {
-    /// The moves of directories, and the orders of paths. A state keeps the first so many moves,
-    /// and has the order for that number.
+    /// The moves of directories, and the orders of paths. The members of a state are the first so
+    /// many of the moves (by P12), and it has the order for that number.
     pub paths: PathOrders,
-    /// For each of these orders, the ids at which states have the same or may differ.
+    /// For each of these orders, the kept and the touched ids.
     pub ids: Vec<KeptIds>,
 }
 
-/// The ids of each of the orders. `marks` has, for each entry, whether some step touches it.
+/// The kept and the touched ids of each of the orders. `marks` has, for each entry by its place,
+/// whether some step touches it.
 fn ids_of(
     alloc: Global,
     tables: &Tables,
@@ -47,7 +48,8 @@ impl Shares {
     ghost use Rattle.cs_names.specs.declared.limits.TheConstants.{MICRO_OPERATIONS};
     ghost use Rattle.cs_state.specs.Shares.{IsShares};
 
-    /// What the states of a trace share, from its micro-operations and its tables.
+    /// What the states of a trace share, computed from the trace, its micro-operations and its
+    /// tables.
     pub fn of(
         alloc: Global,
         trace: &Trace,

@@ -1,4 +1,5 @@
-//! What a state has, and how it is read by the entries of directories.
+//! What a state has, and how it is read by the entries of directories. Each method asks in
+//! `requires` (`IsMade`) that the state is as `Atlas::build` makes it.
 ghost use Rattle.std.specs.Prelude.{◌≡◌, ◌≢◌, ◌<◌, ◌≤◌, [], Some, length, IfNone, IfOk, IfSome};
 ghost use Rattle.std.specs.Prelude.{IsErr, IsSomeAnd, slice_get};
 ghost use Rattle.std.specs.Arc.{arc_value};
@@ -25,22 +26,22 @@ use cs_tree_model::Metadata;
 use std::alloc::{AllocError, Global};
 use std::sync::Arc;
 
-/// What a state has: what it shares with the others, for each micro-operation whether it is a
-/// member of its set, and what is in the touched entries.
+/// The state of a set: what it shares with the others, the members of the set, and the state's own
+/// entries. It never changes.
 #[derive(Drop)]
 pub struct State {
-    /// What it shares with the others.
+    /// The trace, with what all its states share.
     pub parts: Arc<Parts>,
     /// For each micro-operation, whether it is a member.
     pub members: Vec<bool>,
-    /// How many of the moves of directories are members: they are the first so many.
+    /// How many of the trace's moves of directories are members: they are the first so many.
     pub moved: usize,
-    /// What is in the touched entries, in the order of their paths.
+    /// Each touched entry that holds something in this state, with what it holds, by ascending ids.
     pub own: Vec<Own>,
 }
 
 impl State {
-    /// The order of paths that the state has.
+    /// The order of the paths that all entries have in this state.
     fn order(&self) -> &PathOrder
         requires { IsMade self.now }
         ensures { slice_get (arc_value self.now.parts).shares.paths.orders.items self.now.moved
@@ -49,7 +50,7 @@ impl State {
         &self.parts.shares.paths.orders[self.moved]
     }
 
-    /// The ids of this order at which states have the same or may differ.
+    /// The kept and the touched ids of the order of paths that the state has.
     fn kept_ids(&self) -> &KeptIds
         requires { IsMade self.now }
         ensures { slice_get (arc_value self.now.parts).shares.ids.items self.now.moved
@@ -58,8 +59,8 @@ impl State {
         &self.parts.shares.ids[self.moved]
     }
 
-    /// The root, or the entry, with this number: its id, and what it holds. None if the state has
-    /// no such number.
+    /// The root or the entry whose file or directory has this number: its id, and what it holds.
+    /// None if the state has no such number.
     pub fn found_at(&self, number: u64) -> Option<Found>
         requires { IsMade self.now }
         ensures slot { IfSome result (λ f. f.slot ≡ slot_at (slots_in self.now) f.id) }
@@ -71,7 +72,7 @@ impl State {
         found_at_number(kept, places, &self.parts.tables.slots, &self.own, number)
     }
 
-    /// What has this number. None if the state has no such number.
+    /// The file or directory with this number in the state. None if the state has no such number.
     pub fn node_at(&self, number: u64) -> Option<Node>
         requires { IsMade self.now }
         ensures there { IfSome result (IsNodeAt self.now number) }
@@ -80,8 +81,8 @@ impl State {
         self.found_at(number)?.slot
     }
 
-    /// The number of the directory with this number; None if nothing has it, or a file. (The first
-    /// number is its own, as entries name it; the second is its place among the state's paths.)
+    /// The trace's number of the directory that has `number` in the state's tree: that by which
+    /// entries name it. None if nothing has `number`, or a file has it.
     pub fn directory_at(&self, number: u64) -> Option<u32>
         requires { IsMade self.now }
         ensures there { IfSome result (IsDirectoryAt self.now number) }
@@ -94,14 +95,15 @@ impl State {
         }
     }
 
-    /// The entries that ever hold something.
+    /// Every entry that the start has or a micro-operation touches, in the order of places.
     pub fn entries(&self) -> &[Entry]
         ensures { result.now ≡ (arc_value self.now.parts).tables.entries.items }
     {
         &self.parts.tables.entries
     }
 
-    /// The number of what the entry at this place holds. None if it holds nothing in the state.
+    /// The number, in the state, of what the entry at this place holds. None if it holds nothing in
+    /// the state.
     pub fn number_of_place(&self, place: usize) -> Option<u64>
         requires made { IsMade self.now }
         requires there { place < length (arc_value self.now.parts).tables.entries.items }
@@ -116,7 +118,8 @@ impl State {
         )
     }
 
-    /// The number of what the directory's entry of this name holds. None if it holds nothing.
+    /// The number, in the state, of what the entry with this name in the directory holds. None if
+    /// it holds nothing, or the trace has no such entry. `directory` is the trace's number.
     pub fn number_of_name(&self, directory: u32, name: &str) -> Option<u64>
         requires { IsMade self.now }
         ensures { result ≡ number_shown self.now directory name.now }
@@ -125,7 +128,8 @@ impl State {
         self.number_of_place(place)
     }
 
-    /// The entry with this id; None for the root, which has none.
+    /// The entry with this id, which the order of paths must have; None for 0, the root, which has
+    /// no entry. The entry may hold nothing in this state.
     pub fn entry_of_id(&self, id: u32) -> Option<&Entry>
         requires made { IsMade self.now }
         requires there { id < length (slots_in self.now) }
@@ -138,8 +142,8 @@ impl State {
         Some(&self.parts.tables.entries[place as usize])
     }
 
-    /// The number, in the order of paths, of the directory with this number; the root's is 0. None
-    /// if it isn't in the state.
+    /// The number, in the state, of the directory that has the number `directory` in the trace; the
+    /// root has 0 in both. None if it isn't in the state.
     pub fn number_of_directory(&self, directory: u32) -> Option<u64>
         requires made { IsMade self.now }
         requires known { directory < length (arc_value self.now.parts).tables.directories.items }
@@ -153,8 +157,8 @@ impl State {
         self.number_of_place(place as usize)
     }
 
-    /// How many files and directories the state has, including the root: one at each kept id, and
-    /// its own entries.
+    /// How many records the state has, that of the root too: one for each kept id, and one for each
+    /// of its own entries. A file with several paths has one for each.
     pub fn count(&self) -> usize
         requires { IsMade self.now }
         ensures { result ≡ count_shown self.now }
@@ -162,7 +166,7 @@ impl State {
         self.kept_ids().kept.len() + self.own.len()
     }
 
-    /// The metadata, with this number, of what an entry holds.
+    /// The metadata of the file or directory `node`, which has `number` in the state.
     pub fn metadata(&self, number: u64, node: Node) -> Metadata<'_>
         requires made { IsMade self.now }
         requires known { IsKnown (length (arc_value self.now.parts).tables.directories.items)
@@ -174,9 +178,9 @@ impl State {
         metadata_of(&self.parts, &self.members, number, node)
     }
 
-    /// At most `count` bytes from the offset on of the file that an entry holds: fewer, or none,
-    /// near its end or past it. None of a directory. Memory can run out only if there is a byte to
-    /// read.
+    /// At most `count` bytes, from the offset on, of the file `node`: fewer near its end, and none
+    /// at its end or past it. None (not an empty list) for a directory. Memory can run out only if
+    /// there is a byte to read.
     pub fn read(
         &self,
         alloc: Global,

@@ -1,4 +1,5 @@
-//! The state of a set, read as a tree.
+//! The state of a set, read as a tree by the contract of `TreeRead`. Numbers of files and
+//! directories are those of the state: their places in the order of paths, from 0, the root.
 ghost use Rattle.std.specs.Prelude.{◌≡◌, ◌↔◌, Some, IfSome, IsSome, IsTrue};
 ghost use Rattle.std.specs.Option.{option_copied, option_map};
 ghost use Rattle.cs_tree_model.specs.Nexts.{entry_name, IsEntryBelow};
@@ -12,10 +13,12 @@ use cs_tree_model::{ListedEntry, Metadata, TreeRead};
 use std::alloc::{AllocError, Global};
 use std::marker::Model;
 
-/// The state of a set of a trace's micro-operations. It has the members of the set, and what is in
-/// the entries that some operation touches. All else it shares with the other states of the trace.
+/// The state of a set of a trace's micro-operations, as a tree that never changes. It has the
+/// members of the set, and what is in the entries that some micro-operation touches. All else it
+/// shares with the other states of the trace. Contracts see the tree.
 #[derive(Drop)]
 pub struct StateTree {
+    /// The state.
     state: State,
 }
 
@@ -33,7 +36,7 @@ impl Model for StateTree {
 }
 
 impl StateTree {
-    /// The store of this state.
+    /// The state as a tree.
     pub(crate) fn of(state: State) -> StateTree
         requires { IsMade state }
         ensures { result ≡ tree_in state }
@@ -45,22 +48,23 @@ impl StateTree {
 impl TreeRead for StateTree {
     ghost tree = { λ t. t };
 
-    /// The metadata of what has the number; None if nothing has. A state keeps no records: they are
-    /// computed from the members and the shared tables.
+    /// The metadata of the file or directory with the number; None if there is none. A state keeps
+    /// no records: each is computed from the members and the shared tables.
     fn record(&self, number: u64) -> Option<Metadata<'_>> {
         let node = self.state.node_at(number)?;
         Some(self.state.metadata(number, node))
     }
 
-    /// The number of the entry of this name in the directory; None if there is none. The name is
-    /// looked up among all entries of the directory, and then in this state.
+    /// The number of what has this name in the directory; None if nothing has, or if `directory`
+    /// isn't the number of a directory. The name is looked up among all entries that the directory
+    /// has in any state, and then in this state.
     fn find_number(&self, directory: u64, name: &str) -> Option<u64> {
         let directory = self.state.directory_at(directory)?;
         self.state.number_of_name(directory, name)
     }
 
-    /// The number of the directory of what has the number; the root's is the root. None if nothing
-    /// has the number. The directory of an entry that holds something is in the state.
+    /// The number of the directory that has the file or directory with the number; 0 for the root
+    /// itself. None if nothing has the number.
     fn parent_of(&self, number: u64) -> Option<u64> {
         let found = self.state.found_at(number)?;
         match self.state.entry_of_id(found.id) {
@@ -69,16 +73,18 @@ impl TreeRead for StateTree {
         }
     }
 
-    /// The name of what has the number; None for the root, and if nothing has the number. It is
-    /// lent from the entries that all states share.
+    /// The name of the file or directory with the number; None for the root, and if nothing has the
+    /// number. It is borrowed from the entries that all states share.
     fn name_of(&self, number: u64) -> Option<&Name> {
         let found = self.state.found_at(number)?;
         let entry = self.state.entry_of_id(found.id)?;
         Some(&entry.name)
     }
 
-    /// The directory's first entry after `last`, or the first of all if that is None; None if none
-    /// comes before `bound`. Names at which there is nothing in this state are skipped.
+    /// The directory's first name after `last`, or the first of all if `last` is None, with the
+    /// number that it has. None if that isn't before `bound` (a `bound` of None is after all), or
+    /// if `directory` isn't the number of a directory. Names that hold nothing in this state are
+    /// skipped.
     fn entry_after(
         &self,
         directory: u64,
@@ -89,19 +95,21 @@ impl TreeRead for StateTree {
         entry_after_in(&self.state, directory, last, bound)
     }
 
-    /// How many files and directories the state has, including the root.
+    /// How many records the state has, that of the root too.
     fn count(&self) -> usize {
         self.state.count()
     }
 
-    /// The greatest number. Numbers are places in the order of paths, from 0, and the root is in
-    /// every state.
+    /// The greatest number: one less than `count`, which is at least 1, since the root is in every
+    /// state.
     fn last_number(&self) -> u64 {
         self.state.count() as u64 - 1
     }
 
-    /// At most `count` bytes of the file from the offset on; None if no file has the number. Only
-    /// those members are applied that reach the pages that are read.
+    /// At most `count` bytes of the file with the number, from the offset on: fewer near its end,
+    /// and none at its end or past it. None if nothing has the number, or a directory has it. Only
+    /// those members are applied that reach the pages that are read. Memory can run out only if
+    /// there is a byte to read.
     fn read_at(
         &self,
         alloc: Global,
@@ -127,7 +135,7 @@ fn is_before(name: &Name, bound: Option<&Name>) -> bool
     }
 }
 
-/// As `StateTree::entry_after`, of a directory that is given by its own number.
+/// As `StateTree::entry_after`, for a directory that is given by its number in the trace.
 fn entry_after_in<'a>(
     state: &'a State,
     directory: u32,

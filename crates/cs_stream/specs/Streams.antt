@@ -35,7 +35,7 @@ Writes (Err fault) old new bytes = AppendsFront old new bytes
 
 -- ---- counts
 
--- so many more, as far as a count of 64 bits goes
+-- so many more, but at most 2^64 - 1
 abbrev pub saturating_sum : ℕ → ℕ → ℕ
 saturating_sum more count = count + min more (18446744073709551615 - count)
 

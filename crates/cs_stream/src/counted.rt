@@ -1,4 +1,5 @@
-//! Streams over a reader and a writer that are one object, or two, with their calls counted.
+//! Streams over a reader and a writer of std, which are one object or two, with their calls
+//! counted.
 ghost use Rattle.std.specs.Prelude.{◌≡◌, None};
 ghost use Rattle.cs_stream.specs.Overs.{inner_of, counts_of, reader_of, writer_of, ends_counts};
 ghost use Rattle.cs_stream.specs.Overs.{transfer_of};
@@ -6,8 +7,8 @@ ghost use Rattle.cs_stream.specs.Overs.{transfer_of};
 use crate::stream::{Counts, Stream, Transfer};
 use std::io::{self, ErrorKind, Read, Write};
 
-/// The answer of a reader or writer as a transfer: a number is Bytes, an error of the kind
-/// Interrupted is Interrupted, and any other error is Failed.
+/// The answer of a reader or writer of std as a transfer. A number is Bytes, an error of the kind
+/// Interrupted is Interrupted, and any other error is Failed. What else the error says is dropped.
 fn transfer_of(answer: io::Result<usize>) -> Transfer
     ensures { result ≡ transfer_of answer }
 {
@@ -40,14 +41,15 @@ impl<RW> Counted<RW> {
         }
     }
 
-    /// The counts of the object's reads and writes so far.
+    /// The counts of the object's reads and writes so far. No command asks for them: contracts do.
     pub fn counts(&self) -> Counts
         ensures { result ≡ counts_of self.now }
     {
         self.counts
     }
 
-    /// Returns the object that is the reader and writer; the counts are dropped.
+    /// Returns the object that is the reader and writer, and drops the counts. No command calls
+    /// this.
     pub fn into_inner(self) -> RW
         ensures { result ≡ inner_of self }
     {
@@ -101,14 +103,15 @@ impl<R, W> TwoEnded<R, W> {
         }
     }
 
-    /// The counts so far of the reader's reads and the writer's writes.
+    /// The counts so far of the reader's reads and the writer's writes. No command asks for them:
+    /// contracts do.
     pub fn counts(&self) -> Counts
         ensures { result ≡ ends_counts self.now }
     {
         self.counts
     }
 
-    /// Returns the writer; the reader and the counts are dropped.
+    /// Returns the writer, and drops the reader and the counts.
     pub fn into_writer(self) -> W
     where
         R: Drop,

@@ -8,12 +8,12 @@ ghost use Rattle.cs_stream.specs.Streams.{GaveUpInTime};
 
 use cs_names::limits::INTERRUPTIONS;
 
-/// What a read or a write did.
+/// What a read or a write did, as read(2) and write(2) answer.
 #[derive(Clone, Copy, Debug, PartialEq, Eq)]
 pub enum Transfer {
-    /// It moved this many bytes. If a read that had room moved none, it met the stream's end.
+    /// It moved this many bytes. If a read that had room moved none, the stream has ended.
     Bytes(usize),
-    /// It was interrupted, and moved none.
+    /// It was interrupted by a signal, and moved none. It may be tried again.
     Interrupted,
     /// It failed, and moved none.
     Failed,
@@ -29,7 +29,7 @@ pub struct Counts {
     pub failed_reads: u64,
     /// Interrupted reads since the last read that wasn't.
     pub interrupted_reads: u64,
-    /// Reads that had room and moved no byte: they met the stream's end.
+    /// Reads that had room and moved no byte: the stream had ended.
     pub ends: u64,
     /// Writes.
     pub writes: u64,
@@ -42,7 +42,7 @@ pub struct Counts {
 }
 
 impl Counts {
-    /// No call so far.
+    /// The counts of a stream that wasn't called yet.
     pub const NONE: Counts = Counts {
         reads: 0,
         failed_reads: 0,
@@ -101,7 +101,7 @@ impl Counts {
     }
 }
 
-/// A stream that counts its calls. Contracts may know its bytes.
+/// A stream of bytes both ways that counts its calls. Contracts may know its bytes, or not (None).
 pub trait Stream {
     /// The bytes that reads will give from here on, if they are known.
     ghost remaining: { Self → Option (List ℕ) };
@@ -113,7 +113,8 @@ pub trait Stream {
     ghost counts: { Self → Counts };
 
     /// Reads bytes into the front of `buf`, at most as many as fit, and counts the read, even if it
-    /// fails. Bytes(0) is the stream's end, unless `buf` is empty.
+    /// fails. Bytes(0) means that the stream has ended, unless `buf` is empty. After another answer
+    /// than Bytes the content of `buf` means nothing.
     fn read(&mut self, buf: &mut [u8]) -> Transfer
         ensures bytes { ReadGives (remaining self.old) (remaining self.new) result buf.new }
         ensures contents { contents self.new ≡ contents self.old }
@@ -129,14 +130,15 @@ pub trait Stream {
             ≡ counted_write result (length buf.now) (counts self.old) };
 }
 
-/// Not all bytes were written: a write failed, took no byte, or INTERRUPTIONS in a row were
-/// interrupted.
+/// Why not all bytes were written: a write failed, took no byte, or INTERRUPTIONS writes in a row
+/// were interrupted. Which of these it was, the stream's counts show.
 #[derive(Clone, Copy, Debug, PartialEq, Eq)]
 pub struct WriteFault;
 
 /// Writes all of the bytes; if there are none, it makes no write. It fails if a write fails or
 /// takes no byte. An interrupted write is tried again, but INTERRUPTIONS of them in a row within
-/// this call are a fault. After a fault some bytes, from the front, may have been written.
+/// this call are a fault. After a fault some bytes, from the front, may have been written; how many
+/// isn't known. It makes no read.
 pub fn write_all<S: Stream>(stream: &mut S, bytes: &[u8]) -> Result<(), WriteFault>
     ensures ok { OnOk result (Appends (S.contents stream.old) (S.contents stream.new) bytes.now) }
     ensures err { OnErr result

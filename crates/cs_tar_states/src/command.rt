@@ -11,8 +11,9 @@ use std::alloc::Global;
 use std::io::Write;
 use std::sync::Arc;
 
-/// Makes the scene of the inputs, and writes the archive of these states. After a fault nothing is
-/// written, or some of the archive, from the front.
+/// Makes the scene of the inputs, and writes the archive of these states. A fault is one of the
+/// inputs or of `write_states`. After it nothing is written, or some of the archive, from the
+/// front.
 fn write_archive<W: Write>(
     alloc: Global,
     inputs: &Inputs,

@@ -1,5 +1,5 @@
 //! The command `tar`: the trees of crash states, written as one archive. The form of an archive is
-//! in cs_tar, and the command line is read in the program.
+//! in cs_tar, and the command line is read in cs_command_line.
 #![tactic(auto)]
 
 mod command;

@@ -49,7 +49,7 @@ abbrev pub kept_in : Version → Attributes → Attributes → Attributes
 kept_in First before after = before
 kept_in _ before after = after
 
--- those of a file or a directory
+-- the rights of a file, a symbolic link or a directory
 abbrev pub rights_at : Attributes → Node → Option Rights
 rights_at a (Directory number) = slice_get a.directories number
 rights_at a (File kind file) = slice_get a.files file

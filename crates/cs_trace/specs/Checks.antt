@@ -62,7 +62,7 @@ is_directory (Some (File kind file)) = false
 abbrev pub above_checks : Option Node → List Check
 above_checks above = (is_none above, NoParent) ∷ (is_leaf above, NotDir) ∷ []
 
--- and what a new entry needs of the path, too
+-- what a new entry needs of the directory above it and of its path
 abbrev pub new_checks : Option Node → Option Node → List Check
 new_checks above here = above_checks above ++ (is_some here, Exists) ∷ []
 
@@ -96,14 +96,14 @@ abbrev pub made_checks : State → Path → List Check
 made_checks s p =
     new_checks (node_at s (parent_path p)) (node_at s p) ++ limit (is_too_much s.made p)
 
--- a file gets one path more, q; what is at the path p that it has
+-- one more path, q, for the file at p; `here` is what is at p
 abbrev pub linked_checks : State → Path → Option Node → Path → List Check
 linked_checks s p here q =
     file_checks here
     ++ (new_checks (node_at s (parent_path q)) (node_at s q)
     ++ limit (has_too_many_names p || is_too_much s.made q))
 
--- both have a number, and it isn't the same
+-- the two directories have different numbers
 abbrev pub are_apart : Option Node → Option Node → Bool
 are_apart above beside = not (directory_number above == directory_number beside)
 
@@ -227,7 +227,7 @@ text_checks s text = if is_blank text then [] else line_checks s (line_in s.vers
 
 -- ---- the fault of a trace
 
--- the lines before that of the fault have none, and of its line it is the first
+-- the lines before the fault's line have no fault, and it is the first fault of its line
 pub record IsFirstFault (lines : List (List ℕ)) (fault : TraceFault) : Type 0 where
   pub above : 0 < fault.line
   pub among : fault.line ≤ length lines

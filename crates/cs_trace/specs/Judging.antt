@@ -331,7 +331,7 @@ resolve s (line.Say text) = say text
 
 -- ---- when a call may be out of memory
 
--- there is no fault, or one that needs the tree: it comes after the names are copied, which takes
+-- there is no fault, or one that is found in the tree, after the names were copied: copying takes
 -- memory
 abbrev pub IsPastNames : {A : Type 0} → Result A TraceFaultKind → Type 0
 IsPastNames (Ok x) = Unit {0}

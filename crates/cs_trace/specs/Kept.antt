@@ -60,9 +60,8 @@ IsWithin _ = Unit {0}
 abbrev pub Freely : {A : Type 0} → Result A TraceFaultKind → Type 0
 Freely expected = Unit {0}
 
--- so far there was no operation: what was at a path at the start is there now, each file is one of
--- the start, and the numbers of the files that were made at the entries' paths are below their
--- count
+-- so far there was no operation: what the start has at a path is there now, each file is one of the
+-- start's, and the numbers of files in the entries of the start are below the count of files
 pub record IsStarting (s : State) : Type 0 where
   pub stands : (p : Path) (e : StartEntry) → get s.start p ≡ Some e
       → at_path (held_in s.system.entries) p ≡ Some e.node

@@ -53,7 +53,7 @@ abbrev pub written_size : ℕ → ℕ → List ℕ → ℕ
 written_size size offset bytes =
     if length bytes == 0 then size else max size (offset + length bytes)
 
--- a new file has no byte, and a symbolic link those of its target
+-- the sizes after an operation: a new file has no byte, and a symbolic link those of its target
 abbrev pub sizes_after : List ℕ → Operation → List ℕ
 sizes_after sizes (Creat e file rights) = sizes ++ 0 ∷ []
 sizes_after sizes (Symlink e file rights target) = sizes ++ length target ∷ []
@@ -146,9 +146,9 @@ AreNamed m (SetAttr (targets.Directory directory path) before after) = IsThere m
 AreNamed m (Sync (covers.Directory directory path)) = IsThere m directory path
 AreNamed m _ = Unit {0}
 
--- what is legal beside what an operation does to entries: a new file has the next number, a
--- directory the one that the version gives it; what is changed, waited for or gets one more entry
--- is there; permissions are three octal digits; and no operation leaves a file that is too large
+-- what must hold in addition to the rules of entries: a new file has the next number, a directory
+-- the one that the version gives it; what is changed, synced or linked is there; permissions are
+-- three octal digits; and no operation leaves a file that is too large
 abbrev pub IsFitting : Version → FileSystem → Operation → Type 0
 IsFitting version fs (Creat e file rights) = (file ≡ length fs.sizes) × IsOctal rights
 IsFitting version fs (Mkdir e directory rights) =

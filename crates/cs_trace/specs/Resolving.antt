@@ -19,7 +19,7 @@ use Rattle.cs_trace.specs.declared.operation.Operation.{Operation}
 abbrev pub new_entry_at : State → Path → Result DirEntry TraceFaultKind
 new_entry_at s p = and_then (free_at s p) (unless_too_large (is_too_much s.made p))
 
--- a rename that does nothing, of paths of which one has so many names
+-- a rename that does nothing; `others` is how many names the other path has
 abbrev pub unmoved_within : ℕ → DirEntry → Node → Result Operation TraceFaultKind
 unmoved_within others e node =
     unless_too_large (nat_lt TRACE_PATH_NAMES others || has_too_many_names e.path) (unmoved e node)

@@ -94,21 +94,21 @@ start_sizes t = map (size_at t.records) t.files
 abbrev pub records_made : Trace → ℕ
 records_made t = length t.records + sum_by (made_by t.version) t.operations
 
--- a record that nobody changed yet, of this number: its version and its times are 0, its owner is
--- who changed it last, and its mode is three octal digits, with the bits of its kind above them
+-- a record of this number that no client has changed: its version and its times are 0, the user who
+-- changed it last is its owner, and its mode is three octal digits, with the bits of its kind above
+-- them
 pub record IsUnchanged (number : ℕ) (node : Node) (r : Record) : Type 0 where
   pub fresh : r ≡ fresh_record number r
   pub permissions : ℕ
   pub octal : permissions ≤ 511
   pub mode : r.mode ≡ file_mode node permissions
 
--- what the record is: a directory has no bytes, and a file or a symbolic link has some, or none yet
+-- what the record is: a directory has no content; a file or a symbolic link has one, perhaps empty
 abbrev pub IsNodeOf : Node → Record → Type 0
 IsNodeOf (Directory number) r = r.content ≡ None
 IsNodeOf (File kind file) r = (bytes : List ℕ) × (r.content ≡ Some bytes)
 
--- each node is what the record at its place is, which nobody changed yet and which has the number
--- of that place
+-- the node is what the record at its place n is; no client has changed it, and its number is n
 pub record IsRecordOf (n : ℕ) (node : Node) (r : Record) : Type 0 where
   pub unchanged : IsUnchanged n node r
   pub kind : IsNodeOf node r
@@ -224,9 +224,9 @@ trace_by lines = and_then (state_in lines) trace_of
 unfoldable pub trace_in : List ℕ → Result Trace TraceFault
 trace_in text = trace_by (lines_in text)
 
--- reading may be out of memory at the line of that number: it is one of the lines, those before it
--- have no fault, and it isn't blank, unless it is the last, the whole has no fault, and only the
--- records have still to be made
+-- reading may run out of memory at the line of that number: it is one of the lines, and those
+-- before it have no fault. It is blank only if it is the last, no line has a fault, and only the
+-- records had still to be made
 pub record MayWant (lines : List (List ℕ)) (number : ℕ) : Type 0 where
   pub above : 0 < number
   pub among : number ≤ length lines

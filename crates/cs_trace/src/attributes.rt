@@ -1,6 +1,6 @@
-//! Rights (owner, group and permissions) of the files and directories while a trace is read. They
-//! are kept in the versions that have chmod and chown. An error means out of memory; then the whole
-//! trace is given up, so no clause says what is left.
+//! The attributes of the files and directories while a trace is read: their owner, group and
+//! permissions, called rights. They are kept in version 2 and later, which have chmod and chown. An
+//! error means out of memory; then the caller drops them, so no clause says what is left.
 ghost use Rattle.std.specs.Prelude.{◌≡◌, ◌∷◌, ◌++◌, [], OnOk, option_map, slice_set};
 ghost use Rattle.cs_trace.specs.Attributes.{attributes_after, no_attributes, rights_at};
 ghost use Rattle.cs_trace.specs.Attributes.{rights_with, with_directory, with_file, with_set};
@@ -12,16 +12,17 @@ use cs_entries::Node;
 use cs_start::{Rights, Shared};
 use std::alloc::{AllocError, Global};
 
-/// Owner, group and permissions of each file and of each directory.
+/// Owner, group and permissions of each file, symbolic link and directory now.
 #[derive(Drop)]
 pub(crate) struct Attributes {
-    /// Each file's and each symbolic link's, by its number.
+    /// The rights of each file and symbolic link, by its number, also if it was removed.
     pub(crate) files: Vec<Shared<Rights>>,
-    /// Each directory's, by its number: those of the last one of that number.
+    /// The rights of each directory, by its number. In versions 2 and 3 several directories of one
+    /// path have one number: the last counts.
     pub(crate) directories: Vec<Shared<Rights>>,
 }
 
-/// The rights themselves, if there are some.
+/// The rights inside a shared value; None if there is none.
 fn lend(shared: Option<&Shared<Rights>>) -> Option<&Rights>
     ensures { option_map (λ rights. rights.now) result
         ≡ option_map (λ shared. shared.now) shared.entry }
@@ -32,8 +33,8 @@ fn lend(shared: Option<&Shared<Rights>>) -> Option<&Rights>
     }
 }
 
-/// Sets the rights of that number. If there is none, nothing changes; operations that were checked
-/// name only files and directories that there are.
+/// Replaces the rights with this number. If there are none, nothing changes; an operation that was
+/// checked never names such a number. (`set_size` of `state` does the same to a size.)
 fn set_rights(all: &mut [Shared<Rights>], number: u32, rights: Shared<Rights>)
     ensures { all.new ≡ slice_set all.old number rights }
 {
@@ -43,7 +44,8 @@ fn set_rights(all: &mut [Shared<Rights>], number: u32, rights: Shared<Rights>)
     }
 }
 
-/// Sets the rights of that number, which may be the next one.
+/// Replaces the rights with this number, or appends them if it is the next one. For a higher
+/// number, which no operation has, nothing changes.
 fn put_rights(
     all: &mut Vec<Shared<Rights>>,
     number: u32,
@@ -60,7 +62,7 @@ fn put_rights(
 }
 
 impl Attributes {
-    /// No file's and no directory's rights.
+    /// The attributes before the header: there is no file and no directory yet.
     pub(crate) fn new(alloc: Global) -> Attributes
         ensures { attributes_of result ≡ no_attributes }
     {
@@ -78,7 +80,8 @@ impl Attributes {
         Ok(())
     }
 
-    /// Sets the rights of the directory of that number, which may be the next one.
+    /// Sets the rights of the directory with this number, which may be a new one with the next
+    /// number.
     fn put_directory(&mut self, number: u32, rights: Shared<Rights>) -> Result<(), AllocError>
         ensures { OnOk result
             (attributes_of self.new ≡ with_directory (attributes_of self.old) number rights) }
@@ -86,8 +89,8 @@ impl Attributes {
         put_rights(&mut self.directories, number, rights)
     }
 
-    /// Adds the rights of a new entry: of a file or a symbolic link, which gets the next number
-    /// whatever `node` says, or of a directory by its number.
+    /// Adds the rights of what a start line makes. Those of a file or a symbolic link get the next
+    /// number, whatever `node` says; a directory has the number in `node`.
     pub(crate) fn add(&mut self, node: Node, rights: &Shared<Rights>) -> Result<(), AllocError>
         ensures { OnOk result (attributes_of self.new
             ≡ with_node (attributes_of self.old) node rights.now) }
@@ -99,8 +102,8 @@ impl Attributes {
         }
     }
 
-    /// The rights of a file, a symbolic link or a directory by its number; None if none were set.
-    /// It takes no memory.
+    /// The rights of the file, symbolic link or directory, by its number. None if it has none: in
+    /// version 1 none are kept, and later everything has some. It takes no memory.
     pub(crate) fn rights(&self, node: Node) -> Option<&Rights>
         ensures { option_map (λ rights. rights.now) result
             ≡ rights_at (attributes_of self.now) node }
@@ -111,7 +114,8 @@ impl Attributes {
         }
     }
 
-    /// Sets the rights of what a chmod or a chown names.
+    /// Sets the rights of what a chmod or a chown is of. If a file has no rights yet, nothing
+    /// changes.
     fn set(&mut self, target: &Target, rights: Shared<Rights>) -> Result<(), AllocError>
         ensures { OnOk result (attributes_of self.new
             ≡ with_set (attributes_of self.old) target.now rights) }
@@ -125,9 +129,9 @@ impl Attributes {
         }
     }
 
-    /// Applies an operation. A creat, a symlink and a mkdir add the rights of what they make; a
-    /// chmod and a chown set rights, which `last` shares if they are the same; any other operation
-    /// leaves them as they are.
+    /// Applies an operation. A creat, a symlink and a mkdir add the rights of what they make, a
+    /// chmod and a chown set rights, and any other operation changes none. Rights that are equal to
+    /// `last` share its memory; others become `last`.
     pub(crate) fn change(
         &mut self,
         alloc: Global,

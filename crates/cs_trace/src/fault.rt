@@ -6,32 +6,36 @@ ghost use Rattle.cs_trace.specs.declared.fault.TraceFaultKind.TheVariants.{Memor
 use std::alloc::AllocError;
 use std::fmt;
 
-/// What is wrong with a line of a trace. A line that has several faults has the first of them, in
-/// this order; but a link and a rename look up the path `from` first, and the new path after it.
+/// What is wrong with a line of a trace. If it has several faults, it is the first in this order,
+/// with two exceptions: a link and a rename look up the path `from` first, and then the new path;
+/// and for a rename of a directory below itself, BadName comes after NoParent and NotDir.
 #[derive(Clone, Copy, Debug, PartialEq, Eq)]
 pub enum TraceFaultKind {
-    /// No line has this form, or none may have it at this place.
+    /// No line of the trace's version has this form, or none may have it at this place.
     Syntax,
-    /// The operation, or the kind of start line, is unknown.
+    /// The operation, or the kind of start line, isn't in the trace's version.
     UnknownOp,
-    /// A path, or the name of an owner or a group, is not legal.
+    /// A path, or the name of an owner or a group, isn't legal; or a directory would be renamed to
+    /// a path below itself.
     BadName,
     /// Nothing is at the path of a new entry's directory.
     NoParent,
-    /// A file is at the path of a new entry's directory, or of a directory that is to be removed.
+    /// A file or a symbolic link is at a path that must be a directory's: that above a new entry,
+    /// that of an rmdir, or that of a directory which a rename of a directory replaces.
     NotDir,
     /// Something is at the path of a new entry.
     Exists,
     /// Nothing is at another path that the line needs.
     Missing,
-    /// A directory is at a path that must be a file's.
+    /// A directory is at a path that must be a file's; or a symbolic link at one that must be a
+    /// regular file's.
     NotFile,
-    /// Something is in a directory that is to be removed.
+    /// A directory that would be removed or replaced has an entry.
     NotEmpty,
-    /// A path of too many names, too many records, a file of too many bytes, or a say of a text
-    /// that is too long.
+    /// A path of more than TRACE_PATH_NAMES names, more than TREE_RECORDS records, a file of more
+    /// than `most_bytes`, or a say of a text of more than SAY_BYTES bytes.
     TooLarge,
-    /// Out of memory.
+    /// Memory ran out. Then the line may have another fault, which wasn't looked for.
     Memory,
 }
 
@@ -65,11 +69,11 @@ impl From<AllocError> for TraceFaultKind {
     }
 }
 
-/// The first fault of a trace.
+/// The first fault of a trace: no line before this one has one.
 #[derive(Clone, Copy, Debug, PartialEq, Eq)]
 pub struct TraceFault {
-    /// The line at fault, counted from 1, with blank lines. If memory ran out, the line that was
-    /// being read.
+    /// The number of the line at fault; the first line has number 1, and blank lines are counted.
+    /// If memory ran out, the line that was being read.
     pub line: usize,
     /// What is wrong with it.
     pub kind: TraceFaultKind,
@@ -78,7 +82,7 @@ pub struct TraceFault {
 impl fmt::Display for TraceFault {
     ghost output = { λ fault. Some (fault_text fault.line fault.kind) };
 
-    /// Prints the line and the kind, or only `out of memory`.
+    /// Prints `trace line N: KIND`, or only `out of memory`.
     fn fmt<W: fmt::Write>(&self, f: &mut fmt::Formatter<W>) -> fmt::Result {
         match self.kind {
             TraceFaultKind::Memory => f.write_str("out of memory"),

@@ -1,4 +1,5 @@
-//! The entries at which directories were made, by the directories' numbers.
+//! The entries at which directories were made, by the directories' numbers. The home of a directory
+//! is the entry of its start line or first mkdir; it stays its home if the directory is moved.
 ghost use Rattle.std.specs.Prelude.{◌≡◌, ◌<◌, ◌∷◌, ◌++◌, ◌^◌, [], OnOk, length};
 ghost use Rattle.cs_entries.specs.Paths.{entry_in};
 ghost use Rattle.cs_trace.specs.Operations.{number_for};
@@ -11,17 +12,20 @@ use std::marker::Model;
 /// An entry at which a directory was made.
 #[derive(Drop)]
 pub(crate) struct Home {
+    /// The number of the parent directory; 0 for the root itself.
     directory: u32,
     /// Empty for the root, which has no entry.
     name: String,
 }
 
-/// The entries at which directories were made, in the order of their numbers: the first is that of
-/// the root. Contracts see the list.
+/// The entries at which directories were made, in the order of the directories' numbers: the first
+/// is that of the root. Contracts see the list.
 #[derive(Drop)]
 pub(crate) struct Homes {
+    /// The entry of the directory with each number.
     list: Vec<Home>,
-    /// The first number of each of these entries.
+    /// For each entry in `list`, the directory with the lowest number that was made there: an index
+    /// of `list`, by which `number_for` needs no search.
     first: Directories,
 }
 
@@ -43,7 +47,7 @@ impl Model for Homes {
 }
 
 impl Homes {
-    /// No directory was made, not even the root.
+    /// The homes before the header: no directory was made, not even the root.
     pub(crate) fn new(alloc: Global) -> Homes
         ensures { result ≡ [] }
     {
@@ -53,15 +57,16 @@ impl Homes {
         }
     }
 
-    /// How many directories were made.
+    /// How many directories have a number, the root too: the next number.
     pub(crate) fn len(&self) -> usize
         ensures { result ≡ length self.now }
     {
         self.list.len()
     }
 
-    /// The number of a directory that is made under the name in a directory: in the fourth version
-    /// the next one; before it, that of the directory that was made there before, if there was one.
+    /// The number of a directory that is made under the name in a directory. In version 4 it is the
+    /// next one. In versions 1 to 3, where a directory is its path, it is that of the directory
+    /// which was made there before; the next one only if there was none.
     pub(crate) fn number_for(&self, version: Version, directory: u32, name: &str) -> u32
         requires { length self.now < 2 ^ 32 }
         ensures { result ≡ number_for version self.now (entry_in directory name.now) }
@@ -77,8 +82,9 @@ impl Homes {
         }
     }
 
-    /// Adds an entry of a directory, under a name that is empty for the root, with the next number.
-    /// After an error, the trace is given up.
+    /// Adds the home of the directory with the next number: the name in the directory. The root has
+    /// an empty name. If the entry is the home of another directory, too, that directory stays the
+    /// first there. After an error the caller drops the homes.
     pub(crate) fn push(
         &mut self,
         alloc: Global,

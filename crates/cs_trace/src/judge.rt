@@ -1,4 +1,6 @@
-//! What an operation needs of what is at its paths, and the limits of a trace.
+//! What an operation needs to be at its paths, and the limits of a trace. Each function looks at
+//! the tree that the lines so far leave, and changes nothing. The faults are those of
+//! docs/reference/trace.md.
 ghost use Rattle.std.specs.Prelude.{◌≡◌, ◌||◌, nat_le, nat_lt};
 ghost use Rattle.cs_entries.specs.Paths.{at_path};
 ghost use Rattle.cs_entries.specs.Tables.{held_in};
@@ -17,8 +19,8 @@ use cs_names::Path;
 use cs_names::limits::{TRACE_PATH_NAMES, TREE_RECORDS};
 use cs_trace_lines::Version;
 
-/// The number of the regular file here. Nothing is Missing; a directory and a symbolic link are
-/// NotFile.
+/// The number of the regular file that was found at a path. None, nothing there, is Missing; a
+/// directory and a symbolic link are NotFile.
 pub(crate) fn file_by(here: Option<Node>) -> Result<u32, TraceFaultKind>
     ensures { result ≡ file_by here }
 {
@@ -29,14 +31,16 @@ pub(crate) fn file_by(here: Option<Node>) -> Result<u32, TraceFaultKind>
     }
 }
 
-/// The number of the regular file at the path (`file_by`).
+/// The number of the regular file at the path. Nothing there is Missing; a directory and a symbolic
+/// link are NotFile.
 pub(crate) fn file_at(tree: &Tree, path: &Path) -> Result<u32, TraceFaultKind>
     ensures { result ≡ file_by (at_path (held_in tree.now) path.now) }
 {
     file_by(tree.at(path.names()))
 }
 
-/// The file or symbolic link at the path. Nothing is Missing, and a directory is NotFile.
+/// The file or symbolic link at the path, by kind and number: a leaf of the tree. Nothing there is
+/// Missing, and a directory is NotFile.
 pub(crate) fn leaf_at(tree: &Tree, path: &Path) -> Result<(FileKind, u32), TraceFaultKind>
     ensures { result ≡ leaf_by (at_path (held_in tree.now) path.now) }
 {
@@ -47,8 +51,8 @@ pub(crate) fn leaf_at(tree: &Tree, path: &Path) -> Result<(FileKind, u32), Trace
     }
 }
 
-/// The number of the directory above, which is here. Nothing is NoParent, and a file or a symbolic
-/// link is NotDir.
+/// The number of the directory that was found above a path. None, nothing there, is NoParent; a
+/// file or a symbolic link is NotDir.
 pub(crate) fn parent_by(here: Option<Node>) -> Result<u32, TraceFaultKind>
     ensures { result ≡ parent_by here }
 {
@@ -59,15 +63,16 @@ pub(crate) fn parent_by(here: Option<Node>) -> Result<u32, TraceFaultKind>
     }
 }
 
-/// The number of the directory above the path (`parent_by`); of the root, of the root itself.
+/// The number of the directory above the path; the root is above itself. Nothing there is NoParent,
+/// and a file or a symbolic link is NotDir.
 pub(crate) fn parent_of(tree: &Tree, path: &Path) -> Result<u32, TraceFaultKind>
     ensures { result ≡ parent_number tree.now path.now }
 {
     parent_by(tree.at(path.names().parent()))
 }
 
-/// The number of the directory above the path, at which nothing may be: that is Exists, after the
-/// faults of `parent_of`.
+/// The number of the directory above a path at which a new entry may be made. The faults are those
+/// of `parent_of`, and then Exists if anything is at the path.
 pub(crate) fn free_in(tree: &Tree, path: &Path) -> Result<u32, TraceFaultKind>
     ensures { result ≡ free_number tree.now path.now }
 {
@@ -78,7 +83,8 @@ pub(crate) fn free_in(tree: &Tree, path: &Path) -> Result<u32, TraceFaultKind>
     }
 }
 
-/// The entry of a path whose directory is there.
+/// The entry of a path at which something is: its last name in the directory above it. If there is
+/// no directory above it, which callers have checked, the number is 0.
 pub(crate) fn entry_at(tree: &Tree, path: Path) -> DirEntry
     ensures { result
         ≡ entry_below (directory_number (at_path (held_in tree.now) (parent_path path))) path }
@@ -90,7 +96,8 @@ pub(crate) fn entry_at(tree: &Tree, path: Path) -> DirEntry
     DirEntry { directory, path }
 }
 
-/// What a file may be moved onto: nothing, a file or a symbolic link. A directory is NotFile.
+/// What a rename of a file or symbolic link replaces: nothing, a file or a symbolic link, as it was
+/// found at the path. A directory is NotFile.
 pub(crate) fn under_file(here: Option<Node>) -> Result<Option<Node>, TraceFaultKind>
     ensures { result ≡ under_file here }
 {
@@ -100,8 +107,8 @@ pub(crate) fn under_file(here: Option<Node>) -> Result<Option<Node>, TraceFaultK
     }
 }
 
-/// The number of the empty directory here. Nothing is Missing, a file or a symbolic link is NotDir,
-/// and a directory with an entry is NotEmpty.
+/// The number of the empty directory that was found at a path. None, nothing there, is Missing, a
+/// file or a symbolic link is NotDir, and a directory with an entry is NotEmpty.
 pub(crate) fn emptied_by(tree: &Tree, here: Option<Node>) -> Result<u32, TraceFaultKind>
     ensures { result ≡ emptied_by tree.now here }
 {
@@ -117,8 +124,8 @@ pub(crate) fn emptied_by(tree: &Tree, here: Option<Node>) -> Result<u32, TraceFa
     }
 }
 
-/// What a directory may be moved onto: nothing, or an empty directory. A file or a symbolic link is
-/// NotDir, and a directory with an entry is NotEmpty.
+/// What a rename of a directory replaces: nothing, or an empty directory, as it was found at the
+/// path. A file or a symbolic link is NotDir, and a directory with an entry is NotEmpty.
 pub(crate) fn under_directory(
     tree: &Tree,
     here: Option<Node>,
@@ -132,8 +139,8 @@ pub(crate) fn under_directory(
     Ok(Some(Node::Directory(directory)))
 }
 
-/// Whether this is the file of that number. False for a directory, and for None, which means that
-/// nothing is there.
+/// Whether what was found at a path is the file or symbolic link with this number, so that the path
+/// is one of its paths. False for a directory, and for None, nothing there.
 pub(crate) fn is_path_of(file: u32, here: Option<Node>) -> bool
     ensures { result ≡ is_path_of file here }
 {
@@ -143,15 +150,15 @@ pub(crate) fn is_path_of(file: u32, here: Option<Node>) -> bool
     }
 }
 
-/// Whether a path of this many names is over the limit of a trace's paths (TRACE_PATH_NAMES).
+/// Whether a path of so many names is over the limit of the paths in a line, TRACE_PATH_NAMES.
 pub(crate) fn are_too_many_names(names: usize) -> bool
     ensures { result ≡ nat_lt TRACE_PATH_NAMES names }
 {
     names > TRACE_PATH_NAMES
 }
 
-/// Whether one more record, after `made` records, would be over TREE_RECORDS, or its path, of this
-/// many names, is over TRACE_PATH_NAMES.
+/// Whether a new record is over a limit: its path has more than TRACE_PATH_NAMES names, or `made`
+/// records, as many as TREE_RECORDS allows, were made before.
 pub(crate) fn is_over_limits(made: usize, names: usize) -> bool
     ensures { result ≡ (nat_lt TRACE_PATH_NAMES names || nat_le TREE_RECORDS made) }
 {
@@ -168,8 +175,8 @@ pub(crate) fn ends_above(version: Version, offset: u64, bytes: &[u8]) -> bool
     count > 0 && (offset > most || count > most - offset)
 }
 
-/// The size in bytes of the file of that number. If there is no such file, 0; callers pass files of
-/// the tree, all of which have sizes.
+/// The size in bytes of the file with this number. If there is no such file, it is 0; callers pass
+/// files of the tree, all of which have sizes.
 pub(crate) fn size_in(sizes: &[u64], file: u32) -> u64
     ensures { result ≡ size_in sizes.now file }
 {

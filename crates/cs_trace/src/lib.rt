@@ -1,6 +1,7 @@
-//! Reads and checks the trace of a storage application: the files and directories at its start, and
-//! its operations. How a line is read by itself is in cs_trace_lines; how the start is kept, in
-//! cs_start; what the entries of directories hold, in cs_entries.
+//! Reads and checks the trace of a storage application: the files, symbolic links and directories
+//! at its start, and its operations. docs/reference/trace.md describes the text. How a line is read
+//! by itself is in cs_trace_lines; how the start is kept, in cs_start; what the entries of
+//! directories hold, in cs_entries. After a fault nothing is left: the caller gets only the fault.
 #![tactic(auto)]
 
 mod attributes;
@@ -20,8 +21,6 @@ mod rights;
 mod start;
 mod start_entries;
 mod state;
-#[cfg(test)]
-mod tests;
 pub mod trace;
 mod tree;
 

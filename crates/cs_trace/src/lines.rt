@@ -1,5 +1,5 @@
-//! Applies the lines of a trace, one after another, to the state of the lines so far. A fault ends
-//! the trace, so no clause says what it leaves of the state.
+//! Applies the lines of a trace, one after another, to the state of the lines so far. After a fault
+//! the caller drops the state, so no clause says what is left of it.
 ghost use Rattle.std.specs.Prelude.{◌≡◌, ◌≢◌, false, IfErr, IfOk, None, Some, Ok, Err, length};
 ghost use Rattle.cs_trace.specs.Kept.{Freely, IsBounded, state_of};
 ghost use Rattle.cs_trace_lines.specs.Lines.{line_in};
@@ -18,9 +18,8 @@ use crate::state::LinesSoFar;
 use cs_trace_lines::{Line, LineFault, OperationLine, Version, is_blank, read_line};
 use std::alloc::Global;
 
-/// The line that a text spells by itself, whatever the lines before it: `read_line` with the fault
-/// of a whole trace. A text that spells no line of this version is Syntax, and out of memory is
-/// Memory.
+/// The line that a text spells by itself, whatever the lines before it: `read_line`, with its fault
+/// as one of a trace. A text that spells no line of this version is Syntax. Memory: memory ran out.
 fn line_by_itself(alloc: Global, version: Version, text: &str) -> Result<Line, TraceFaultKind>
     ensures read { IfOk result (λ line. line_in version text.now ≡ Some (line_value line)) }
     ensures fault { IfErr result (λ kind. kind ≢ Memory → kind ≡ Syntax) }
@@ -51,7 +50,7 @@ fn apply_operation(
     Ok(())
 }
 
-/// Applies the first line that isn't blank. If it is no header, it is Syntax; the other faults are
+/// Applies the first line that isn't blank. Any line but a header is Syntax; the other faults are
 /// those of `apply_header`.
 fn apply_first(alloc: Global, state: &mut LinesSoFar, line: Line) -> Result<(), TraceFaultKind>
     requires bounded { IsBounded (state_of state.old) }
@@ -67,9 +66,9 @@ fn apply_first(alloc: Global, state: &mut LinesSoFar, line: Line) -> Result<(), 
 }
 
 /// Applies a line after the header that isn't blank. A second header is Syntax, and so is any start
-/// line after an operation. An operation of no known name is UnknownOp, and so is a start line of
-/// no known kind before the first operation. The other faults are those of `apply_start`,
-/// `apply_link` and `apply_operation`.
+/// line after an operation. An operation that the version doesn't have is UnknownOp, and so is a
+/// start line of an unknown kind before the first operation. The other faults are those of
+/// `apply_start`, `apply_link` and `apply_operation`.
 fn apply_later(alloc: Global, state: &mut LinesSoFar, line: Line) -> Result<(), TraceFaultKind>
     requires { IsBounded (state_of state.old) }
     ensures { Leaves
@@ -90,8 +89,9 @@ fn apply_later(alloc: Global, state: &mut LinesSoFar, line: Line) -> Result<(), 
     }
 }
 
-/// Applies the next line, given as its text. A blank line changes nothing, and a text that is no
-/// line of the trace's version is Syntax.
+/// Applies the next line, given as its text. A line of JSON's blanks only changes nothing. A text
+/// that is no line of the trace's version is Syntax; the other faults are those of `apply_first`
+/// before the header and of `apply_later` after it.
 fn apply_line(alloc: Global, state: &mut LinesSoFar, text: &str) -> Result<(), TraceFaultKind>
     requires { IsBounded (state_of state.old) }
     ensures { Leaves
@@ -111,7 +111,7 @@ fn apply_line(alloc: Global, state: &mut LinesSoFar, text: &str) -> Result<(), T
 }
 
 /// The state after all lines of the text, or the first fault, with the number of its line from 1.
-/// Whether there was a header isn't checked here; if there was none, `made` is 0.
+/// Whether there was a header isn't checked here: if all lines are blank, `made` is 0.
 pub(crate) fn state_after_lines(alloc: Global, text: &str) -> Result<LinesSoFar, TraceFault>
     ensures done { IfOk result (λ state. state_in (lines_in text.now) ≡ Ok (state_of state)) }
     ensures fault { IfErr result (λ fault. fault.kind ≢ Memory

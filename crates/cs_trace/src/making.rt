@@ -1,5 +1,5 @@
 //! Lines that make an entry: creat, mkdir, symlink and link. Their names are checked, their paths
-//! copied, and then looked up in the tree.
+//! copied, and then looked up in the tree. The state is only read.
 ghost use Rattle.std.specs.Prelude.{◌≡◌, ◌<◌, ◌^◌, length};
 ghost use Rattle.std.specs.String.{string_bytes};
 ghost use Rattle.cs_trace.specs.Judging.{creat, link, mkdir, symlink, with_path};
@@ -21,8 +21,9 @@ use cs_start::{PathText, Rights};
 use cs_trace_lines::Claims;
 use std::alloc::Global;
 
-/// A new entry at the path: nothing may be there (`free_in`), the path has no more names than a
-/// limit allows, and there is room for one more record; else it is TooLarge.
+/// A new entry at the path. A missing parent is NoParent, a parent that is no directory is NotDir,
+/// and anything at the path is Exists. Then a path of more than TRACE_PATH_NAMES names is TooLarge,
+/// and so is one record more than TREE_RECORDS.
 #[tactic(auto, using(crate::proofs::Entering::entry_found, crate::proofs::Entering::entry_refused, crate::proofs::Entering::entry_large))]
 fn new_entry(
     alloc: Global,
@@ -39,7 +40,8 @@ fn new_entry(
     Ok(DirEntry { directory, path })
 }
 
-/// The creat of a file at the path, with the next number (`new_entry`).
+/// The creat of a file at the path, with the next number of a file. The faults are those of
+/// `new_entry`.
 #[tactic(auto, using(crate::proofs::Made::creat_made, crate::proofs::Made::creat_fails))]
 fn creat_at(
     alloc: Global,
@@ -60,7 +62,7 @@ fn creat_at(
 }
 
 /// The creat of a file at the path that the text spells. If the path, the owner or the group isn't
-/// legal, it is BadName; the other faults are those of `creat_at`.
+/// legal, it is BadName; the other faults are those of `new_entry`.
 pub(crate) fn creat(
     alloc: Global,
     state: &LinesSoFar,
@@ -78,7 +80,8 @@ pub(crate) fn creat(
     creat_at(alloc, state, &path, rights)
 }
 
-/// The mkdir of a directory at the path, with the number that the version gives it (`new_entry`).
+/// The mkdir of a directory at the path, with the number that `Homes::number_for` gives it. The
+/// faults are those of `new_entry`.
 #[tactic(auto, using(crate::proofs::Made::mkdir_made, crate::proofs::Made::mkdir_fails))]
 fn mkdir_at(
     alloc: Global,
@@ -101,7 +104,7 @@ fn mkdir_at(
 }
 
 /// The mkdir of a directory at the path that the text spells. If the path, the owner or the group
-/// isn't legal, it is BadName; the other faults are those of `mkdir_at`.
+/// isn't legal, it is BadName; the other faults are those of `new_entry`.
 pub(crate) fn mkdir(
     alloc: Global,
     state: &LinesSoFar,
@@ -119,7 +122,8 @@ pub(crate) fn mkdir(
     mkdir_at(alloc, state, &path, rights)
 }
 
-/// The symlink at the path, with the next number of a file (`new_entry`).
+/// The symlink at the path, with the next number of a file. The target isn't looked up. The faults
+/// are those of `new_entry`.
 #[tactic(auto, using(crate::proofs::Made::symlink_made, crate::proofs::Made::symlink_fails))]
 fn symlink_at(
     alloc: Global,
@@ -144,7 +148,7 @@ fn symlink_at(
 }
 
 /// The symlink at the path that the text spells. If the path, the owner or the group isn't legal,
-/// it is BadName; the other faults are those of `symlink_at`.
+/// it is BadName; the other faults are those of `new_entry`.
 pub(crate) fn symlink(
     alloc: Global,
     state: &LinesSoFar,
@@ -164,7 +168,8 @@ pub(crate) fn symlink(
 }
 
 /// The link that gives the file at `from` one more path, `to`. Nothing at `from` is Missing, and
-/// what is no regular file is NotFile; then `to` is checked as the path of a creat.
+/// what is no regular file is NotFile. Then `to` has the faults of `new_entry`; a path `from` of
+/// too many names is TooLarge, too.
 #[tactic(auto, using(crate::proofs::Made::link_missing, crate::proofs::Made::link_refused, crate::proofs::Made::link_large, crate::proofs::Made::link_made))]
 pub(crate) fn link(
     alloc: Global,

@@ -1,4 +1,5 @@
-//! What an operation does to entries and to the homes of directories.
+//! What an operation does to what entries hold, and to the list of the entries at which directories
+//! were made (their homes). After an error, the caller drops the whole state.
 ghost use Rattle.std.specs.Prelude.{◌≡◌, ◌<◌, ◌^◌, OnOk, length};
 ghost use Rattle.cs_entries.specs.DirEntries.{entry_of};
 ghost use Rattle.cs_entries.specs.Entries as entries;
@@ -11,8 +12,9 @@ use crate::tree::Tree;
 use cs_entries::{DirEntry, FileKind, Node};
 use std::alloc::{AllocError, Global};
 
-/// Moves what the first entry holds to the second, over what that held. If the first holds nothing,
-/// which no checked rename has, or if both are the same, everything stays as it is.
+/// Moves what the entry `from` holds to the entry `to`, over what that held. If both are the same
+/// entry, nothing changes; nor if `from` holds nothing, which no operation that was checked has.
+/// `node` and `replaced` are for the contract only.
 #[tactic(auto, using(crate::proofs::Moving::move_same, crate::proofs::Moving::move_none, crate::proofs::Moving::move_some))]
 fn move_node(
     alloc: Global,
@@ -35,7 +37,7 @@ fn move_node(
     Ok(())
 }
 
-/// Puts a node at an entry, whatever that held.
+/// Puts a node at an entry, in place of what that held.
 fn put_node(alloc: Global, tree: &mut Tree, entry: &DirEntry, node: Node) -> Result<(), AllocError>
     ensures { OnOk result (tree.new
         ≡ table_after tree.old (entries.Create (entry_of entry.now) node)) }
@@ -44,7 +46,8 @@ fn put_node(alloc: Global, tree: &mut Tree, entry: &DirEntry, node: Node) -> Res
     Ok(())
 }
 
-/// Applies the operation to what the entries hold.
+/// Applies the operation to what the entries hold. One that makes, removes or moves no entry
+/// changes nothing.
 pub(crate) fn change_entries(
     alloc: Global,
     tree: &mut Tree,
@@ -85,7 +88,8 @@ pub(crate) fn change_entries(
     }
 }
 
-/// Applies the operation to the homes: a mkdir of a directory with the next number adds one.
+/// Applies the operation to the homes of directories: a mkdir of a directory with the next number
+/// adds its entry. Any other operation changes nothing, also a rename or an rmdir of a directory.
 pub(crate) fn change_homes(
     alloc: Global,
     homes: &mut Homes,
@@ -100,7 +104,7 @@ pub(crate) fn change_homes(
             directory,
             ..
         } => {
-            // One that is made again at its entry has the number that it had.
+            // A directory that is made again at its entry has the number that it had.
             if *directory as usize == homes.len() {
                 homes.push(alloc, entry.directory, entry.name())?;
             }

@@ -1,4 +1,7 @@
-//! The operations of a trace. A file is named by its number instead of its path.
+//! The operations of a trace, after their lines were checked. Files and directories are named by
+//! their numbers instead of their paths. A file's number counts files and symbolic links, those of
+//! the start first; a directory's number counts directories from 0, the root. In versions 1 to 3 a
+//! directory that is made again at its path has the number that it had.
 ghost use Rattle.std.specs.Prelude.{◌≡◌};
 ghost use Rattle.cs_trace.specs.Attributes.{target_of};
 
@@ -6,128 +9,159 @@ use cs_entries::{DirEntry, FileKind, Node};
 use cs_names::{Bytes, Path};
 use cs_start::Rights;
 
-/// What an operation waits for until it is on the disk.
+/// What a sync covers: which of the changes before it are on the disk after it. The table in
+/// docs/MODEL.md, "What a sync covers", says more.
 #[derive(Debug, Drop, PartialEq)]
 pub enum Covers {
-    /// Everything.
+    /// A sync: everything.
     All,
-    /// The file of that number.
+    /// An fsync of the file with this number: its bytes, its size, its owner, group and mode, but
+    /// none of its entries.
     File(u32),
-    /// The bytes and the size of the file of that number, without its owner, group and mode.
+    /// An fdatasync of the file with this number: its bytes and its size.
     Data(u32),
-    /// Some bytes of the file of that number, and its size.
+    /// An fsync_range: some bytes of a file, and its size.
     Range {
+        /// The number of the file.
         file: u32,
-        /// Where they begin.
+        /// The offset of the first of the bytes.
         offset: u64,
-        /// How many they are. They may end above the greatest `u64`.
+        /// How many bytes. The range may end above the greatest `u64`.
         length: u64,
     },
-    /// The entries of the directory of that number, and its owner, group and mode.
+    /// An fsync of a directory: the entries in it, and its own owner, group and mode.
     Directory {
+        /// The number of the directory.
         number: u32,
-        /// Its path at the operation's line.
+        /// Its path at the operation's line, only for printing.
         path: Path,
     },
 }
 
-/// Whose owner, group and permissions are set.
+/// What a chmod or a chown is of: that whose owner, group and permissions are set.
 #[derive(Debug, Drop, PartialEq)]
 pub enum Target {
-    /// The file or symbolic link of that number.
+    /// The file or symbolic link with this number.
     File(u32),
-    /// The directory of that number.
+    /// A directory.
     Directory {
+        /// The number of the directory.
         number: u32,
-        /// Its path at the operation's line.
+        /// Its path at the operation's line, only for printing.
         path: Path,
     },
 }
 
 /// An operation of a trace. It names files and directories by their numbers, and an entry by its
-/// directory's number and a name.
+/// directory's number and a name: the last name of the path in the entry, which is that of the
+/// line. `kind` says whether a file is a regular file or a symbolic link.
 #[derive(Debug, Drop, PartialEq)]
 pub enum Operation {
-    /// A new file without a byte, with the next number.
+    /// A new file without a byte, with the next number of a file.
     Creat {
+        /// The entry of the file.
         entry: DirEntry,
+        /// The file's number.
         file: u32,
+        /// Its owner, group and permissions.
         rights: Rights,
     },
-    /// A new directory.
+    /// A new directory. Its number is the next one; in versions 1 to 3 it is the earlier number if
+    /// a directory was at the entry before.
     Mkdir {
+        /// The entry of the directory.
         entry: DirEntry,
+        /// The directory's number.
         directory: u32,
+        /// Its owner, group and permissions.
         rights: Rights,
     },
-    /// A new symbolic link, with the next number of a file.
+    /// A new symbolic link, with the next number of a file. Its permissions are 777.
     Symlink {
+        /// The entry of the symbolic link.
         entry: DirEntry,
+        /// Its number.
         file: u32,
+        /// Its owner, group and permissions.
         rights: Rights,
-        /// Where it leads: its bytes, which it has from the beginning.
+        /// Its target in UTF-8, which is its bytes.
         target: Bytes,
     },
-    /// One more entry for a file.
+    /// One more entry for a regular file (a hard link).
     Link {
+        /// The new entry.
         entry: DirEntry,
+        /// The number of the file, which has an entry already.
         file: u32,
     },
     /// An entry of a file or a symbolic link is removed. The file stays while it has another.
     Unlink {
+        /// The entry that is removed.
         entry: DirEntry,
+        /// Whether it held a regular file or a symbolic link.
         kind: FileKind,
+        /// The number of the file that it held.
         file: u32,
     },
-    /// An empty directory is removed.
+    /// An empty directory is removed, with its entry.
     Rmdir {
+        /// The entry of the directory.
         entry: DirEntry,
+        /// The directory's number.
         directory: u32,
     },
-    /// An entry is moved, and replaces what is there. If both entries are one, nothing changes. A
-    /// rename onto another path of the same file is read as a rename of that entry to itself.
+    /// What one entry holds is moved to another entry, and replaces what is there. If `from` and
+    /// `to` are the same entry, nothing changes. A rename onto another path of the same file, which
+    /// does nothing by rename(2), has that path as both `from` and `to`.
     Rename {
+        /// The old entry.
         from: DirEntry,
+        /// The new entry.
         to: DirEntry,
-        /// What is moved.
+        /// What is moved: what `from` held.
         node: Node,
-        /// What it replaces.
+        /// What `to` held: it is replaced. None if it held nothing.
         replaced: Option<Node>,
     },
     /// Bytes are written from an offset on. A write of no byte changes nothing at any offset.
     Write {
+        /// The number of the file.
         file: u32,
-        /// The file's size before it.
+        /// The file's size before it, in bytes.
         size: u64,
+        /// Where the bytes go in the file.
         offset: u64,
+        /// The bytes; a byte between the size and the offset becomes zero.
         bytes: Bytes,
     },
-    /// The file is cut, or filled up with zeros.
+    /// The file is cut, or filled up with zeros, to another length in bytes. If the length is its
+    /// size, nothing changes.
     Truncate {
+        /// The number of the file.
         file: u32,
         /// The file's size before it.
         size: u64,
         /// Its size after it.
         length: u64,
     },
-    /// Owner, group and permissions are set.
+    /// A chmod or a chown. If it sets what was set before, nothing changes.
     SetAttr {
+        /// What it is of.
         target: Target,
-        /// As they are before it.
+        /// Owner, group and permissions before it.
         before: Rights,
-        /// As they are after it.
+        /// Owner, group and permissions after it.
         after: Rights,
     },
-    /// An fsync or fdatasync of a file, an fsync of a part of it or of a directory, or a sync of
-    /// everything.
+    /// A sync of everything, of a file, of its data or a range of it, or of a directory.
     Sync(Covers),
-    /// A text that the application acknowledges to its users.
+    /// A line that the application acknowledges to its users. The text isn't kept.
     Say,
 }
 
 impl Target {
-    /// The target of a chmod or a chown: the file of the number in `node`, whose path is dropped,
-    /// or the directory of its number, with the path.
+    /// The target of a chmod or a chown of `node`, which is at the path: a file or symbolic link by
+    /// its number alone (the path is dropped), or a directory by its number and path.
     pub(crate) fn of(node: Node, path: Path) -> Target
         ensures { result ≡ target_of node path }
     {

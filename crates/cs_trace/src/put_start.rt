@@ -1,5 +1,5 @@
-//! Puts the files, symbolic links and directories of the start into the state. After an error, the
-//! trace is given up, so that no clause says what is left of the state.
+//! Puts the files, symbolic links and directories of the start into the state. An error means out
+//! of memory; then the caller drops the state, so no clause says what is left of it.
 ghost use Rattle.std.specs.Prelude.{◌≡◌, ◌<◌, ◌^◌, ◌+◌, ◌≢◌, [], false, true, IfOk, OnOk};
 ghost use Rattle.std.specs.Prelude.{None, length};
 ghost use Rattle.std.specs.FinMap as map;
@@ -24,7 +24,7 @@ use cs_trace_lines::Version;
 use cs_tree_model::{Content, Kind};
 use std::alloc::{AllocError, Global};
 
-/// How many bytes a file with this content has; 0 for a directory.
+/// How many bytes a file or a symbolic link with this content has; 0 for a directory.
 fn size_of(content: &Content) -> u64
     ensures { result ≡ size_of content.now }
 {
@@ -34,8 +34,9 @@ fn size_of(content: &Content) -> u64
     }
 }
 
-/// How many files and symbolic links the start has with a new entry of this node, if it had so many
-/// before. Before the first operation, each file that has a size is one of the start's.
+/// How many files and symbolic links the start has after `node` was added, if it had `count`
+/// before. `sizes` are the sizes before: until the first operation, all of them are of the start's
+/// files.
 fn file_count_with(count: usize, sizes: &[u64], node: Node) -> usize
     ensures { result ≡ count_with count sizes.now node }
 {
@@ -45,7 +46,7 @@ fn file_count_with(count: usize, sizes: &[u64], node: Node) -> usize
     }
 }
 
-/// Keeps the size of a new file or symbolic link.
+/// Keeps the size of a new file or symbolic link; nothing for a directory.
 fn put_size(sizes: &mut Vec<u64>, entry: &StartEntry) -> Result<(), AllocError>
     ensures { OnOk result (sizes.new.items
         ≡ sizes_with sizes.old.items entry.now.node entry.now.content) }
@@ -57,7 +58,8 @@ fn put_size(sizes: &mut Vec<u64>, entry: &StartEntry) -> Result<(), AllocError>
     Ok(())
 }
 
-/// Keeps the home of a new directory, which is under the name in a directory.
+/// Keeps the entry at which a new directory is made: the name in the directory with the number.
+/// Nothing changes if the node is no directory.
 fn put_home(
     alloc: Global,
     homes: &mut Homes,
@@ -74,7 +76,8 @@ fn put_home(
     }
 }
 
-/// Keeps the rights of a new entry if the version has attributes, as `LinesSoFar::apply` does.
+/// Keeps owner, group and permissions of a new entry; nothing in version 1, in which no operation
+/// changes them. `change_attributes` of `state` has the same cases.
 fn put_rights(
     attributes: &mut Attributes,
     version: Version,
@@ -93,8 +96,9 @@ fn put_rights(
     }
 }
 
-/// Keeps what a new entry of the start, which is under the name in the directory, has apart from
-/// its paths. Counts one more record.
+/// Keeps the parts of a new entry that aren't in `start` or `tree`: the count of files, its size,
+/// its home, its rights; and counts one more record. The entry is under the name in the directory
+/// with the number.
 fn put_parts(
     alloc: Global,
     state: &mut LinesSoFar,
@@ -128,7 +132,7 @@ fn put_parts(
     Ok(())
 }
 
-/// The last name of the path; empty for the root.
+/// The last name of the path; an empty text for the root.
 pub(crate) fn last_name(path: &Path) -> &str
     ensures { result.now ≡ last_name path.now }
 {
@@ -138,7 +142,7 @@ pub(crate) fn last_name(path: &Path) -> &str
     }
 }
 
-/// Adds the root, with the number 0.
+/// Adds the root, the directory with the number 0, as the first record.
 pub(crate) fn put_root(
     alloc: Global,
     state: &mut LinesSoFar,
@@ -157,9 +161,9 @@ pub(crate) fn put_root(
     Ok(())
 }
 
-/// Adds the entry of a new file, symbolic link or directory at the path, under the name in the
-/// directory of the number. Returns whether it replaced another entry, which the caller reports as
-/// a fault.
+/// Adds the entry of a new file, symbolic link or directory at the path, in the directory with the
+/// number. Returns whether something was at the path: then the caller reports Exists, and no clause
+/// says what is left of the state.
 pub(crate) fn put_entry(
     alloc: Global,
     state: &mut LinesSoFar,
@@ -189,7 +193,8 @@ pub(crate) fn put_entry(
     Ok(before.is_some())
 }
 
-/// As `put_entry`, at the path that the text spells.
+/// As `put_entry`, at the path that the text spells, whose last name is `name`. Faster if the start
+/// keeps the entries of the directory apart: then the path isn't copied.
 pub(crate) fn put_spelled(
     alloc: Global,
     state: &mut LinesSoFar,
@@ -220,8 +225,9 @@ pub(crate) fn put_spelled(
     Ok(before.is_some())
 }
 
-/// Adds one more path for a file of the start: to the links, and with this copy of the file's entry
-/// to the tree. Counts one more record. The caller has checked that nothing is at the path.
+/// Adds one more path for a file of the start: to the links, to the tree, and with `entry`, a copy
+/// of what the start has at another of the file's paths, to the start. Counts one more record. The
+/// caller has checked that nothing is at the path.
 pub(crate) fn put_link(
     alloc: Global,
     state: &mut LinesSoFar,

@@ -1,4 +1,5 @@
-//! Renames. Paths are copied, and then looked up in the tree.
+//! Renames, as rename(2). Paths are copied, and then looked up in the tree. The state is only read.
+//! A path of more than TRACE_PATH_NAMES names is TooLarge, after all other faults.
 ghost use Rattle.std.specs.Prelude.{◌≡◌};
 ghost use Rattle.cs_trace.specs.Judging.{is_too_much_to_move, moved, rename, rename_directory};
 ghost use Rattle.cs_trace.specs.Judging.{rename_file};
@@ -18,15 +19,16 @@ use cs_names::limits::TREE_RECORDS;
 use cs_start::PathText;
 use std::alloc::Global;
 
-/// Whether a rename from one entry to the other makes one record too many: in the fourth version it
-/// makes one if the entries are in two directories.
+/// Whether a rename from one entry to the other is over the limit of TREE_RECORDS records: in
+/// version 4 it counts as a record if the entries are in two directories.
 fn is_too_much_to_move(state: &LinesSoFar, from: &DirEntry, to: &DirEntry) -> bool
     ensures { result ≡ is_too_much_to_move (state_of state.now) from.now to.now }
 {
     state.version.is_fourth() && from.directory != to.directory && state.made >= TREE_RECORDS
 }
 
-/// The rename of what is at the path to the entry, over what is there, unless a limit is passed.
+/// The rename of `node`, which is at the path `from`, to the entry `to`, which holds `replaced`. If
+/// a path has too many names, or there would be too many records, it is TooLarge.
 fn moved(
     state: &LinesSoFar,
     from: Path,
@@ -51,8 +53,9 @@ fn moved(
     })
 }
 
-/// The rename of an entry to itself, which does nothing. A path of too many names, the other one of
-/// which has so many, is TooLarge.
+/// The rename of an entry to itself, which does nothing; it is also what a rename between two paths
+/// of one file is read as. `others` is how many names the path `from` of the line has. If it or the
+/// entry's path has too many names, it is TooLarge.
 fn unmoved(
     alloc: Global,
     others: usize,
@@ -73,9 +76,10 @@ fn unmoved(
     })
 }
 
-/// The rename of a file or a symbolic link, which may replace one at `to`. What is above `to` is
-/// checked by `parent_of`, and a directory at `to` is NotFile. If both are paths of one file, the
-/// result is a rename of `to` to itself, as rename(2) does nothing then.
+/// The rename of the file or symbolic link at `from`, which may replace one at `to`. A missing
+/// parent of `to` is NoParent, a parent that is no directory is NotDir, and a directory at `to` is
+/// NotFile. If both are paths of one file, rename(2) does nothing: the result is a rename of `to`
+/// to itself.
 #[tactic(auto, using(crate::proofs::Renamed::file_refused, crate::proofs::Renamed::file_over, crate::proofs::Renamed::file_unmoved, crate::proofs::Renamed::file_moved))]
 fn rename_file(
     alloc: Global,
@@ -99,9 +103,10 @@ fn rename_file(
     moved(state, from, entry, Node::File(kind, file), replaced)
 }
 
-/// The rename of a directory. What is above `to` is checked by `parent_of`; a `to` below the
-/// directory is BadName; and `to` may be the directory itself, nothing, or an empty directory,
-/// which is replaced (`under_directory`).
+/// The rename of the directory at `from`. A missing parent of `to` is NoParent, a parent that is no
+/// directory is NotDir, and then a `to` below `from` is BadName. At `to` may be the directory
+/// itself (nothing changes), nothing, or an empty directory, which is replaced; a file or symbolic
+/// link is NotDir, and a directory with an entry is NotEmpty.
 #[tactic(auto, using(crate::proofs::Renamed::directory_refused, crate::proofs::Renamed::directory_below, crate::proofs::Renamed::directory_unmoved, crate::proofs::Renamed::directory_over, crate::proofs::Renamed::directory_moved))]
 fn rename_directory(
     alloc: Global,
@@ -132,8 +137,8 @@ fn rename_directory(
     moved(state, from, entry, node, replaced)
 }
 
-/// The rename of what is at `from`. Nothing there is Missing; a directory is NotFile before the
-/// fourth version. The other faults are those of `rename_file` and `rename_directory`.
+/// The rename of what is at `from` to the path `to`. Nothing at `from` is Missing; a directory is
+/// NotFile before version 4. The other faults are those of `rename_file` and `rename_directory`.
 pub(crate) fn rename(
     alloc: Global,
     state: &LinesSoFar,

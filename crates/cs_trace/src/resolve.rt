@@ -1,5 +1,7 @@
 //! From the line of an operation to the operation: its names are checked, its paths copied, and
-//! then looked up in the tree. The state is only read; `LinesSoFar::apply` changes it.
+//! then looked up in the tree. The state is only read; `LinesSoFar::apply` changes it. The faults
+//! and their order are those of docs/reference/trace.md. A path of more than TRACE_PATH_NAMES names
+//! has too many.
 ghost use Rattle.std.specs.Prelude.{◌≡◌, ◌<◌, ◌^◌, length};
 ghost use Rattle.cs_trace.specs.Judging.{fdatasync, fsync, fsync_range, may_set, or_bad_name};
 ghost use Rattle.cs_trace.specs.Judging.{resolve, rmdir, say, set_attr, truncate, unlink, write};
@@ -27,8 +29,8 @@ use cs_start::PathText;
 use cs_trace_lines::{Change, OperationLine};
 use std::alloc::Global;
 
-/// The path of a chmod or a chown, which may be the root. If the path, or the owner or the group
-/// of a chown, isn't legal, it is BadName.
+/// The path of a chmod or a chown, which may be the root. A path that isn't legal is BadName, and
+/// so is an owner or a group of a chown.
 fn set_path<'a>(text: &'a str, change: &Change) -> Result<PathText<'a>, TraceFaultKind>
     ensures { result ≡ or_bad_name (set_path_of text.now (change_value change.now)) }
 {
@@ -39,8 +41,8 @@ fn set_path<'a>(text: &'a str, change: &Change) -> Result<PathText<'a>, TraceFau
     Ok(path)
 }
 
-/// The unlink of the path of a file or a symbolic link. Nothing there is Missing, and a directory
-/// is NotFile.
+/// The unlink of the path of a file or a symbolic link. Nothing there is Missing, a directory is
+/// NotFile, and last, too many names are TooLarge.
 fn unlink(
     alloc: Global,
     state: &LinesSoFar,
@@ -57,7 +59,8 @@ fn unlink(
     Ok(Operation::Unlink { entry, kind, file })
 }
 
-/// The rmdir of an empty directory (`emptied_by`).
+/// The rmdir of the empty directory at the path. Nothing there is Missing, a file or a symbolic
+/// link is NotDir, a directory with an entry is NotEmpty, and last, too many names are TooLarge.
 fn rmdir(
     alloc: Global,
     state: &LinesSoFar,
@@ -74,8 +77,9 @@ fn rmdir(
     Ok(Operation::Rmdir { entry, directory })
 }
 
-/// The write of bytes at the offset to the file at the path. Nothing there is Missing, what is no
-/// regular file is NotFile, and a write that ends above the greatest size of a file is TooLarge.
+/// The write of bytes at the offset to the file at the path. Nothing there is Missing, and what is
+/// no regular file is NotFile. Last, too many names are TooLarge, and so is a write of at least one
+/// byte that ends above `most_bytes`.
 fn write(
     alloc: Global,
     state: &LinesSoFar,
@@ -98,9 +102,9 @@ fn write(
     })
 }
 
-/// The truncate of the file at the path to a new length, which may be greater than its size.
-/// Nothing there is Missing, what is no regular file is NotFile, and a length above the greatest
-/// size of a file is TooLarge.
+/// The truncate of the file at the path to a length in bytes, which may be greater than its size.
+/// Nothing there is Missing, and what is no regular file is NotFile. Last, too many names are
+/// TooLarge, and so is a length above `most_bytes`.
 fn truncate(
     alloc: Global,
     state: &LinesSoFar,
@@ -118,7 +122,7 @@ fn truncate(
     Ok(Operation::Truncate { file, size, length })
 }
 
-/// Whether the change may be made: a symbolic link has no mode that could be set.
+/// Whether the change may be made of the node: all but a chmod of a symbolic link.
 fn may_set(change: &Change, node: Node) -> bool
     ensures { result ≡ may_set (change_value change.now) node }
 {
@@ -128,9 +132,10 @@ fn may_set(change: &Change, node: Node) -> bool
     }
 }
 
-/// The chmod or chown of what is at the path, with its rights before and after. Nothing there is
-/// Missing, and a chmod of a symbolic link is NotFile. What has no rights is Missing, too; in the
-/// versions that have a chmod and a chown, everything has some.
+/// The chmod or chown of what is at the path, with its owner, group and permissions before and
+/// after. Nothing there is Missing, a chmod of a symbolic link is NotFile, and last, too many names
+/// are TooLarge. What has no rights in the state is Missing, too; in the versions that have chmod
+/// and chown, everything has some.
 fn set_attr(
     alloc: Global,
     state: &LinesSoFar,
@@ -162,8 +167,8 @@ fn set_attr(
     })
 }
 
-/// What an fsync of the path covers: the file there, or the entries of the directory there. Nothing
-/// there is Missing, and a symbolic link is NotFile.
+/// What an fsync of the path covers: the regular file there, or the directory there, with the path.
+/// Nothing there is Missing, and a symbolic link is NotFile.
 fn covered_at(state: &LinesSoFar, path: Path) -> Result<Covers, TraceFaultKind>
     ensures { covers_at (state_of state.now) path ≡ result }
 {
@@ -175,7 +180,8 @@ fn covered_at(state: &LinesSoFar, path: Path) -> Result<Covers, TraceFaultKind>
     }
 }
 
-/// The fsync of the path (`covered_at`).
+/// The fsync of the file or directory at the path. Nothing there is Missing, a symbolic link is
+/// NotFile, and last, too many names are TooLarge.
 #[tactic(auto, using(crate::proofs::Renamed::fsync_fails, crate::proofs::Renamed::fsync_made))]
 fn fsync(
     alloc: Global,
@@ -192,7 +198,7 @@ fn fsync(
 }
 
 /// The number of the regular file at the path, for an fdatasync and an fsync_range. Nothing there
-/// is Missing, and what is no regular file is NotFile.
+/// is Missing, what is no regular file is NotFile, and last, too many names are TooLarge.
 fn synced_file(
     alloc: Global,
     state: &LinesSoFar,
@@ -208,7 +214,7 @@ fn synced_file(
     Ok(file)
 }
 
-/// The fdatasync of the file at the path (`synced_file`).
+/// The fdatasync of the regular file at the path. The faults are those of `synced_file`.
 #[tactic(auto, using(crate::proofs::Renamed::fdatasync_fails, crate::proofs::Renamed::fdatasync_made))]
 fn fdatasync(
     alloc: Global,
@@ -221,8 +227,8 @@ fn fdatasync(
     Ok(Operation::Sync(Covers::Data(file)))
 }
 
-/// The sync of `length` bytes of the file at the path (`synced_file`), from the offset on. The
-/// range may end after the end of the file.
+/// The fsync_range of `length` bytes of the regular file at the path, from the offset on. The range
+/// may end after the end of the file, and even above 2^64. The faults are those of `synced_file`.
 #[tactic(auto, using(crate::proofs::Renamed::fsync_range_fails, crate::proofs::Renamed::fsync_range_made))]
 fn fsync_range(
     alloc: Global,
@@ -241,7 +247,8 @@ fn fsync_range(
     }))
 }
 
-/// The say of a text, which isn't kept. A text of more than SAY_BYTES bytes is TooLarge.
+/// The say of a text, which isn't kept. A text of more than SAY_BYTES bytes is TooLarge. An empty
+/// one is legal.
 fn say(text: &str) -> Result<Operation, TraceFaultKind>
     ensures { result ≡ say text.now }
 {
@@ -251,7 +258,8 @@ fn say(text: &str) -> Result<Operation, TraceFaultKind>
     Ok(Operation::Say)
 }
 
-/// The operation that the line means in this state, or the fault of the first check that it fails.
+/// The operation that the line means in this state, or the fault of the first check that it fails:
+/// of its names, of what is at its paths, and last of the limits. The state isn't changed.
 pub(crate) fn resolve(
     alloc: Global,
     state: &LinesSoFar,

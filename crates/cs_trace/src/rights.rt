@@ -1,5 +1,5 @@
-//! Owner, group and permissions that a line claims or sets. Those of lines one after another are
-//! shared if they are the same.
+//! Owner, group and permissions (the rights) that a line claims or sets. A line claims the rights
+//! of what it makes. If lines one after another have equal rights, they share one copy of them.
 ghost use Rattle.std.specs.Prelude.{◌≡◌, IfOk, IsOk, IsTrue, Ok};
 ghost use Rattle.cs_trace.specs.Judging.{rights_after, rights_in};
 ghost use Rattle.cs_trace.specs.Outcomes.{Gives};
@@ -11,7 +11,7 @@ use cs_start::{Rights, Shared};
 use cs_trace_lines::{Change, Claims};
 use std::alloc::{AllocError, Global};
 
-/// The rights that a line claims, whose names are moved. An owner or a group that isn't legal is
+/// The rights that a line claims, with its names moved. An owner or a group that isn't legal is
 /// BadName. It takes no memory.
 pub(crate) fn claimed_rights(claims: Claims) -> Result<Rights, TraceFaultKind>
     ensures { result ≡ rights_in (claims_of claims) }
@@ -23,8 +23,9 @@ pub(crate) fn claimed_rights(claims: Claims) -> Result<Rights, TraceFaultKind>
     })
 }
 
-/// A copy of the rights with other permissions (of a chmod), or with another owner and group (of a
-/// chown), whose names the caller has checked.
+/// A copy of the rights after the change. A chmod sets the permissions and keeps owner and group; a
+/// chown sets owner and group and keeps the permissions. The caller has checked by `are_set_names`
+/// that the names are legal. The only error is that memory runs out.
 pub(crate) fn changed_rights(
     alloc: Global,
     rights: &Rights,
@@ -43,7 +44,8 @@ pub(crate) fn changed_rights(
     Ok(changed)
 }
 
-/// Whether the claims are these rights. Names are only compared: those of rights are legal.
+/// Whether the claims are equal to these rights. True only if the claimed names are legal, since
+/// those of rights are.
 fn are_claimed(rights: &Rights, claims: &Claims) -> bool
     ensures { IsTrue result → rights_in (claims_of claims.now) ≡ Ok rights.now }
 {
@@ -52,8 +54,9 @@ fn are_claimed(rights: &Rights, claims: &Claims) -> bool
         && rights.group.as_str() == claims.group.as_str()
 }
 
-/// The rights that a line claims. If they are those of `last`, the line before, the two share them.
-/// `last` becomes the rights of this line. An owner or a group that isn't legal is BadName.
+/// The rights that a line claims. If they are equal to `last`, those of an earlier line, both lines
+/// share them; if not, they become `last`. An owner or a group that isn't legal is BadName, which
+/// leaves `last` as it was.
 pub(crate) fn shared_claims(
     alloc: Global,
     last: &mut Option<Shared<Rights>>,
@@ -72,8 +75,8 @@ pub(crate) fn shared_claims(
     Ok(shared)
 }
 
-/// The rights as those that may be shared: the last rights themselves if they are the same, or else
-/// a copy, which become the last rights.
+/// The rights as a value that may be shared: `last` itself if it is equal to them, or else a copy,
+/// which becomes `last`.
 pub(crate) fn shared_rights(
     alloc: Global,
     last: &mut Option<Shared<Rights>>,

@@ -1,5 +1,5 @@
-//! What the header and the start lines add to the state. After a fault, the trace is given up, so
-//! that no clause says what is left of the state.
+//! What the header and the start lines add to the state. After a fault, the caller drops the state,
+//! so no clause says what is left of it.
 ghost use Rattle.std.specs.Prelude.{◌≡◌, ◌≢◌, [], IfErr, IfOk, Ok, Err};
 ghost use Rattle.std.specs.FinMap as map;
 ghost use Rattle.cs_start.specs.Names.{entry_path_of};
@@ -25,8 +25,9 @@ use cs_start::{PathText, StartEntry, StartMap};
 use cs_trace_lines::{Claims, StartContent, StartLine, Version};
 use std::alloc::Global;
 
-/// The path of a start line. If it isn't legal, it is BadName, as by `entry_path`; but of a path in
-/// the directory of the last start line, only the last name is checked.
+/// The path of a start line, with the faults of `entry_path`: the root, and a text that spells no
+/// path, are BadName. Faster if the path is in the directory of the last start line, whose text was
+/// checked then: only the last name is checked.
 fn start_path<'a>(tree: &Tree, path: &'a str) -> Result<PathText<'a>, TraceFaultKind>
     ensures { result ≡ or_bad_name (entry_path_of path.now) }
 {
@@ -36,8 +37,8 @@ fn start_path<'a>(tree: &Tree, path: &'a str) -> Result<PathText<'a>, TraceFault
     }
 }
 
-/// Applies the start line of a file, a symbolic link or a directory. A path, an owner or a group
-/// that isn't legal is BadName; the other faults are those of `add_entry`.
+/// Applies the start line of a file, a symbolic link or a directory: adds it to the start. A path,
+/// an owner or a group that isn't legal is BadName; the other faults are those of `add_entry`.
 pub(crate) fn apply_start(
     alloc: Global,
     state: &mut LinesSoFar,
@@ -59,8 +60,8 @@ pub(crate) fn apply_start(
     add_entry(alloc, state, &text, rights, content)
 }
 
-/// The regular file that was at the path at the start, with its number. Nothing there is Missing,
-/// and a directory and a symbolic link are NotFile.
+/// What the start has for the regular file at the path, with the file's number. Nothing there is
+/// Missing, and a directory and a symbolic link are NotFile.
 fn start_file<'a>(start: &'a StartMap, path: &Path) -> Result<(&'a StartEntry, u32), TraceFaultKind>
     ensures file { IfOk result (λ parts.
         start_file_at (map.get start.now path.now) ≡ Ok (parts.0.now, parts.1)) }
@@ -77,9 +78,10 @@ fn start_file<'a>(start: &'a StartMap, path: &Path) -> Result<(&'a StartEntry, u
     }
 }
 
-/// Adds one more path, `to`, for the file that was at `from` at the start. Nothing at `from` is
-/// Missing, and what is no regular file is NotFile; then `to` is checked as `free_in` does; and
-/// last, a link over a limit is TooLarge.
+/// Adds one more path, `to`, for the start's file at `from`. Nothing at `from` is Missing, and what
+/// is no regular file is NotFile. Then a missing parent of `to` is NoParent, a parent that is no
+/// directory is NotDir, and anything at `to` is Exists. Last, a path of more than TRACE_PATH_NAMES
+/// names, or one record more than TREE_RECORDS, is TooLarge.
 fn add_link(
     alloc: Global,
     state: &mut LinesSoFar,
@@ -105,9 +107,9 @@ fn add_link(
     Ok(())
 }
 
-/// Applies the start line of a link: `to` spells one more path for the file at the path that `from`
-/// spells. A text that spells no path, and the root, are BadName; the other faults are those of
-/// `add_link`.
+/// Applies the start line of a hard link: `to` spells one more path for the file at the path that
+/// `from` spells. A text that spells no path, and the root, are BadName; the other faults are those
+/// of `add_link`.
 pub(crate) fn apply_link(
     alloc: Global,
     state: &mut LinesSoFar,
@@ -125,8 +127,8 @@ pub(crate) fn apply_link(
     add_link(alloc, state, &from, &to)
 }
 
-/// Applies the header: it sets the version and adds the root. An owner or a group that isn't legal
-/// is BadName.
+/// Applies the header: it sets the version and adds the root, with the owner, group and mode that
+/// the header claims. An owner or a group that isn't legal is BadName.
 pub(crate) fn apply_header(
     alloc: Global,
     state: &mut LinesSoFar,

@@ -1,5 +1,6 @@
-//! Adds a file, a symbolic link or a directory to the start. After a fault, the trace is given up,
-//! so that no clause says what is left of the state.
+//! Adds a file, a symbolic link or a directory to the start. After a fault, the caller drops the
+//! state, so no clause says what is left of it. The directory of the last start line is kept in the
+//! tree, because the next line is most often in it, too.
 ghost use Rattle.std.specs.Prelude.{◌≡◌, ◌≢◌, ◌∷◌, ◌++◌, ◌<◌, ◌^◌, [], IfErr, IfOk, OnOk, Some};
 ghost use Rattle.std.specs.Prelude.{Err};
 ghost use Rattle.std.specs.Prelude.{length};
@@ -29,7 +30,7 @@ use cs_trace_lines::StartContent;
 use cs_tree_model::Content;
 use std::alloc::{AllocError, Global};
 
-/// How many bytes a file or a symbolic link has; 0 for a directory.
+/// How many bytes a file with this content has; of a symbolic link, its target; 0 for a directory.
 fn size_of(content: &StartContent) -> u64
     ensures { result ≡ size_of (bytes_of (content_of content.now)) }
 {
@@ -40,7 +41,8 @@ fn size_of(content: &StartContent) -> u64
     }
 }
 
-/// The content of the record of a new entry.
+/// The content as that of a record: a directory has none, a file its bytes (those of no part are
+/// zero), and a symbolic link its target. The bytes are moved if they are already in one piece.
 fn record_content(alloc: Global, content: StartContent) -> Result<Content, AllocError>
     ensures { IfOk result (λ kept. kept ≡ bytes_of (content_of content)) }
 {
@@ -52,7 +54,7 @@ fn record_content(alloc: Global, content: StartContent) -> Result<Content, Alloc
 }
 
 /// What a start line makes under the name in the directory: a file or a symbolic link with the next
-/// number, or a directory with the number that the version gives it.
+/// number of a file, or a directory with the number that `Homes::number_for` gives it.
 fn new_node(state: &LinesSoFar, directory: u32, name: &str, content: &StartContent) -> Node
     requires files { length state.now.sizes.items < 2 ^ 32 }
     requires directories { length state.now.homes < 2 ^ 32 }
@@ -69,8 +71,9 @@ fn new_node(state: &LinesSoFar, directory: u32, name: &str, content: &StartConte
     }
 }
 
-/// The entry of what a start line makes under the name in the directory. Files and symbolic links
-/// are made at their own paths.
+/// What the start keeps of what a start line makes under the name in the directory: its node, its
+/// rights and its content. `own` is true of files and symbolic links: the path is the one that they
+/// were made at. The name of the root is empty.
 pub(crate) fn new_entry(
     alloc: Global,
     state: &LinesSoFar,
@@ -99,9 +102,10 @@ pub(crate) fn new_entry(
     })
 }
 
-/// The directory of a new entry at the path, which `text` spells (`parent_by`). The directory of
-/// the last start line isn't looked up again; of another one that has a long text, the entries are
-/// kept apart from now on, if it has none yet (`StartMap::keep_apart`).
+/// The directory above the path, which `text` spells. Nothing there is NoParent, and a file or a
+/// symbolic link is NotDir. The directory of the last start line isn't looked up again. If another
+/// directory has a long text, its entries may be kept apart from now on, which makes it faster to
+/// insert many (`StartMap::keep_apart`); what the state means stays the same.
 fn find_above(
     alloc: Global,
     state: &mut LinesSoFar,
@@ -127,16 +131,18 @@ fn find_above(
     Ok(Above { directory, number })
 }
 
-/// Whether a file with this content, at a path of so many names, would be over a limit.
+/// Whether one more entry with this content, at a path of so many names, would be over a limit:
+/// TREE_RECORDS records, TRACE_PATH_NAMES names, or `most_bytes` of the version.
 fn is_too_large(state: &LinesSoFar, names: usize, content: &StartContent) -> bool
     ensures { result ≡ is_too_large (state_of state.now) names (content_of content.now) }
 {
     is_over_limits(state.made, names) || size_of(content) > most_bytes(state.version)
 }
 
-/// Adds a new entry at the path, in the directory `above`, which is remembered for the next line.
+/// Adds a new entry at the path, in the directory `above`, which is then kept for the next line.
 /// `names` is how many names the path has; the caller knows it, so they aren't counted again.
-/// Anything at the path is Exists; if nothing is there, an entry over a limit is TooLarge.
+/// Anything at the path is Exists; if nothing is there, an entry over a limit (`is_too_large`) is
+/// TooLarge.
 fn add_entry_in(
     alloc: Global,
     state: &mut LinesSoFar,
@@ -173,8 +179,9 @@ fn add_entry_in(
     Ok(())
 }
 
-/// As `add_entry_in`, at the path that the text spells, which is that of the directory `above` and
-/// the name. Most often no Path is made.
+/// As `add_entry_in`, for a path that is given as its text: it is that of the directory `above`
+/// with the name. Faster, because the names of the path are copied only if the start must keep them
+/// (`put_spelled`), or if an entry is over a limit.
 fn add_sibling(
     alloc: Global,
     state: &mut LinesSoFar,
@@ -210,8 +217,8 @@ fn add_sibling(
 }
 
 /// Adds a file, a symbolic link or a directory with this content at the path that the text spells.
-/// The faults are those of `find_above` and then those of `add_entry_in`. In the directory of the
-/// last start line, most often no path is made (`add_sibling`).
+/// The faults are those of `find_above` (NoParent, NotDir), and then those of `add_entry_in`
+/// (Exists, TooLarge). Faster if the path is in the directory of the last start line.
 pub(crate) fn add_entry(
     alloc: Global,
     state: &mut LinesSoFar,

@@ -1,5 +1,5 @@
-//! The state after the lines so far of a trace, and what an operation changes in it. An error means
-//! out of memory; then the whole trace is given up, so no clause says what is left of the state.
+//! The state after the lines of a trace that were read so far, and what an operation changes in it.
+//! An error means out of memory; then the state is dropped, so no clause says what is left of it.
 //! What the header and the start lines change is in `start`.
 ghost use Rattle.std.specs.Prelude.{◌≡◌, ◌<◌, ◌≤◌, ◌+◌, ◌^◌, OnOk, length, slice_set};
 ghost use Rattle.cs_names.specs.declared.limits.TheConstants.{TREE_RECORDS};
@@ -19,7 +19,7 @@ use cs_start::{Rights, Shared, StartMap};
 use cs_trace_lines::Version;
 use std::alloc::{AllocError, Global};
 
-/// The state after the lines so far.
+/// The state after the lines that were read so far. Files here are symbolic links, too.
 #[derive(Drop)]
 pub(crate) struct LinesSoFar {
     /// The version of the header; the first version until there is a header.
@@ -28,26 +28,31 @@ pub(crate) struct LinesSoFar {
     pub(crate) start: StartMap,
     /// How many files and symbolic links there are at the start. Their paths are only in `start`.
     pub(crate) file_count: usize,
-    /// The further paths of files at the start, each with the file's number.
+    /// The further paths of files at the start, in the order of their lines, each with the file's
+    /// number.
     pub(crate) links: Vec<(Path, u32)>,
     /// What each entry holds now.
     pub(crate) tree: Tree,
-    /// The size of each file, by its number; of a symbolic link, of its target.
+    /// The size of each file in bytes, by its number, also if it was removed; of a symbolic link,
+    /// of its target.
     pub(crate) sizes: Vec<u64>,
-    /// The entries at which directories were made.
+    /// The entries at which directories were made, by the directories' numbers.
     pub(crate) homes: Homes,
-    /// How many records were ever made, with those that were removed.
+    /// How many records were ever made, the root's and removed ones too; 0 before the header. At
+    /// most TREE_RECORDS.
     pub(crate) made: usize,
-    /// The rights of the last line that has some, which the next such line may share.
+    /// The rights of the last line that has rights; the next such line shares them if they are
+    /// equal. Only to save memory.
     pub(crate) last_rights: Option<Shared<Rights>>,
-    /// Owner, group and permissions of each file and directory, if the version has chmod and chown.
+    /// Owner, group and permissions of each file and directory now. Empty in version 1, which has
+    /// no chmod and chown.
     pub(crate) attributes: Attributes,
     /// The operations, in the order of their lines.
     pub(crate) operations: Vec<Operation>,
 }
 
-/// The size of a file that had `size` bytes, after a write of these bytes at the offset. A write of
-/// no byte leaves the size as it is, at any offset.
+/// The size of a file that had `size` bytes, after a write of these bytes at the offset. A write
+/// never makes a file shorter, and a write of no byte leaves the size as it is at any offset.
 fn written_size(size: u64, offset: u64, bytes: &Bytes) -> u64
     requires { 0 < length bytes.now → offset + length bytes.now < 2 ^ 64 }
     ensures { result ≡ written_size size offset bytes.now }
@@ -59,8 +64,9 @@ fn written_size(size: u64, offset: u64, bytes: &Bytes) -> u64
     size.max(offset + count)
 }
 
-/// Sets the size of the file of that number. If there is no such file, nothing changes; operations
-/// that were checked name only files that there are.
+/// Sets the size of the file with this number. If there is no such file, nothing changes; an
+/// operation that was checked never names one. (`set_rights` of `attributes` does the same to
+/// rights.)
 fn set_size(sizes: &mut [u64], file: u32, size: u64)
     ensures { sizes.new ≡ slice_set sizes.old file size }
 {
@@ -98,7 +104,8 @@ fn change_sizes(sizes: &mut Vec<u64>, operation: &Operation) -> Result<(), Alloc
     Ok(())
 }
 
-/// Applies the operation to the attributes, if the version has them (`Attributes::change`).
+/// Applies the operation to the attributes (`Attributes::change`); in version 1, which keeps none,
+/// nothing changes. `last` are the rights that a line may share, as in `LinesSoFar::last_rights`.
 fn change_attributes(
     alloc: Global,
     version: Version,
@@ -119,8 +126,9 @@ fn change_attributes(
     }
 }
 
-/// How many records the operation makes: 1 for a creat, a mkdir, a symlink and a link; in the
-/// fourth version also for a rename into another directory; and 0 for the others.
+/// How many records the operation counts for, of the TREE_RECORDS that a trace may make: 1 for a
+/// creat, a mkdir, a symlink and a link; in version 4 also for a rename into another directory,
+/// which may reach the disk as a link and an unlink; and 0 for the others.
 fn made_by(version: Version, operation: &Operation) -> usize
     ensures value { result ≡ made_by version operation.now }
     ensures one { result ≤ 1 }
@@ -166,8 +174,9 @@ impl LinesSoFar {
         }
     }
 
-    /// Applies the operation, which was checked in this state, to each part of the state (to the
-    /// attributes if the version has them, as in `put_entry`), and appends it to the operations.
+    /// Applies the operation, which `resolve` returned for this state, to each part of the state,
+    /// and appends it to the operations. If memory runs out, parts may be changed: the caller drops
+    /// the state.
     pub(crate) fn apply(&mut self, alloc: Global, operation: Operation) -> Result<(), AllocError>
         requires within { IsWithin operation }
         requires few { self.old.made ≤ TREE_RECORDS }

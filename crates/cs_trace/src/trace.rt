@@ -32,15 +32,23 @@ use std::alloc::{AllocError, Global};
 use std::marker::Model;
 
 /// A trace that was read whole. Contracts see its start tree and its operations, each of which is
-/// legal in what the ones before it leave.
+/// legal in what the ones before it leave. It never changes.
 #[derive(Drop)]
 pub struct Trace {
+    /// The records of the start tree, in the order of their paths.
     records: Start,
+    /// What each record is, in the same order: a directory, a file or a symbolic link by its
+    /// number.
     nodes: Vec<Node>,
-    /// The place of the record of the path that each file was made at.
+    /// For each file and symbolic link at the start, by its number, the place of the record of the
+    /// path that it was made at.
     places: Vec<usize>,
+    /// The further paths of the start's files, in the order of their lines, each with the file's
+    /// number.
     links: Vec<(Path, u32)>,
+    /// The operations, in the order of their lines.
     operations: Vec<Operation>,
+    /// The version of the header, with its profile and the size of its blocks.
     version: Version,
 }
 
@@ -70,8 +78,8 @@ impl Model for Trace {
 }
 
 impl Trace {
-    /// The start tree: its records with their paths, in the order of the paths, each numbered by
-    /// its place there, from 0.
+    /// The start tree: its records with their paths, in the order of the paths, the root's first.
+    /// Each is numbered by its place there, from 0.
     pub fn records(&self) -> &Start
         ensures value { result.now ≡ self.now.records }
         ensures listing { IsListing self.now.records }
@@ -93,7 +101,8 @@ impl Trace {
         &self.nodes
     }
 
-    /// How many files and symbolic links there are at the start.
+    /// How many files and symbolic links there are at the start. Their numbers are those from 0 on,
+    /// in the order of their lines. A file with several paths counts once.
     pub fn file_count(&self) -> usize
         ensures value { result ≡ length self.now.files }
         ensures numbered { (n : ℕ) (p : List (List ℕ)) → slice_get self.now.files n ≡ Some p
@@ -105,9 +114,9 @@ impl Trace {
         self.places.len()
     }
 
-    /// The place of the path that the start's file of this number was made at; None if the start
-    /// has no such file. A file with further paths (`links`) has a record at each; these records
-    /// differ only in their numbers.
+    /// The place, among `records`, of the path that the start's file or symbolic link of this
+    /// number was made at; None if the start has no such file. A file with further paths (`links`)
+    /// has a record at each; these records differ only in their paths and numbers.
     pub fn file_place(&self, file: usize) -> Option<usize>
         ensures value { option_map (path_at self.now.records) result
             ≡ slice_get self.now.files file }
@@ -126,7 +135,8 @@ impl Trace {
         &self.links
     }
 
-    /// The operations, in the order of their lines.
+    /// The operations, in the order of their lines. Callers that need the laws in this contract
+    /// call it by `know`.
     pub fn operations(&self) -> &[Operation]
         ensures value { result.now ≡ self.now.operations }
         ensures nested { AreNested (start_paths self.now) }
@@ -137,7 +147,8 @@ impl Trace {
         &self.operations
     }
 
-    /// The version, which says what the file system of the trace keeps in order.
+    /// The version of the trace, with its profile (what the file system keeps in order) and the
+    /// size of its blocks.
     pub fn version(&self) -> Version
         ensures value { result ≡ self.now.version }
     {
@@ -146,7 +157,7 @@ impl Trace {
 }
 
 /// Makes the trace of the state after the last line. The caller has checked that there was a
-/// header.
+/// header. If memory runs out for the lists of the start, nothing is left.
 fn trace_of_state(alloc: Global, state: LinesSoFar) -> Result<Trace, AllocError>
     requires { IsTrace (trace_of_state (state_of state)) }
     ensures { IfOk result (λ trace. trace ≡ trace_of_state (state_of state)) }
@@ -165,8 +176,8 @@ fn trace_of_state(alloc: Global, state: LinesSoFar) -> Result<Trace, AllocError>
 /// The trace that a text spells, or the fault of its first line that has one.
 ///
 /// Lines end at line feeds and are counted from 1; lines of only JSON's blanks are skipped. The
-/// first is the header, which gives the root; start lines follow, each of which gives a file or a
-/// directory; and then operations:
+/// first other line is the header, which gives the root; start lines follow, each of which gives a
+/// file or a directory, after the line of its parent; and then operations:
 ///
 /// ```text
 /// {"trace":1,"owner":O,"group":G,"mode":M}
@@ -184,8 +195,8 @@ fn trace_of_state(alloc: Global, state: LinesSoFar) -> Result<Trace, AllocError>
 /// {"op":"say","text":T}
 /// ```
 ///
-/// Version 2 has another header, where F is `blocks` or `ordered`, and two operations more; the
-/// first leaves owner and group as they are, and the second the mode:
+/// Version 2 has another header, in which F is `blocks` or `ordered`, and two more operations; a
+/// chmod leaves owner and group as they are, and a chown the mode:
 ///
 /// ```text
 /// {"trace":2,"profile":F,"owner":O,"group":G,"mode":M}
@@ -193,9 +204,9 @@ fn trace_of_state(alloc: Global, state: LinesSoFar) -> Result<Trace, AllocError>
 /// {"op":"chown","path":P,"owner":O,"group":G}
 /// ```
 ///
-/// Version 3 has the lines of version 2, and three more. B is 512, 1024, 2048 or 4096; a start line
-/// of a file and a write may have `"text":T` in place of `bytes`, whose bytes are those of T in
-/// UTF-8; and any line may have a `"note":T`, which is ignored:
+/// Version 3 has the lines of version 2, another header, and three more lines. B is 512, 1024, 2048
+/// or 4096; a start line of a file and a write may have `"text":T` in place of `bytes`, whose bytes
+/// are those of T in UTF-8; and any line may have a `"note":T`, which is ignored:
 ///
 /// ```text
 /// {"trace":3,"profile":F,"block":B,"owner":O,"group":G,"mode":M}
@@ -210,7 +221,8 @@ fn trace_of_state(alloc: Global, state: LinesSoFar) -> Result<Trace, AllocError>
 ///
 /// Version 4 has the lines of version 3, with directories that may be renamed, files of up to 1
 /// GiB, and `journal` as a third F. A start line of a file may have `"length":N` and a list of
-/// parts in place of `bytes`; a byte that no part has is zero:
+/// parts in place of `bytes`. A part has `text` or `bytes`; parts ascend, aren't empty, don't
+/// overlap, and end at the length at the latest. A byte that no part has is zero:
 ///
 /// ```text
 /// {"trace":4,"profile":F,"block":B,"owner":O,"group":G,"mode":M}
@@ -220,11 +232,12 @@ fn trace_of_state(alloc: Global, state: LinesSoFar) -> Result<Trace, AllocError>
 /// {"op":"fdatasync","path":P}
 /// ```
 ///
-/// A symbolic link has 1 to 4,095 bytes without NUL, and all permissions. Nothing is looked up
-/// through it. A renamed directory isn't moved below itself, and replaces an empty one.
+/// The target of a symbolic link has 1 to 4,095 bytes without NUL, and its permissions are 777.
+/// Nothing is looked up through it. A directory may be renamed onto itself, which does nothing, or
+/// over an empty directory, but not below itself.
 ///
-/// The keys may be in any order, with no others. P has a name after each `/`, and is `/` for an
-/// fsync, a chmod and a chown only; O and G are the names of a user and a group; M is three octal
+/// The keys may be in any order, with no others. P has a name after each `/`, and may be `/` only
+/// for an fsync, a chmod and a chown; O and G are the names of a user and a group; M is three octal
 /// digits, H is hexadecimal, N a whole number below 2^64, and T any text. A text without a header
 /// is Syntax at line 1. Each line is checked in the state after the lines before it.
 ///

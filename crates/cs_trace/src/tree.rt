@@ -1,4 +1,5 @@
-//! The tree that the lines of a trace make: what each entry of each directory holds now.
+//! The tree after the lines of a trace so far: what each entry of each directory holds now. An
+//! error means out of memory; then the caller drops the tree.
 ghost use Rattle.std.specs.Prelude.{◌≡◌, ◌∷◌, ◌++◌, [], IfOk, IfSome, OnOk, Some};
 ghost use Rattle.std.specs.FinMap as map;
 ghost use Rattle.cs_entries.specs.DirEntries.{entry_of};
@@ -14,16 +15,20 @@ use cs_start::{LastDirectory, PathText};
 use std::alloc::{AllocError, Global};
 use std::marker::Model;
 
-/// The directory of the last start line, with its number.
+/// The directory above the path of a start line, with its number.
 #[derive(Drop)]
 pub(crate) struct Above {
+    /// Its path, and the text that spells it if that is known.
     pub(crate) directory: LastDirectory,
+    /// Its number.
     pub(crate) number: u32,
 }
 
-/// What each entry holds. Contracts see a finite map of entries.
+/// What each entry holds. Contracts see a finite map from entries to nodes; the directory that is
+/// remembered isn't part of it.
 #[derive(Drop)]
 pub(crate) struct Tree {
+    /// What each name of each directory holds, by the directory's number.
     directories: Directories,
     /// The directory of the last start line, which is in the tree: most often the next line's, too.
     /// Each change of the tree sets it to None; a start line then sets it again.
@@ -59,14 +64,16 @@ impl Tree {
         }
     }
 
-    /// What the names lead to from the root; None if nothing is there. It takes no memory.
+    /// What the names lead to from the root, without following symbolic links; the root itself for
+    /// no names. None if nothing is there. It takes no memory.
     pub(crate) fn at(&self, names: Names<'_>) -> Option<Node>
         ensures { result ≡ at_path (held_in self.now) names.entry }
     {
         self.directories.at(names)
     }
 
-    /// Whether the directory of the number has an entry. It takes no memory.
+    /// Whether the directory with this number has an entry that holds something. False if there is
+    /// no such directory. It takes no memory.
     pub(crate) fn has_entries(&self, directory: u32) -> bool
         ensures { result ≡ has_entries self.now directory }
     {
@@ -132,8 +139,8 @@ impl Tree {
         self.last_directory = Some(above);
     }
 
-    /// Puts the node under the name in the directory of the number, and returns what the entry
-    /// held. After an error, the trace is given up.
+    /// Puts the node under the name in the directory with this number, and returns what the entry
+    /// held before; None if nothing. The remembered directory is forgotten.
     pub(crate) fn put_named(
         &mut self,
         alloc: Global,
@@ -151,8 +158,8 @@ impl Tree {
         self.directories.insert(alloc, directory, key, node)
     }
 
-    /// Puts the node at the entry, and returns what the entry held. After an error, the trace is
-    /// given up.
+    /// Puts the node at the entry, and returns what the entry held before; None if nothing. The
+    /// remembered directory is forgotten.
     pub(crate) fn put(
         &mut self,
         alloc: Global,
@@ -165,7 +172,8 @@ impl Tree {
         self.put_named(alloc, entry.directory, entry.name(), node)
     }
 
-    /// Takes away what the entry holds, and returns it. It takes no memory.
+    /// Takes away what the entry holds, and returns it; None if it held nothing. The remembered
+    /// directory is forgotten. It takes no memory.
     pub(crate) fn take(&mut self, entry: &DirEntry) -> Option<Node>
         ensures before { result ≡ map.get self.old (entry_of entry.now) }
         ensures state { self.new ≡ map.remove self.old (entry_of entry.now) }

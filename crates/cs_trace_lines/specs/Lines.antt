@@ -66,7 +66,7 @@ pub data OperationLine : Type 0 where
 
 -- a line; one with an unknown word has nothing more
 pub data Line : Type 0 where
-  -- the version, and who has the root
+  -- the version, and the root's owner, group and permissions
   Header : Version → Claims → Line
   Start : StartLine → Line
   -- one more path of a file at the start, and a path that it has
@@ -161,7 +161,7 @@ parts_by version Other = None
 abbrev pub parts_in : Version → Option Field → Option (List Part)
 parts_in version parts = option_and_then (parts_by version) parts
 
--- the bytes of a file of so many bytes, if its parts are one behind the other
+-- the bytes of a file with `count` bytes, if its parts ascend, don't overlap and are in the file
 abbrev pub laid_out_if : ℕ → List Part → Option (List ℕ)
 laid_out_if count parts = if are_apart 0 count parts then Some (laid_out count parts) else None
 

@@ -41,7 +41,7 @@ field_values f = record {
 abbrev pub replaced_if : Bool → Field → Option Field → Option Field
 replaced_if is field old = if is then Some field else old
 
--- the fields with this one under its key, in place of one before it
+-- the fields with this one under its key, in place of an earlier one
 abbrev pub with_field : List ℕ → Field → Fields → Fields
 with_field key field f = record {
   trace = replaced_if (is_key key (codes "trace")) field f.trace;

@@ -36,7 +36,7 @@ whole_number_of (Number n) = as_u64 n
 whole_number_of (Array ds) = None
 whole_number_of Other = None
 
--- the same of a field that is in the line
+-- the whole number in a field; None if it has another value, or isn't there
 abbrev pub whole_number_in : Option Field → Option ℕ
 whole_number_in field = option_and_then whole_number_of field
 

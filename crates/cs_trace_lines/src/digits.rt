@@ -1,4 +1,4 @@
-//! Decodes hexadecimal digits in their own memory.
+//! Decodes hexadecimal digits in their own memory, so that it takes no other.
 ghost use Rattle.std.specs.Prelude.{◌≡◌, IfErr};
 ghost use Rattle.std.specs.Result.{result_ok};
 ghost use Rattle.hex.specs.Hex.{decode_of};
@@ -7,12 +7,13 @@ ghost use Rattle.cs_trace_lines.specs.declared.fault.LineFault.TheVariants.{Synt
 
 use crate::fault::LineFault;
 
-/// How many bytes are decoded at a time. A larger buffer makes short texts slower, and long ones no
-/// faster.
+/// How many bytes are decoded at a time. A larger buffer makes short texts slower to decode, and
+/// long ones no faster.
 const PART: usize = 512;
 
 /// The bytes that hexadecimal digits spell, in upper or lower case; an empty text spells none. Any
-/// other text, such as an odd number of digits, is Syntax. The digits' memory is used again.
+/// other text, such as an odd number of digits, is Syntax. The bytes are in the memory of the
+/// digits; Memory is never the fault.
 pub(crate) fn decode(mut digits: Vec<u8>) -> Result<Vec<u8>, LineFault>
     ensures read { IsRead (λ bytes. bytes.items) (result_ok (decode_of digits.items)) result }
     ensures fault { IfErr result (λ fault. fault ≡ Syntax) }

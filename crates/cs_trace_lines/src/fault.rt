@@ -3,8 +3,8 @@
 /// Why a line can't be read.
 #[derive(Clone, Copy, Debug, PartialEq, Eq)]
 pub enum LineFault {
-    /// It is no line of a trace of its version.
+    /// The text is no line of a trace of the version.
     Syntax,
-    /// Out of memory.
+    /// Memory ran out. Whether the text is a line isn't known then.
     Memory,
 }

@@ -1,5 +1,5 @@
-//! The object of a line: the value of each key of the format, not yet read further. What the values
-//! mean is in `values`.
+//! The JSON object of a line, or of a part of a file: the value of each key of the format, not yet
+//! read further. What the values mean is in `values`.
 ghost use Rattle.std.specs.Prelude.{◌≡◌};
 ghost use Rattle.serde_json.specs.Data.{no_members};
 ghost use Rattle.serde_json.specs.Find.{as_object};
@@ -14,37 +14,59 @@ use serde_json::{Map, Number, Value};
 /// The value of one key.
 #[derive(Drop)]
 pub(crate) enum Field {
+    /// A text, without its quotes and with its escapes read.
     Text(String),
+    /// A number, whole or not.
     Number(Number),
+    /// A list.
     Array(Vec<Value>),
-    /// A value that no key of the format has, such as an object.
+    /// A value that no key of the format has: null, true, false or an object.
     Other,
 }
 
-/// The value of each key of the format; None for a key that the line doesn't have. `Fields::new`,
-/// `put` and `has_keys` list the same keys.
+/// The value of each key of the format; None for a key that the object doesn't have. `Fields::new`,
+/// `put` and `has_keys` list the same keys: change them together.
 #[derive(Drop)]
 pub(crate) struct Fields {
+    /// Of a header: the version.
     pub(crate) trace: Option<Field>,
+    /// Of a header: the name of the profile.
     pub(crate) profile: Option<Field>,
+    /// Of a header: the size of a block in bytes.
     pub(crate) block: Option<Field>,
+    /// Of a start line: its kind.
     pub(crate) start: Option<Field>,
+    /// Of an operation: its name.
     pub(crate) op: Option<Field>,
+    /// The path of a line.
     pub(crate) path: Option<Field>,
+    /// Of a rename or a link: the path that is there already.
     pub(crate) from: Option<Field>,
+    /// Of a rename or a link: the new path.
     pub(crate) to: Option<Field>,
+    /// The name of the owner.
     pub(crate) owner: Option<Field>,
+    /// The name of the group.
     pub(crate) group: Option<Field>,
+    /// The permissions, three octal digits.
     pub(crate) mode: Option<Field>,
+    /// Of a file, a part or a write: the bytes, in hexadecimal.
     pub(crate) bytes: Option<Field>,
+    /// Of a write or an fsync_range: the offset in the file.
     pub(crate) offset: Option<Field>,
+    /// Of a file in parts, a truncate or an fsync_range: a number of bytes.
     pub(crate) length: Option<Field>,
+    /// Of a say, the text; of a file, a part or a write, the bytes as a text.
     pub(crate) text: Option<Field>,
+    /// Of a symbolic link: its target.
     pub(crate) target: Option<Field>,
+    /// Of a file: the list of its parts.
     pub(crate) parts: Option<Field>,
+    /// Of a part: its offset in the file.
     pub(crate) at: Option<Field>,
+    /// A note, which has no effect.
     pub(crate) note: Option<Field>,
-    /// Whether the line has a key that the format doesn't have.
+    /// Whether the object has a key that isn't one of the above.
     pub(crate) has_others: bool,
 }
 
@@ -101,8 +123,8 @@ impl Fields {
         }
     }
 
-    /// Sets the field of a key, and drops what it had before. A key that the format doesn't have
-    /// only sets `has_others`. `has_keys` lists the same keys.
+    /// Sets the field of a key, in place of an earlier one. A key that the format doesn't have only
+    /// sets `has_others`.
     fn put(&mut self, key: &str, field: Field)
         ensures { field_values self.new
             ≡ with_field key.now (field_value field) (field_values self.old) }
@@ -131,8 +153,8 @@ impl Fields {
         }
     }
 
-    /// Puts the members of a JSON object into the fields, which are those of an object without keys
-    /// before. The fields are large, so they are filled where they are.
+    /// Puts the members of a JSON object into the fields, which must be as `Fields::new` makes
+    /// them. (They are filled in place, because they are large.)
     pub(crate) fn put_members(&mut self, members: Map<String, Value>)
         requires { field_values self.old ≡ fields_of no_members }
         ensures { field_values self.new ≡ fields_of (members_view members.entries) }
@@ -143,7 +165,7 @@ impl Fields {
     }
 
     /// Whether the object has exactly `count` keys of the format, `note` not counted, and no other
-    /// keys. The keys are those of `put` without `note`.
+    /// keys. Which ones isn't looked at.
     pub(crate) fn has_keys(&self, count: usize) -> bool
         ensures { result ≡ has_keys count (field_values self.now) }
     {

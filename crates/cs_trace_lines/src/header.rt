@@ -1,5 +1,5 @@
-//! Reads the header of a trace from its fields. After a fault, the line is given up; some texts may
-//! be moved out of the fields then.
+//! Reads the header of a trace from its fields. After a fault, some texts may be moved out of the
+//! fields; the caller drops them.
 ghost use Rattle.std.specs.Prelude.{◌≡◌, option_map};
 ghost use Rattle.cs_trace_lines.specs.Faults.{IsRead};
 ghost use Rattle.cs_trace_lines.specs.Lines.{block_size_in, early_profile_in, header_in};
@@ -15,7 +15,7 @@ use crate::profile::Profile;
 use crate::values::{has_only, take_claims, text_of, whole_number_in};
 use crate::version::{BlockSize, Version};
 
-/// The profile of this name: `blocks`, `ordered` or `journal`. None for any other name.
+/// The profile with this name: `blocks`, `ordered` or `journal`. None for any other name.
 fn profile_named(name: &str) -> Option<Profile>
     ensures { result ≡ profile_named name.now }
 {
@@ -27,23 +27,23 @@ fn profile_named(name: &str) -> Option<Profile>
     }
 }
 
-/// The profile that the field of `profile` names. An unknown name, another value or no value is
-/// Syntax.
+/// The profile that the field `profile` names. An unknown name, a value that isn't a text, or no
+/// value is Syntax.
 fn profile_in(profile: &Option<Field>) -> Result<Profile, LineFault>
     ensures { IsRead (λ profile. profile) (profile_in (option_map field_value profile.now)) result }
 {
     profile_named(text_of(profile)?).ok_or(LineFault::Syntax)
 }
 
-/// Whether versions before the fourth have the profile, too.
+/// Whether versions 2 and 3 have the profile: all but `journal`.
 fn is_early(profile: Profile) -> bool
     ensures { result ≡ is_early profile }
 {
     !matches!(profile, Profile::Journal)
 }
 
-/// The profile that the field of `profile` names in a version before the fourth: `journal` is
-/// Syntax, too.
+/// The profile that the field `profile` names in version 2 or 3. The faults are those of
+/// `profile_in`; `journal` is Syntax, too.
 fn early_profile_in(profile: &Option<Field>) -> Result<Profile, LineFault>
     ensures { IsRead (λ profile. profile)
         (early_profile_in (option_map field_value profile.now)) result }
@@ -55,8 +55,8 @@ fn early_profile_in(profile: &Option<Field>) -> Result<Profile, LineFault>
     Ok(profile)
 }
 
-/// The block size whose number of bytes is in the field of `block`. Any other number, another value
-/// or no value is Syntax.
+/// The block size whose number of bytes is in the field `block`: 512, 1024, 2048 or 4096. Any other
+/// number, a value that isn't a number, or no value is Syntax.
 fn block_size_in(block: &Option<Field>) -> Result<BlockSize, LineFault>
     ensures { IsRead (λ block. block) (block_size_in (option_map field_value block.now)) result }
 {
@@ -64,8 +64,8 @@ fn block_size_in(block: &Option<Field>) -> Result<BlockSize, LineFault>
 }
 
 /// The version that a header declares: 1, 2 with a profile, or 3 or 4 with a profile and a block
-/// size. Another number, or a field that is missing or has another value, is Syntax.
-/// `header_key_count` counts the fields that are read here.
+/// size. Another number, or a field that is missing or has a wrong value, is Syntax. Fields that
+/// the version doesn't have aren't looked at: `header_key_count` and `has_only` refuse them.
 fn version_in(fields: &Fields) -> Result<Version, LineFault>
     ensures { IsRead (λ version. version) (version_in (field_values fields.now)) result }
 {
@@ -82,7 +82,7 @@ fn version_in(fields: &Fields) -> Result<Version, LineFault>
 }
 
 /// How many keys a header of this version has, `note` not counted: `trace`, `owner`, `group` and
-/// `mode`; from the second version on `profile`, and from the third `block`. `version_in` and
+/// `mode`; from version 2 on `profile`, and from version 3 on `block`. `version_in` and
 /// `take_claims` read them.
 fn header_key_count(version: Version) -> usize
     ensures { result ≡ header_key_count version }
@@ -94,8 +94,8 @@ fn header_key_count(version: Version) -> usize
     }
 }
 
-/// The header that these fields make; its texts are moved out of them. A key too many or too few,
-/// or a value that its key can't have, is Syntax.
+/// The header that these fields make, with its texts moved out of them. A key too many or too few,
+/// or a value that its key can't have, is Syntax. Its owner and group aren't checked to be names.
 pub(crate) fn header_in(fields: &mut Fields) -> Result<Line, LineFault>
     ensures { IsRead line_value (header_in (field_values fields.old)) result }
 {

@@ -1,5 +1,6 @@
-//! Reads one line of a trace by itself. Whether its names are legal, and whether it fits the lines
-//! before it, is checked in cs_trace.
+//! Reads one line of a trace by itself: its JSON, its keys and the form of their values, as
+//! docs/reference/trace.md describes them. Whether its names are legal, and whether it fits the
+//! lines before it, is checked in cs_trace. After a fault nothing is left of the line.
 #![tactic(auto)]
 
 mod digits;

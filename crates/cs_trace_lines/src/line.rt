@@ -20,46 +20,53 @@ use crate::version::Version;
 use serde_json::{Map, Value};
 use std::alloc::Global;
 
-/// What a line says. Its texts are not yet checked to be names and paths.
+/// What a line says. Its paths, owners and groups are texts, which aren't checked yet.
 #[derive(Drop)]
 pub enum Line {
     /// The header: the version, and the root's owner, group and permissions.
     Header(Version, Claims),
     /// A file, a symbolic link or a directory at the start.
     Start(StartLine),
-    /// One more path, `path`, of the file at the start that `from` names.
+    /// One more path, `path`, of the file at the start that has the path `from`.
     StartLink { path: String, from: String },
-    /// An operation of a known name.
+    /// An operation of the trace's version.
     Operation(OperationLine),
-    /// A start line of no known kind.
+    /// A start line of a kind that the version doesn't have. Its other keys aren't looked at.
     UnknownStart,
-    /// An operation of no known name.
+    /// An operation that the version doesn't have. Its other keys aren't looked at.
     UnknownOperation,
 }
 
-/// Owner, group and permissions as a line has them.
+/// Owner, group and permissions as a line has them, before the two names are checked.
 #[derive(Drop)]
 pub struct Claims {
+    /// The name of the owner, as a text.
     pub owner: String,
+    /// The name of the group, as a text.
     pub group: String,
+    /// The nine bits of three octal digits.
     pub permissions: u16,
 }
 
-/// A file, a symbolic link or a directory at the start.
+/// The start line of a file, a symbolic link or a directory.
 #[derive(Drop)]
 pub struct StartLine {
+    /// Its path, as a text.
     pub path: String,
+    /// Its owner, group and permissions.
     pub claims: Claims,
+    /// What it is, with its bytes or target.
     pub content: StartContent,
 }
 
-/// What is in a file, or where a symbolic link leads. A directory begins empty.
+/// What a start line makes, with what is in it.
 #[derive(Drop)]
 pub enum StartContent {
+    /// A directory, which is empty at first.
     Directory,
-    /// Its bytes.
+    /// A file, with its bytes.
     File(SparseBytes),
-    /// Its target, of 1 to `TARGET_BYTES` bytes without NUL.
+    /// A symbolic link, with its target: 1 to `TARGET_BYTES` bytes without NUL.
     Symlink(String),
 }
 
@@ -72,66 +79,77 @@ pub enum Change {
     Owner { owner: String, group: String },
 }
 
-/// What the line of an operation says.
+/// What the line of an operation says. Paths are texts; offsets, lengths and sizes are in bytes.
 #[derive(Drop)]
 pub enum OperationLine {
+    /// A new file at the path.
     Creat {
         path: String,
         claims: Claims,
     },
+    /// A new directory at the path.
     Mkdir {
         path: String,
         claims: Claims,
     },
-    /// A symbolic link to `target`, whose permissions are all: its line has no mode.
+    /// A new symbolic link at the path, with this target. Its line has no mode: the permissions are
+    /// 777.
     Symlink {
         path: String,
         claims: Claims,
         target: String,
     },
+    /// The path of a file or a symbolic link is removed.
     Unlink {
         path: String,
     },
+    /// The directory at the path is removed.
     Rmdir {
         path: String,
     },
+    /// What is at `from` is moved to `to`.
     Rename {
         from: String,
         to: String,
     },
-    /// One more path, `to`, of the file at `from`.
+    /// One more path, `to`, of the file at `from` (a hard link).
     Link {
         from: String,
         to: String,
     },
+    /// The bytes are written into the file at the path, from the offset on.
     Write {
         path: String,
         offset: u64,
         bytes: Vec<u8>,
     },
-    /// The file gets `size` bytes; the line's key for them is `length`.
+    /// The file gets the size `size`, which is `length` in the line.
     Truncate {
         path: String,
         size: u64,
     },
+    /// A chmod or a chown of what is at the path.
     SetAttr {
         path: String,
         change: Change,
     },
+    /// A sync of the file or directory at the path.
     Fsync {
         path: String,
     },
-    /// A sync of a file's bytes and its size, without its owner, group and mode.
+    /// A sync of a file's bytes and its size, but not of its owner, group and mode.
     Fdatasync {
         path: String,
     },
-    /// A sync of `length` bytes from `offset` on.
+    /// A sync of `length` bytes of a file from `offset` on, and of its size.
     FsyncRange {
         path: String,
         offset: u64,
         length: u64,
     },
+    /// A sync of everything.
     Sync,
+    /// The application acknowledges the text to its users.
     Say {
         text: String,
     },
@@ -148,7 +166,7 @@ pub fn is_blank(line: &str) -> bool
 }
 
 /// The members of the JSON object that a line spells. A text that isn't JSON, or that spells a
-/// value of another kind, is Syntax; and Memory means that an allocation failed.
+/// value of another kind, is Syntax; Memory if an allocation fails.
 fn members_in(alloc: Global, text: &str) -> Result<Map<String, Value>, LineFault>
     ensures { IsRead (λ members. members_view members.entries)
         (option_and_then as_object (read text.now)) result }
@@ -164,9 +182,10 @@ fn members_in(alloc: Global, text: &str) -> Result<Map<String, Value>, LineFault
     }
 }
 
-/// The line that these fields make: a header if they have `trace`, a start line if `start`, an
-/// operation if `op`. None of these three keys, or more than one, is Syntax; the other faults are
-/// those of the reader of its kind. Texts are moved out of the fields, some perhaps before a fault.
+/// The line that these fields make: a header if they have `trace`, a start line if they have
+/// `start`, an operation if they have `op`. None of these keys, or more than one, is Syntax; the
+/// other faults are those of `header_in`, `start_line_in` and `operation_in`. Texts are moved out
+/// of the fields, also before a fault.
 fn line_of(alloc: Global, version: Version, fields: &mut Fields) -> Result<Line, LineFault>
     ensures { IsRead line_value (line_of version (field_values fields.old)) result }
 {
@@ -179,8 +198,8 @@ fn line_of(alloc: Global, version: Version, fields: &mut Fields) -> Result<Line,
 }
 
 /// The line that a text spells in a trace of this version; Syntax if it spells none, and Memory if
-/// an allocation fails. Its names and paths aren't checked. A header is read in the same way in
-/// each version.
+/// an allocation fails. Its paths, owner and group aren't checked. A header, which says its own
+/// version, is read in the same way whatever `version` is. Of two equal keys the last one counts.
 #[tactic(auto, unfolding(crate::specs::Lines::line_in))]
 pub fn read_line(alloc: Global, version: Version, text: &str) -> Result<Line, LineFault>
     ensures read { IfOk result (λ line. line_in version text.now ≡ Some (line_value line)) }

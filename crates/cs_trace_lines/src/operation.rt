@@ -1,7 +1,7 @@
 //! Reads the operations from the fields of their lines. Each function moves the texts that it needs
-//! out of the fields. A field that is missing or has another value is Syntax; the line is given up
-//! then, with some texts moved out. Only a write depends on the version once the verb is known, so
-//! the other contracts name the first version.
+//! out of the fields. A field that is missing or has a wrong value is Syntax; some texts may be
+//! moved out then, and the caller drops the fields. Only a write depends on the version once the
+//! verb is known, so the other contracts name version 1.
 ghost use Rattle.std.specs.Prelude.{◌≡◌};
 ghost use Rattle.cs_trace_lines.specs.Faults.{IsRead};
 ghost use Rattle.cs_trace_lines.specs.Lines.{operation_in, operation_of};
@@ -42,7 +42,8 @@ fn read_mkdir(fields: &mut Fields) -> Result<OperationLine, LineFault>
     })
 }
 
-/// Reads a symlink: the path, the owner, the group and the target of a new symbolic link.
+/// Reads a symlink: the path, the owner, the group and the target of a new symbolic link. Its line
+/// has no mode.
 fn read_symlink(fields: &mut Fields) -> Result<OperationLine, LineFault>
     ensures { IsRead operation_value
         (operation_of First verb.Symlink (field_values fields.old)) result }
@@ -54,7 +55,7 @@ fn read_symlink(fields: &mut Fields) -> Result<OperationLine, LineFault>
     })
 }
 
-/// Reads an unlink: a path of a file or a symbolic link.
+/// Reads an unlink: the path that is removed.
 fn read_unlink(fields: &mut Fields) -> Result<OperationLine, LineFault>
     ensures { IsRead operation_value
         (operation_of First verb.Unlink (field_values fields.old)) result }
@@ -96,8 +97,8 @@ fn read_link(fields: &mut Fields) -> Result<OperationLine, LineFault>
     })
 }
 
-/// Reads a write: the path, the offset, and the bytes under the key `bytes` or, from the third
-/// version on, `text`.
+/// Reads a write: the path, the offset, and the bytes under the key `bytes` or, from version 3 on,
+/// `text`.
 fn read_write(version: Version, fields: &mut Fields) -> Result<OperationLine, LineFault>
     ensures { IsRead operation_value
         (operation_of version verb.Write (field_values fields.old)) result }
@@ -109,7 +110,7 @@ fn read_write(version: Version, fields: &mut Fields) -> Result<OperationLine, Li
     })
 }
 
-/// Reads a truncate: the path and the file's new size, whose key is `length`.
+/// Reads a truncate: the path and the file's new size in bytes, under the key `length`.
 fn read_truncate(fields: &mut Fields) -> Result<OperationLine, LineFault>
     ensures { IsRead operation_value
         (operation_of First verb.Truncate (field_values fields.old)) result }
@@ -187,9 +188,9 @@ fn read_say(fields: &mut Fields) -> Result<OperationLine, LineFault>
     })
 }
 
-/// Reads the operation of this verb. A field that is missing or has another value is Syntax. The
+/// Reads the operation of this verb. A field that is missing or has a wrong value is Syntax. The
 /// caller has checked that there are no other keys. `Verb::key_count` counts the keys that are read
-/// here, and `op`.
+/// here, and `op`: change both together.
 fn operation_of(
     version: Version,
     verb: Verb,
@@ -217,9 +218,9 @@ fn operation_of(
     }
 }
 
-/// The operation that these fields make. If the version has no operation of the name under `op`, it
-/// is UnknownOperation, whatever the other keys are. A key too many or too few, or a value that its
-/// key can't have, is Syntax.
+/// The operation that these fields make. If the version has no operation with the name under `op`,
+/// it is UnknownOperation, whatever the other keys are. An `op` that isn't a text, a key too many
+/// or too few, or a value that its key can't have, is Syntax.
 pub(crate) fn operation_in(version: Version, fields: &mut Fields) -> Result<Line, LineFault>
     ensures { IsRead line_value (operation_in version (field_values fields.old)) result }
 {

@@ -1,4 +1,5 @@
-//! Reads a file of which the line gives some parts.
+//! Reads the bytes of a file at the start whose line gives its length and some parts, in version 4.
+//! After a fault, the caller drops the fields, of which some may be moved out.
 ghost use Rattle.std.specs.Prelude.{◌≡◌, map, option_map};
 ghost use Rattle.serde_json.specs.View.{items_view, view};
 ghost use Rattle.cs_trace_lines.specs.Faults.{IsRead};
@@ -15,7 +16,7 @@ use serde_json::Value;
 use std::alloc::Global;
 
 /// The part that these fields make: an offset under `at`, and bytes under `bytes` or `text`. A key
-/// too many or too few, or a value that its key can't have, is Syntax.
+/// too many (also a `note`) or too few, or a value that its key can't have, is Syntax.
 fn part_of(version: Version, fields: &mut Fields) -> Result<Part, LineFault>
     ensures { IsRead part_value (part_of version (field_values fields.old)) result }
 {
@@ -28,7 +29,8 @@ fn part_of(version: Version, fields: &mut Fields) -> Result<Part, LineFault>
     })
 }
 
-/// The part that a value is. One that isn't an object is Syntax.
+/// The part that an item of the list is. A value that isn't an object is Syntax; the other faults
+/// are those of `part_of`.
 fn part_in(version: Version, value: Value) -> Result<Part, LineFault>
     ensures { IsRead part_value (part_in version (view value)) result }
 {
@@ -38,7 +40,8 @@ fn part_in(version: Version, value: Value) -> Result<Part, LineFault>
     part_of(version, &mut fields)
 }
 
-/// The parts that a list has, one after another. Whether they fit into the file isn't checked.
+/// The parts that the items of a list are, in their order. Whether they ascend and fit into the
+/// file isn't checked here.
 fn parts_of(alloc: Global, version: Version, values: Vec<Value>) -> Result<Vec<Part>, LineFault>
     ensures { IsRead (λ parts. map part_value parts.items)
         (parts_of version (items_view values.items)) result }
@@ -53,7 +56,8 @@ fn parts_of(alloc: Global, version: Version, values: Vec<Value>) -> Result<Vec<P
     Ok(parts)
 }
 
-/// Moves the parts out of a field. Another value or no value is Syntax.
+/// Moves the parts out of a field. A value that isn't a list, or no value, is Syntax; the other
+/// faults are those of `part_of`, or Memory.
 fn take_parts(
     alloc: Global,
     version: Version,
@@ -68,9 +72,10 @@ fn take_parts(
     }
 }
 
-/// The bytes of a file whose length and whose parts are in these fields. A part that isn't behind
-/// the one before it, has no byte or ends behind the end of the file is Syntax, as is a field that
-/// is missing or has another value. The length is no limit of memory.
+/// The bytes of a file whose length and whose parts are in these fields. A part that begins before
+/// the end of the one before it, has no byte, or ends after the end of the file is Syntax. So is a
+/// field that is missing or has a wrong value. Only the parts take memory, however large the length
+/// is.
 pub(crate) fn bytes_by_parts(
     alloc: Global,
     version: Version,

@@ -8,10 +8,13 @@ ghost use Rattle.std.specs.Prelude.{true};
 use std::alloc::{AllocError, Global};
 use std::marker::Model;
 
-/// Some bytes of a file, of which there is at least one, and where in it they begin.
+/// Some bytes of a file, one after another. `SparseBytes::of_parts` checks that there is at least
+/// one, and that they are in the file.
 #[derive(Drop)]
 pub struct Part {
+    /// The offset in the file at which they begin.
     pub at: u64,
+    /// The bytes.
     pub bytes: Vec<u8>,
 }
 
@@ -20,14 +23,15 @@ pub struct Part {
 pub(crate) enum Kept {
     /// All of them.
     Whole(Vec<u8>),
-    /// Those of some parts of a file of so many bytes, one part behind the other.
+    /// Those of some parts of a file with `length` bytes. The parts ascend and don't overlap.
     Parts { length: u64, parts: Vec<Part> },
 }
 
-/// The bytes of a file, which takes memory for its parts and none for what is between them.
-/// Contracts see all bytes.
+/// The bytes of a file. Only its parts take memory, not the zeros between them. Contracts see all
+/// bytes.
 #[derive(Drop)]
 pub struct SparseBytes {
+    /// The bytes, whole or in parts.
     kept: Kept,
 }
 
@@ -42,8 +46,8 @@ impl Model for SparseBytes {
     ghost invariant = { λ s. IsKept s.kept };
 }
 
-/// Whether the part has a byte, begins at `from` or behind it, and ends at the file's end,
-/// `length`, at the latest.
+/// Whether the part has a byte, begins at the offset `from` or after it, and ends at the file's
+/// end, `length`, or before it.
 fn lies_between(from: u64, length: u64, part: &Part) -> bool
     ensures { result ≡ lies_between from length (part_value part.now) }
 {
@@ -54,8 +58,8 @@ fn lies_between(from: u64, length: u64, part: &Part) -> bool
     count <= length - part.at
 }
 
-/// Whether each part has a byte, begins at `from` or behind it and behind the part before it, and
-/// ends at the file's end, `length`, at the latest.
+/// Whether each part has a byte and begins at the end of the part before it (the first at `from`)
+/// or after it, and the last ends at the file's end, `length`, or before it.
 fn are_apart(from: u64, length: u64, parts: &[Part]) -> bool
     ensures { result ≡ are_apart from length (map part_value parts.now) }
 {
@@ -69,7 +73,7 @@ fn are_apart(from: u64, length: u64, parts: &[Part]) -> bool
     true
 }
 
-/// Puts the bytes of a part in their place in the file.
+/// Puts the bytes of a part at their offset into the file, which must be long enough.
 fn put_part(file: &mut [u8], part: &Part)
     requires { end_of (part_value part.now) ≤ length file.old }
     ensures { file.new ≡ with_part file.old (part_value part.now) }
@@ -79,7 +83,7 @@ fn put_part(file: &mut [u8], part: &Part)
     file[at..end].copy_from_slice(&part.bytes);
 }
 
-/// All bytes of a file of so many bytes that has these parts.
+/// All bytes of a file with `length` bytes that has these parts; the others are zero.
 fn whole_bytes(alloc: Global, length: u64, parts: &[Part]) -> Result<Vec<u8>, AllocError>
     requires { are_apart 0 length (map part_value parts.now) ≡ true }
     ensures { IfOk result (λ file. file.items ≡ laid_out length (map part_value parts.now)) }
@@ -101,8 +105,8 @@ impl SparseBytes {
         }
     }
 
-    /// A file of so many bytes that has these parts. None if they aren't one behind the other, one
-    /// has no byte, or one ends behind the end of the file.
+    /// A file with `length` bytes that has these parts; its other bytes are zero. None if the parts
+    /// don't ascend or overlap, one has no byte, or one ends after the end of the file.
     pub fn of_parts(length: u64, parts: Vec<Part>) -> Option<SparseBytes>
         ensures { result ≡ laid_out_if length (map part_value parts.items) }
     {
@@ -114,7 +118,7 @@ impl SparseBytes {
         })
     }
 
-    /// How many bytes the file has.
+    /// How many bytes the file has, with those that are in no part.
     pub fn len(&self) -> u64
         ensures { result ≡ length self.now }
     {
@@ -124,7 +128,8 @@ impl SparseBytes {
         }
     }
 
-    /// All bytes of the file. Those that no part has take memory then.
+    /// All bytes of the file. Those that no part has take memory, too, from now on. If memory runs
+    /// out, the parts are dropped.
     pub fn into_bytes(self, alloc: Global) -> Result<Vec<u8>, AllocError>
         ensures { IfOk result (λ bytes. bytes.items ≡ self) }
     {

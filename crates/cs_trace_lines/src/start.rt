@@ -1,6 +1,6 @@
 //! Reads the start lines from their fields: what is there before the first operation. Each function
-//! moves the texts that it needs out of the fields. After a fault, the line is given up, with some
-//! texts moved out.
+//! moves the texts that it needs out of the fields. After a fault, some may be moved out; the
+//! caller drops the fields.
 ghost use Rattle.std.specs.Prelude.{◌≡◌, is_some, true};
 ghost use Rattle.cs_trace_lines.specs.Faults.{IsRead};
 ghost use Rattle.cs_trace_lines.specs.Lines.{kind_in, start_key_count};
@@ -25,14 +25,18 @@ use std::alloc::Global;
 /// What a start line adds, by the name under `start`.
 #[derive(Clone, Copy, Debug, PartialEq, Eq)]
 pub(crate) enum StartKind {
+    /// `dir`: a directory.
     Directory,
+    /// `file`: a regular file.
     File,
+    /// `link`: one more path of a regular file of the start (a hard link).
     Link,
+    /// `symlink`: a symbolic link.
     Symlink,
 }
 
 impl StartKind {
-    /// The kind of this name: `dir`, `file`, from the third version on `link`, and in the fourth
+    /// The kind with this name: `dir`, `file`, from version 3 on `link`, and in version 4
     /// `symlink`. None for any other name.
     fn of(version: Version, name: &str) -> Option<StartKind>
         ensures { result ≡ kind_in version name.now }
@@ -47,7 +51,8 @@ impl StartKind {
     }
 
     /// How many keys a start line of this kind has: `start` and those that `read_start` reads. A
-    /// `note` isn't counted. A file has one more if it is in parts.
+    /// `note` isn't counted. A file in parts has one more, since `length` and `parts` are in place
+    /// of `bytes`. `fields` are those of the line.
     fn key_count(self, fields: &Fields) -> usize
         ensures { result ≡ start_key_count (field_values fields.now) self }
     {
@@ -60,8 +65,8 @@ impl StartKind {
     }
 }
 
-/// Reads the start line of a directory or a file with this content. A path, an owner, a group or a
-/// mode that is missing or has another value is Syntax.
+/// Reads the path, the owner, the group and the mode of the start line of a directory, or of a file
+/// with this content. One that is missing or has a wrong value is Syntax.
 fn read_start_entry(fields: &mut Fields, content: StartContent) -> Result<Line, LineFault>
     ensures { IsRead line_value
         (start_with (claims_in (field_values fields.old)) (field_values fields.old).path
@@ -74,8 +79,8 @@ fn read_start_entry(fields: &mut Fields, content: StartContent) -> Result<Line, 
     }))
 }
 
-/// Reads the start line of a file in parts, which only the fourth version has. A field that is
-/// missing or has another value is Syntax.
+/// Reads the start line of a file in parts. Before version 4 it is Syntax. The other faults are
+/// those of `bytes_by_parts` and `read_start_entry`.
 fn read_start_parts(alloc: Global, version: Version, fields: &mut Fields) -> Result<Line, LineFault>
     requires { is_some (field_values fields.old).parts ≡ true }
     ensures { IsRead line_value (start_under version (field_values fields.old) File) result }
@@ -87,8 +92,8 @@ fn read_start_parts(alloc: Global, version: Version, fields: &mut Fields) -> Res
     read_start_entry(fields, StartContent::File(bytes))
 }
 
-/// Reads the start line of a file: in parts, or with its content under the key `bytes` or, from the
-/// third version on, `text`. A field that is missing or has another value is Syntax.
+/// Reads the start line of a file: in parts, or with its bytes under the key `bytes` or, from
+/// version 3 on, `text`. A field that is missing or has a wrong value is Syntax.
 fn read_start_file(alloc: Global, version: Version, fields: &mut Fields) -> Result<Line, LineFault>
     ensures { IsRead line_value (start_under version (field_values fields.old) File) result }
 {
@@ -99,8 +104,9 @@ fn read_start_file(alloc: Global, version: Version, fields: &mut Fields) -> Resu
     read_start_entry(fields, StartContent::File(SparseBytes::of_bytes(bytes)))
 }
 
-/// Reads the start line of a symbolic link. A field that is missing or has another value is Syntax.
-/// The contract names the first version, since its fields are read in the same way in all.
+/// Reads the start line of a symbolic link: the path, the owner, the group and the target; it has
+/// no mode. A field that is missing or has a wrong value is Syntax. The contract names version 1,
+/// since the fields are read in the same way in all versions.
 fn read_start_symlink(fields: &mut Fields) -> Result<Line, LineFault>
     ensures { IsRead line_value (start_under First (field_values fields.old) Symlink) result }
 {
@@ -112,9 +118,9 @@ fn read_start_symlink(fields: &mut Fields) -> Result<Line, LineFault>
     }))
 }
 
-/// Reads the start line of a link, which is one more path of the file at `from`. A field that is
-/// missing or isn't a text is Syntax. The contract names the first version, since a link's fields
-/// are read in the same way in all.
+/// Reads the start line of a hard link: its path, and another path of the file, `from`. A field
+/// that is missing or isn't a text is Syntax. The contract names version 1, since the fields are
+/// read in the same way in all versions.
 fn read_start_link(fields: &mut Fields) -> Result<Line, LineFault>
     ensures { IsRead line_value (start_under First (field_values fields.old) Link) result }
 {
@@ -124,9 +130,9 @@ fn read_start_link(fields: &mut Fields) -> Result<Line, LineFault>
     })
 }
 
-/// Reads the start line of this kind. A field that is missing or has another value is Syntax. The
+/// Reads the start line of this kind. A field that is missing or has a wrong value is Syntax. The
 /// caller has checked that there are no other keys. `StartKind::key_count` counts the keys that are
-/// read here, and `start`.
+/// read here, and `start`: change both together.
 fn read_start(
     alloc: Global,
     version: Version,
@@ -143,9 +149,9 @@ fn read_start(
     }
 }
 
-/// The start line that these fields make. If the version has no kind of the name under `start`, it
-/// is UnknownStart, whatever the other keys are. A key too many or too few, or a value that its key
-/// can't have, is Syntax.
+/// The start line that these fields make. If the version has no kind with the name under `start`,
+/// it is UnknownStart, whatever the other keys are. A `start` that isn't a text, a key too many or
+/// too few, or a value that its key can't have, is Syntax. Memory if an allocation for parts fails.
 pub(crate) fn start_line_in(
     alloc: Global,
     version: Version,

@@ -1,4 +1,5 @@
-//! Reads the values of a line's keys: texts, numbers, permissions and bytes.
+//! Reads the values of a line's keys: texts, numbers, permissions and bytes. A wrong value is one
+//! of another kind of JSON, or one that the key can't have.
 ghost use Rattle.std.specs.Prelude.{◌≡◌, None, option_map};
 ghost use Rattle.std.specs.String.{string_bytes};
 ghost use Rattle.cs_trace_lines.specs.Faults.{IsRead};
@@ -16,7 +17,7 @@ use crate::fields::{Field, Fields};
 use crate::line::Claims;
 use crate::version::Version;
 
-/// Bytes of a symbolic link's target, at most.
+/// The most bytes of a symbolic link's target: PATH_MAX of Linux, without the NUL at the end.
 pub const TARGET_BYTES: usize = 4_095;
 
 /// The text in a field, borrowed. A value that isn't a text, or no value, is Syntax.
@@ -40,8 +41,8 @@ pub(crate) fn take_text(field: &mut Option<Field>) -> Result<String, LineFault>
     }
 }
 
-/// The number of a field, if it is a whole number from 0 to 2^64 - 1. Another number, another value
-/// or no value is Syntax.
+/// The number of a field, if it is a whole number from 0 to 2^64 - 1, written without sign, point
+/// and exponent. Another number, a value that isn't a number, or no value is Syntax.
 pub(crate) fn whole_number_in(field: &Option<Field>) -> Result<u64, LineFault>
     ensures { IsRead (λ n. n) (whole_number_in (option_map field_value field.now)) result }
 {
@@ -58,7 +59,7 @@ fn is_octal(digit: u8) -> bool
     digit >= b'0' && digit <= b'7'
 }
 
-/// The permissions that three octal digits spell, from 0 to 0o777; None for any other text.
+/// The permissions that exactly three octal digits spell, from 0 to 0o777; None for any other text.
 fn permissions_in(text: &str) -> Option<u16>
     ensures { result ≡ permissions_in text.now }
 {
@@ -71,15 +72,16 @@ fn permissions_in(text: &str) -> Option<u16>
     Some(u16::from(*owner - b'0') * 64 + u16::from(*group - b'0') * 8 + u16::from(*others - b'0'))
 }
 
-/// The permissions in the field of `mode`. Anything but three octal digits, or no value, is Syntax.
+/// The permissions in the field `mode`. Anything but a text of three octal digits is Syntax.
 pub(crate) fn mode_in(mode: &Option<Field>) -> Result<u16, LineFault>
     ensures { IsRead (λ n. n) (mode_in (option_map field_value mode.now)) result }
 {
     permissions_in(text_of(mode)?).ok_or(LineFault::Syntax)
 }
 
-/// The owner, the group and the permissions in the fields; the two names are moved out. A field
-/// that is missing or has another value is Syntax; the names may be moved out then, too.
+/// The owner, the group and the permissions in the fields, with the two names moved out; they
+/// aren't checked. A field that is missing or has a wrong value is Syntax; the names may be moved
+/// out then, too.
 pub(crate) fn take_claims(fields: &mut Fields) -> Result<Claims, LineFault>
     ensures { IsRead claims_of (claims_in (field_values fields.old)) result }
 {
@@ -90,8 +92,9 @@ pub(crate) fn take_claims(fields: &mut Fields) -> Result<Claims, LineFault>
     })
 }
 
-/// The owner and the group in the fields, which are moved out, with all permissions: those of a
-/// symbolic link, whose line has no mode. A field that is missing or has another value is Syntax.
+/// The owner, the group and the permissions of a symbolic link, whose line has no mode: the two
+/// names are moved out of the fields, and the permissions are 777. A name that is missing or isn't
+/// a text is Syntax.
 pub(crate) fn take_symlink_claims(fields: &mut Fields) -> Result<Claims, LineFault>
     ensures { IsRead claims_of (symlink_claims_in (field_values fields.old)) result }
 {
@@ -102,7 +105,7 @@ pub(crate) fn take_symlink_claims(fields: &mut Fields) -> Result<Claims, LineFau
     })
 }
 
-/// Whether the text has no NUL.
+/// Whether the text has no NUL byte.
 fn is_without_nul(text: &str) -> bool
     ensures { result ≡ is_without_nul text.now }
 {
@@ -117,8 +120,8 @@ fn is_target(text: &str) -> bool
     count > 0 && count <= TARGET_BYTES && is_without_nul(text)
 }
 
-/// Moves the target of a symbolic link out of its field. A text that none may have, another value
-/// or no value is Syntax.
+/// Moves the target of a symbolic link out of its field. A text that `is_target` refuses, a value
+/// that isn't a text, or no value is Syntax. The field is None afterwards in any case.
 pub(crate) fn take_target(target: &mut Option<Field>) -> Result<String, LineFault>
     ensures { IsRead string_bytes (target_in (option_map field_value target.old)) result }
 {
@@ -130,17 +133,18 @@ pub(crate) fn take_target(target: &mut Option<Field>) -> Result<String, LineFaul
 }
 
 /// The bytes that the hexadecimal digits of a field spell, in upper or lower case; an empty text
-/// spells none. Another text, such as an odd number of digits, another value or no value is Syntax.
-/// The field is None afterwards in any case.
+/// spells none. Another text, such as an odd number of digits, a value that isn't a text, or no
+/// value is Syntax. The field is None afterwards in any case.
 fn take_bytes(field: &mut Option<Field>) -> Result<Vec<u8>, LineFault>
     ensures { IsRead (λ bytes. bytes.items) (bytes_in (option_map field_value field.old)) result }
 {
     digits::decode(take_text(field)?.into_bytes())
 }
 
-/// The bytes of a file or a write. If the field `digits` is there, it spells them in hexadecimal,
-/// and `text` stays as it is. If not, they are those of `text`, which the third version has first.
-/// The value that is read is moved out. A field that is missing or has another value is Syntax.
+/// The bytes of a file or a write. If the field `digits` (of the key `bytes`) is there, it spells
+/// them in hexadecimal, and `text` stays as it is. If not, they are those of `text` in UTF-8, which
+/// lines have from version 3 on. The value that is read is moved out. If it is missing or wrong, it
+/// is Syntax. By the count of keys, callers have refused a line that has both.
 pub(crate) fn take_content(
     version: Version,
     digits: &mut Option<Field>,
@@ -159,8 +163,8 @@ pub(crate) fn take_content(
     Ok(take_text(text)?.into_bytes())
 }
 
-/// Whether a line of this version may have this note: no note (None) in each version, a text from
-/// the third on, and another value in none.
+/// Whether a line of this version may have this note: no note (None) in every version, a text from
+/// version 3 on, and another value in none.
 fn may_note(version: Version, note: &Option<Field>) -> bool
     ensures { result ≡ may_note version (option_map field_value note.now) }
 {
@@ -171,8 +175,8 @@ fn may_note(version: Version, note: &Option<Field>) -> bool
     }
 }
 
-/// Whether the line has exactly `count` keys of the format and no other keys, but for a note that
-/// the version allows.
+/// Whether the line has exactly `count` keys of the format, and in addition at most a note that the
+/// version allows. Which keys it has isn't looked at: reading them finds a missing one.
 pub(crate) fn has_only(version: Version, count: usize, fields: &Fields) -> bool
     ensures { result ≡ has_only version count (field_values fields.now) }
 {

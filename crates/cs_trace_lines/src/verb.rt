@@ -4,7 +4,8 @@ ghost use Rattle.cs_trace_lines.specs.Lines.{belongs_to, key_count, verb_in, ver
 
 use crate::version::Version;
 
-/// What an operation does, by the name under `op`.
+/// What an operation does, by the name under `op`, which is the variant in lower case (`FsyncRange`
+/// is `fsync_range`).
 #[derive(Clone, Copy, Debug, PartialEq, Eq)]
 pub(crate) enum Verb {
     Creat,
@@ -26,7 +27,7 @@ pub(crate) enum Verb {
 }
 
 impl Verb {
-    /// The verb of this name, from whichever version. None if no version has a verb of this name.
+    /// The verb with this name in any version. None if no version has one.
     fn of_name(name: &str) -> Option<Verb>
         ensures { result ≡ verb_named name.now }
     {
@@ -51,9 +52,9 @@ impl Verb {
         })
     }
 
-    /// Whether a trace of this version may have this verb: chmod and chown come with the second
-    /// version, link and fsync_range with the third, symlink and fdatasync with the fourth, and all
-    /// others with the first.
+    /// Whether a trace of this version may have this verb: chmod and chown from version 2 on, link
+    /// and fsync_range from version 3 on, symlink and fdatasync in version 4, and all others in
+    /// every version.
     fn belongs_to(self, version: Version) -> bool
         ensures { result ≡ belongs_to version self }
     {
@@ -65,7 +66,7 @@ impl Verb {
         }
     }
 
-    /// The verb of this name in a trace of this version. None if the version has no such verb.
+    /// The verb with this name in a trace of this version. None if the version has no such verb.
     pub(crate) fn of(version: Version, name: &str) -> Option<Verb>
         ensures { result ≡ verb_in version name.now }
     {
@@ -77,8 +78,8 @@ impl Verb {
         }
     }
 
-    /// How many keys a line with this verb has: `op` and those that `operation_of` reads. A `note`
-    /// isn't counted.
+    /// How many keys a line with this verb has: `op` and those that `operation_of` in `operation`
+    /// reads. A `note` isn't counted.
     pub(crate) fn key_count(self) -> usize
         ensures { result ≡ key_count self }
     {

@@ -6,7 +6,7 @@ ghost use Rattle.cs_trace_lines.specs.Versions.{says_first, with_profile};
 
 use crate::profile::Profile;
 
-/// How many bytes a block has.
+/// How many bytes a block has: the unit that the disk writes whole.
 #[derive(Clone, Copy, Debug, PartialEq, Eq)]
 pub enum BlockSize {
     Bytes512,
@@ -16,7 +16,7 @@ pub enum BlockSize {
 }
 
 impl BlockSize {
-    /// How many bytes a block of this size has. `of_bytes` has the same list.
+    /// How many bytes a block of this size has. `of_bytes` below has the same list.
     pub fn bytes(self) -> u64
         ensures { result ≡ block_bytes self }
     {
@@ -28,8 +28,8 @@ impl BlockSize {
         }
     }
 
-    /// The block size of this many bytes. None if it isn't 512, 1,024, 2,048 or 4,096, as in
-    /// `bytes`.
+    /// The block size of so many bytes: 512, 1,024, 2,048 or 4,096, as in `bytes`. None for any
+    /// other number.
     pub(crate) fn of_bytes(bytes: u64) -> Option<BlockSize>
         ensures { result ≡ block_size_of_bytes bytes }
     {
@@ -43,22 +43,25 @@ impl BlockSize {
     }
 }
 
-/// Which form the lines of a trace have, and which rules order its operations.
+/// The version of a trace: which form its lines have, and which rules order its micro-operations;
+/// with the profile of its file system, and the size of its blocks.
 #[derive(Clone, Copy, Debug, PartialEq, Eq)]
 pub enum Version {
+    /// Version 1: profile `blocks`, blocks of 4,096 bytes.
     First,
-    /// With `chmod` and `chown`, on a file system of that profile.
+    /// Version 2, with `chmod` and `chown`; its header has the profile.
     Second(Profile),
-    /// With links, syncs of a range, notes and texts, and blocks of that size. What was
-    /// acknowledged comes before all that follows it.
+    /// Version 3, with links, syncs of a range, notes and texts; its header has the size of a
+    /// block, too. All that follows an acknowledged line needs it.
     Third(Profile, BlockSize),
-    /// With directories that may be moved, symbolic links, syncs of data, and files in parts.
-    /// Writes, truncates and renames have the steps in which file systems put them on the disk.
+    /// Version 4, with directories that may be moved, symbolic links, fdatasync, and files in
+    /// parts. Each directory has a number. Some writes, truncates and renames have more
+    /// micro-operations, as real file systems were seen to leave them.
     Fourth(Profile, BlockSize),
 }
 
 impl Version {
-    /// The profile of the file system; Blocks in the first version, whose header names none.
+    /// The profile of the file system; Blocks in version 1, whose header names none.
     pub fn profile(self) -> Profile
         ensures { result ≡ profile_of self }
     {
@@ -69,7 +72,7 @@ impl Version {
         }
     }
 
-    /// The size of a block: 4,096 bytes before the third version.
+    /// The size of a block; 4,096 bytes in versions 1 and 2, whose headers name none.
     pub fn block_size(self) -> BlockSize
         ensures { result ≡ block_size_of self }
     {
@@ -79,29 +82,30 @@ impl Version {
         }
     }
 
-    /// Whether an acknowledgement orders operations: what was acknowledged reaches the disk before
-    /// all that follows it.
+    /// Whether all that follows an acknowledged line needs it (P9): in version 3 and later.
     pub fn says_first(self) -> bool
         ensures { result ≡ says_first self }
     {
         self.is_third_or_later()
     }
 
-    /// Whether there may be links, syncs of a range, notes, and texts in place of digits.
+    /// Whether it is version 3 or 4: there may be links, syncs of a range, notes, and texts in
+    /// place of digits.
     pub(crate) fn is_third_or_later(self) -> bool
         ensures { result ≡ is_third_or_later self }
     {
         matches!(self, Version::Third(..) | Version::Fourth(..))
     }
 
-    /// Whether it is the fourth version, of any profile and block size.
+    /// Whether it is version 4, with any profile and block size.
     pub fn is_fourth(self) -> bool
         ensures { result ≡ is_fourth self }
     {
         matches!(self, Version::Fourth(..))
     }
 
-    /// The same version with another profile. The first version has none, and stays as it is.
+    /// The same version with this profile; no crate calls it. Version 1, whose header has none,
+    /// stays as it is.
     pub fn with_profile(self, profile: Profile) -> Version
         ensures { result ≡ with_profile profile self }
     {

@@ -28,15 +28,15 @@ impl FileBytes {
         FileBytes { bytes }
     }
 
-    /// The number of bytes.
+    /// The number of bytes of the file.
     pub fn len(&self) -> u64
         ensures { result ≡ length self.now }
     {
         self.bytes.len() as u64
     }
 
-    /// At most `count` bytes from `offset` on: fewer if the file ends before, none at its end or
-    /// past it.
+    /// At most `count` bytes from `offset` on, lent: fewer if the file ends before, none at its end
+    /// or past it.
     pub fn part(&self, offset: u64, count: usize) -> &[u8]
         ensures { result.now ≡ take count (drop offset self.now) }
     {
@@ -44,8 +44,8 @@ impl FileBytes {
     }
 
     /// Writes at least one byte at an offset; the write must end before 2^63. If the offset is past
-    /// the end, the bytes between are zeros. It allocates only if the file grows; after an error
-    /// the file is unchanged.
+    /// the end, the bytes between are zeros. It allocates only if the file grows. The only error is
+    /// that memory runs out; then the file is unchanged.
     pub fn write(&mut self, offset: u64, bytes: &[u8]) -> Result<(), AllocError>
         requires some { 0 < length bytes.now }
         requires room { offset + length bytes.now < 2 ^ 63 }
@@ -57,7 +57,7 @@ impl FileBytes {
     }
 
     /// A copy that has `length` bytes, which must be fewer than 2^63: the file's first ones, and
-    /// zeros after them if the file has fewer.
+    /// zeros after them if the file has fewer. The only error is that memory runs out.
     pub fn with_length(&self, alloc: Global, length: u64) -> Result<FileBytes, AllocError>
         requires { length < 2 ^ 63 }
         ensures { IfOk result (λ file. file ≡ take length (self.now ++ replicate length 0)) }
@@ -67,7 +67,9 @@ impl FileBytes {
     }
 }
 
-/// Does what `FileBytes::part` does, on a slice.
+/// At most `count` bytes from `offset` on: fewer if the bytes end before, none at their end or past
+/// it. It is the body of `FileBytes::part`. (`part_of` of cs_overlay and `piece_at` of cs_state do
+/// the same.)
 fn part_of(bytes: &[u8], offset: usize, count: usize) -> &[u8]
     ensures { result.now ≡ take count (drop offset bytes.now) }
 {
@@ -77,7 +79,9 @@ fn part_of(bytes: &[u8], offset: usize, count: usize) -> &[u8]
     &rest[..end]
 }
 
-/// Does what `FileBytes::write` does, on a vector, which is unchanged after an error.
+/// Writes at least one byte at an offset, with zeros between the old end and the offset. After an
+/// error the vector is unchanged. It is the body of `FileBytes::write`. `FileContent::overwrite` of
+/// cs_apm does the same to the bytes of a crash state.
 fn write_growing(content: &mut Vec<u8>, offset: usize, bytes: &[u8]) -> Result<(), AllocError>
     requires some { 0 < length bytes.now }
     requires room { offset + length bytes.now < 2 ^ 63 }
@@ -92,7 +96,8 @@ fn write_growing(content: &mut Vec<u8>, offset: usize, bytes: &[u8]) -> Result<(
     Ok(())
 }
 
-/// Replaces bytes from `offset` on by as many new ones, which must not reach past the end.
+/// Replaces bytes from `offset` on by as many new ones, which must not reach past the end. It
+/// allocates nothing. (`put_at` of cs_apm and `overwrite_bytes` of cs_overlay do the same.)
 fn overwrite(content: &mut [u8], offset: usize, bytes: &[u8])
     requires { offset + length bytes.now ≤ length content.old }
     ensures bytes { content.new ≡ take offset content.old ++ bytes.now
@@ -102,7 +107,9 @@ fn overwrite(content: &mut [u8], offset: usize, bytes: &[u8])
     content[offset..offset + bytes.len()].copy_from_slice(bytes);
 }
 
-/// Does what `FileBytes::with_length` does, on a slice.
+/// A copy of the first `length` bytes, with zeros after them if there are fewer. The only error is
+/// that memory runs out. It is the body of `FileBytes::with_length`. `copy_part` of cs_state does
+/// the same from any offset on.
 fn copy_with_length(alloc: Global, bytes: &[u8], length: usize) -> Result<Vec<u8>, AllocError>
     ensures { IfOk result (λ v. v.items ≡ take length (bytes.now ++ replicate length 0)) }
 {

@@ -8,7 +8,8 @@ use cs_names::UserName;
 use cs_tree_model::{Content, Kind, New, Record, Stamp, is_directory_mode};
 use std::alloc::{AllocError, Global};
 
-/// Copies the bytes. It takes no memory if there are none.
+/// A copy of the bytes. It takes no memory if there are none. The only error is that memory runs
+/// out. (`copy_items` of cs_wire does the same for items of any type.)
 pub fn try_clone_bytes(alloc: Global, bytes: &[u8]) -> Result<Vec<u8>, AllocError>
     ensures value { IfOk result (λ v. v.items ≡ bytes.now) }
     ensures memory { IsErr result → bytes.now ≢ [] }
@@ -19,8 +20,8 @@ pub fn try_clone_bytes(alloc: Global, bytes: &[u8]) -> Result<Vec<u8>, AllocErro
     Vec::from_slice(alloc, bytes)
 }
 
-/// Copies the name of a user or group; None if there is none. cs_overlay has the same function, for
-/// its own store.
+/// A copy of the name of a user or group; None if there is none. The only error is that memory runs
+/// out. (cs_overlay has the same function, private, for its own store.)
 pub fn try_clone_user(name: &Option<UserName>) -> Result<Option<UserName>, AllocError>
     ensures { IfOk result (λ again. again ≡ name.now) }
 {
@@ -30,8 +31,9 @@ pub fn try_clone_user(name: &Option<UserName>) -> Result<Option<UserName>, Alloc
     }
 }
 
-/// The record of a new file or directory, which the stamp's user made at the stamp's moment. It has
-/// no bytes, and version 0.
+/// The record of a new file, or of a new directory if the mode has DMDIR, which the stamp's user
+/// made at the stamp's moment: that user is owner and last writer. It has no bytes, and version 0.
+/// The only error is that memory runs out.
 pub fn new_record(
     alloc: Global,
     number: u64,
@@ -67,8 +69,7 @@ fn new_content(alloc: Global, mode: u32) -> Content
     }
 }
 
-/// Whether the record's mode fits its kind: it has a directory's bit exactly if the record is a
-/// directory's.
+/// Whether the record's mode fits its kind: it has DMDIR exactly if the record is a directory's.
 pub fn mode_fits_kind(file: &Record) -> bool
     ensures { result ≡ is_marked file.now }
 {

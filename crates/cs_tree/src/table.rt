@@ -1,4 +1,5 @@
-//! The table of a tree's nodes by their numbers: how each call changes it.
+//! The table of a tree's nodes by their numbers: how each call changes it. Only allocations can
+//! fail.
 ghost use Rattle.std.specs.Prelude.{◌≡◌, ◌≢◌, ◌+◌, ◌<◌, ◌^◌, ℕ, nat_eq, List, None, Some, OnOk};
 ghost use Rattle.std.specs.Prelude.{OnErr, IfOk, IfSome, IsSome, length, option_and_then};
 ghost use Rattle.std.specs.Prelude.{string_bytes, unwrap_or};
@@ -26,8 +27,8 @@ pub fn root_table(alloc: Global, root: Record) -> Result<HashMap<u64, Node>, All
     Ok(nodes)
 }
 
-/// Adds an entry to a directory, which the caller has in the table, without a stamp. After an error
-/// the table is unchanged.
+/// Adds an entry to a directory, which the caller knows to be in the table, and doesn't stamp it.
+/// After an error the table is unchanged.
 fn link_child(
     nodes: &mut HashMap<u64, Node>,
     directory: u64,
@@ -48,7 +49,7 @@ fn link_child(
     }
 }
 
-/// Puts a node into the table, in which the caller has reserved room for it.
+/// Puts a node into the table. The caller has reserved room for it, so it takes no memory.
 fn insert_node(nodes: &mut HashMap<u64, Node>, number: u64, node: Node)
     requires { 0 < spare nodes.old }
     ensures { Alike (with_at (get nat_eq nodes.old) number (Some node)) (get nat_eq nodes.new) }
@@ -60,8 +61,8 @@ fn insert_node(nodes: &mut HashMap<u64, Node>, number: u64, node: Node)
     }
 }
 
-/// Adds a new node to the table, and an entry to its directory, which the caller has in the table
-/// and stamps. After an error the table is unchanged.
+/// Adds a new node to the table, and an entry to its directory, which the caller knows to be in the
+/// table. The caller stamps the directory. After an error the table is unchanged.
 pub fn add_node(
     nodes: &mut HashMap<u64, Node>,
     directory: u64,
@@ -82,7 +83,8 @@ pub fn add_node(
     Ok(())
 }
 
-/// Stamps a directory, one of whose entries was changed; does nothing if no node has the number.
+/// Stamps a directory after one of its entries was changed; if no node has the number, nothing
+/// happens. Its version must be below the greatest u32.
 pub fn stamp_node(nodes: &mut HashMap<u64, Node>, number: u64, stamp: Stamp)
     requires { CanStampNode (get nat_eq nodes.old) number }
     ensures { Alike (step_at (get nat_eq nodes.old) number (λ d. with_stamp d stamp))
@@ -93,8 +95,8 @@ pub fn stamp_node(nodes: &mut HashMap<u64, Node>, number: u64, stamp: Stamp)
     }
 }
 
-/// Removes an entry of a directory, and stamps the directory; does nothing if no node has the
-/// directory's number.
+/// Removes an entry of a directory, and stamps the directory. Callers know the directory to be in
+/// the table; if it isn't, nothing happens.
 fn unlink_and_stamp(nodes: &mut HashMap<u64, Node>, directory: u64, name: &str, stamp: Stamp)
     requires { CanStampNode (get nat_eq nodes.old) directory }
     ensures { Alike
@@ -108,7 +110,7 @@ fn unlink_and_stamp(nodes: &mut HashMap<u64, Node>, directory: u64, name: &str, 
 }
 
 /// Removes a file from the table and from its directory, which is stamped. The caller's number is
-/// that of a node, and not of the root.
+/// that of a node, and not of the root. It takes no memory.
 pub fn remove_node(nodes: &mut HashMap<u64, Node>, number: u64, stamp: Stamp)
     requires there { IsSome (get nat_eq nodes.old number) }
     requires named { IfSome (get nat_eq nodes.old number) (λ d. IsSome d.name) }
@@ -128,8 +130,8 @@ pub fn remove_node(nodes: &mut HashMap<u64, Node>, number: u64, stamp: Stamp)
     unlink_and_stamp(nodes, node.parent, name.as_str(), stamp);
 }
 
-/// Writes bytes, at least one, into a file at an offset, and stamps the file, which the caller has
-/// in the table. After an error the table is unchanged.
+/// Writes bytes, at least one, into a file at an offset, and stamps the file, which the caller
+/// knows to be in the table. After an error the table is unchanged.
 pub fn write_node(
     nodes: &mut HashMap<u64, Node>,
     number: u64,
@@ -153,8 +155,8 @@ pub fn write_node(
     }
 }
 
-/// Sets the name of a file's node, and returns the old one; None if it had none, or no node has the
-/// number.
+/// Sets the name of a file's node, and returns the old one. None if the node had no name, or if no
+/// node has the number.
 fn set_name(nodes: &mut HashMap<u64, Node>, number: u64, name: Name) -> Option<Name>
     ensures old { result ≡ option_and_then (λ d. d.name) (get nat_eq nodes.old number) }
     ensures set { Alike (step_at (get nat_eq nodes.old) number (λ d. with_name d name))
@@ -202,8 +204,9 @@ pub fn rename(
     Ok(())
 }
 
-/// A copy of a file's bytes with that length, and zeros past the old end. None if `length` is None,
-/// or the number is a directory's or no node's.
+/// A copy of a file's bytes with that length: cut there, or with zeros after the old end. None if
+/// `length` is None, or the number is a directory's or no node's. The only error is that memory
+/// runs out.
 pub fn bytes_with_length(
     alloc: Global,
     nodes: &HashMap<u64, Node>,
@@ -225,9 +228,10 @@ pub fn bytes_with_length(
     }
 }
 
-/// Sets the fields that a change has, except the name; does nothing if no node has the number.
+/// Sets the fields that a change has, except the name; if no node has the number, nothing happens.
 /// `group` is a copy of the change's group, and `bytes` are the file's bytes with the change's
-/// length: the caller makes both before it changes anything, so nothing here can fail.
+/// length, or None if it has none. The caller makes both before it changes anything, so nothing
+/// here can fail. The version must be below the greatest u32.
 pub fn set_fields(
     nodes: &mut HashMap<u64, Node>,
     number: u64,

@@ -6,19 +6,20 @@ ghost use Rattle.cs_users.specs.declared.fault.UsersFault.TheVariants.{Memory};
 use std::alloc::{AllocError, AllocFailed};
 use std::fmt;
 
-/// The first fault of bytes that were read as a users file, or Memory if there is no memory for the
-/// users. A number is that of the line: lines count from 1, and skipped lines count too.
+/// Why bytes were not read as a users file: their first fault, or Memory if they have none and
+/// there is no memory for the users. A number is that of the line: lines count from 1, and skipped
+/// lines count too.
 #[derive(Clone, Copy, Debug, PartialEq, Eq)]
 pub enum UsersFault {
     /// The bytes are not UTF-8, or have a NUL.
     NotText,
-    /// The line hasn't exactly four fields.
+    /// The line hasn't exactly four fields, with three colons between them.
     FieldCount(usize),
     /// The name on the line is empty.
     EmptyName(usize),
-    /// The name on the line is longer than a user's name may be.
+    /// The name on the line is longer than USER_NAME_BYTES bytes.
     LongName(usize),
-    /// An earlier line has the same name.
+    /// An earlier line has the same name; the number is that of the later line.
     Twice(usize),
     /// Out of memory; the file itself has no fault.
     Memory,

@@ -1,4 +1,5 @@
-//! The leader and the members that each line of a users file names, as places of rows.
+//! The leader and the members that each line of a users file names. They are kept as places: the
+//! indexes of their rows.
 ghost use Rattle.std.specs.Prelude.{◌≡◌, ◌==◌, ◌<◌, ◌++◌, ◌∷◌, [], false, length, IfOk, IfSome};
 ghost use Rattle.std.specs.List.{filter_map, list_any};
 ghost use Rattle.std.specs.List.Sorted.{IsStrictlyIncreasing};
@@ -13,11 +14,11 @@ use crate::row::Row;
 use crate::rows::Rows;
 use std::alloc::{AllocError, Global};
 
-/// The places of a line's leader and members: the places of their rows. A name that no row has is
-/// left out, and so is `none`.
+/// The leader and the members of one line's group, as places of rows. A name that no row has is
+/// left out, and so is `none`. Only `groups_of` makes one, so members and marks agree.
 #[derive(Debug, Drop)]
 pub(crate) struct Group {
-    // None if no row has the leader's name
+    // None if the line names no leader, or one that no row has, or `none`
     leader: Option<usize>,
     // in ascending order, each once
     members: Vec<usize>,
@@ -25,12 +26,12 @@ pub(crate) struct Group {
     marks: Option<Marks>,
 }
 
-/// A group with at most one member for this many rows has no marks, and its members are found by
-/// binary search: marks would take more than sixteen times the memory of the members.
+/// A group has marks if it has more than one member for this many rows. Of fewer members the marks
+/// would take more than sixteen times the memory, so these are found by binary search.
 const FEW_AMONG: usize = 1024;
 
 /// The places of the members that the line lists, in its order and as often as it lists them. Names
-/// that no row has, and `none`, are left out.
+/// that no row has, and `none`, are left out. The only error is that memory runs out.
 fn listed_members(alloc: Global, rows: &Rows, row: &Row) -> Result<Vec<usize>, AllocError>
     ensures { IfOk result
         (λ places. places.items ≡ filter_map (somebody_at rows.now) row.now.members) }
@@ -40,8 +41,9 @@ fn listed_members(alloc: Global, rows: &Rows, row: &Row) -> Result<Vec<usize>, A
         .collect(alloc)
 }
 
-/// The places of the members that the line lists, and after them that of the line's own user, who
-/// is a member of the group of the same name, unless that is `none`. A place may come twice.
+/// The places of the members that the line lists, and after them that of the line's own name, which
+/// is a member of its group (unless it is `none`). A place may come twice. The only error is that
+/// memory runs out.
 fn all_members(alloc: Global, rows: &Rows, row: &Row) -> Result<Vec<usize>, AllocError>
     ensures { IfOk result
         (λ places. places.items
@@ -55,6 +57,7 @@ fn all_members(alloc: Global, rows: &Rows, row: &Row) -> Result<Vec<usize>, Allo
 }
 
 /// The members' marks among `count` rows; None if the members are so few that a search is enough.
+/// The only error is that memory runs out.
 fn marks_if_many(
     alloc: Global,
     count: usize,
@@ -71,7 +74,8 @@ fn marks_if_many(
 
 impl Group {
     /// The group of the row at that place, which must exist: its leader, and each of its members
-    /// once. The row's own user is a member, unless that is `none`.
+    /// once. The row's own name is a member, unless it is `none`. The only error is that memory
+    /// runs out.
     fn of(alloc: Global, rows: &Rows, place: usize) -> Result<Group, AllocError>
         requires { place < length rows.now }
         ensures { IfOk result (IsGroup rows.now place) }
@@ -122,7 +126,7 @@ impl Group {
     }
 }
 
-/// The group of each row, in the order of the rows.
+/// The group of each row, in the order of the rows. The only error is that memory runs out.
 pub(crate) fn groups_of(alloc: Global, rows: &Rows) -> Result<Vec<Group>, AllocError>
     ensures named { AreNamed rows.now }
     ensures groups { IfOk result (λ groups. AreGroups rows.now (length rows.now) groups.items) }

@@ -1,4 +1,5 @@
-//! A bit for each row: if a group has many members, reading one bit is faster than a search.
+//! A bit for each row, which says whether that row is a member of a group. If a group has many
+//! members, reading one bit is faster than a search.
 ghost use Rattle.std.specs.Prelude.{◌≡◌, ℕ, ◌<◌, ◌/◌, ◌==◌, ◌||◌, length, IfOk};
 ghost use Rattle.cs_users.specs.Marks.{AreMarks, is_marked};
 
@@ -22,7 +23,8 @@ fn mark(words: &mut Vec<u64>, place: usize)
 
 impl Marks {
     /// The bits of `count` rows, set at these places, which count from 0. A place past the last row
-    /// would be ignored, but a group's members are all places of rows.
+    /// would be ignored, but a group's members are all places of rows. The only error is that
+    /// memory runs out.
     pub(crate) fn of(alloc: Global, count: usize, places: &[usize]) -> Result<Marks, AllocError>
         ensures { IfOk result (λ marks. AreMarks count places.now marks.words.items) }
     {

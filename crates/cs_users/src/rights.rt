@@ -1,4 +1,4 @@
-//! What a user may do with a file.
+//! What a user may do with a file. users(6) doesn't say this: the rights are a rule of this server.
 ghost use Rattle.std.specs.Prelude.{◌≡◌, ◌≤◌, ◌↔◌, IsTrue};
 ghost use Rattle.cs_users.specs.Rights.{HasRight, Owns, bit_of, has_bit, has_right, owns};
 
@@ -31,7 +31,7 @@ impl Right {
     }
 }
 
-/// Whether the mode has at least one bit of the mask; false if the mask is 0.
+/// Whether the mode has at least one bit of the mask, not all of them; false if the mask is 0.
 pub fn has_bit(mode: u32, mask: u32) -> bool
     ensures { result ≡ has_bit mode mask }
 {
@@ -47,9 +47,10 @@ pub fn owns(user: &[u8], owner: &[u8]) -> bool
     user == owner && !is_user_none(user)
 }
 
-/// Whether the user has the right on a file of this owner, group and mode: by the bits of others,
-/// by the owner's bits if the user owns the file, or by the group's if the user is a member of its
-/// group. So `none` has only the bits of others. The group is looked up only if its bit decides.
+/// Whether the user has the right on a file of this owner, group and mode. The bits of others give
+/// it; so do the owner's bits if the user owns the file, and the group's if the user is a member of
+/// its group. So an owner never has fewer rights than others (unlike POSIX), and `none` has only
+/// the bits of others. The group is looked up only if its bit decides.
 pub fn has_right(
     users: &Users,
     user: &[u8],

@@ -11,16 +11,18 @@ use cs_names::{NameFault, Pieces, UserName};
 use std::alloc::{AllocError, Global};
 use std::marker::Model;
 
-/// The four fields of a line, borrowed from the file's bytes.
+/// The four fields of a line, borrowed from the file's bytes. Only their number was checked.
 #[derive(Drop)]
 pub(crate) struct Fields<'a> {
+    /// Any text; it has no effect.
     id: &'a [u8],
     pub(crate) name: &'a [u8],
     leader: &'a [u8],
     members: &'a [u8],
 }
 
-/// A copy of a line's fields. The members stay one text, with commas between them.
+/// A copy of a line's fields, whose name is legal. The members stay one text, with commas between
+/// them.
 #[derive(Debug, Drop)]
 pub(crate) struct Row {
     id: Vec<u8>,
@@ -92,7 +94,7 @@ fn copy_name(alloc: Global, name: &[u8]) -> Result<UserName, AllocError>
 }
 
 impl Row {
-    /// Copies the fields, whose name is legal, into a row.
+    /// Copies the fields, whose name is legal, into a row. The only error is that memory runs out.
     pub(crate) fn copy_of(alloc: Global, fields: &Fields) -> Result<Row, AllocError>
         requires { IsUserName fields.now.name.now }
         ensures { IfOk result (λ row. row ≡ row_of fields.now) }
@@ -105,7 +107,7 @@ impl Row {
         })
     }
 
-    /// Copies the row.
+    /// A copy of the row. The only error is that memory runs out.
     pub(crate) fn try_clone(&self) -> Result<Row, AllocError>
         ensures { IfOk result (λ row. row ≡ self.now) }
     {

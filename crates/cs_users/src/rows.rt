@@ -63,7 +63,7 @@ impl Rows {
         Ok(Rows { rows, places })
     }
 
-    /// Copies the rows.
+    /// A copy of the rows. The only error is that memory runs out.
     pub(crate) fn try_clone(&self, alloc: Global) -> Result<Rows, AllocError>
         ensures { IfOk result (λ copy. copy ≡ self.now) }
     {
@@ -74,7 +74,7 @@ impl Rows {
         Ok(copy)
     }
 
-    /// The number of rows.
+    /// The number of rows. (The clause `named` is a law of all rows.)
     pub(crate) fn len(&self) -> usize
         ensures value { result ≡ length self.now }
         ensures named { AreNamed self.now }
@@ -82,7 +82,8 @@ impl Rows {
         self.rows.len()
     }
 
-    /// The row at that place, counted from 0. There must be one.
+    /// The row at that place, counted from 0. There must be one. (The clause `named` is a law of
+    /// all rows.)
     pub(crate) fn at(&self, place: usize) -> &Row
         requires { place < length self.now }
         ensures row { result.now ≡ slice_index_or self.now place result.now }

@@ -43,10 +43,10 @@ impl Model for Users {
 }
 
 impl Users {
-    /// The users file that the bytes spell: lines `id:name:leader:members`, the members with commas
-    /// between them; empty lines and those that begin with `#` are skipped. An error is NotText, or
-    /// the first of FieldCount, EmptyName, LongName and Twice on the first bad line. It is Memory
-    /// only if the file has no fault. An empty file has no users.
+    /// The users file that the bytes spell, users(6): lines `id:name:leader:members`, the members
+    /// with commas between them; empty lines and those that begin with `#` are skipped. An error is
+    /// NotText, or the first of FieldCount, EmptyName, LongName and Twice on the first bad line. It
+    /// is Memory only if the file has no fault. An empty file has no users.
     pub fn read(alloc: Global, bytes: &[u8]) -> Result<Users, UsersFault>
         ensures exact { ReadsAs UsersFault.Memory result (users_in bytes.now) }
         ensures named { IfOk result AreNamed }
@@ -64,8 +64,8 @@ impl Users {
         }
     }
 
-    /// Reads a text as `read` does, but the error is Memory as soon as an allocation fails, even if
-    /// a later line has a fault.
+    /// Reads bytes that are text as `read` does, but the error is Memory as soon as an allocation
+    /// fails, even if a later line has a fault.
     fn from_text(alloc: Global, text: &[u8]) -> Result<Users, UsersFault>
         requires { IsTrue (is_text text.now) }
         ensures kept { IfOk result (λ users. rows_or_fault (pieces 10 text.now) ≡ Ok users) }
@@ -79,7 +79,8 @@ impl Users {
         Ok(Users { rows, groups })
     }
 
-    /// Copies the users. The groups are made again from the copied rows.
+    /// A copy of the users; its groups are made from the copied rows. The only error is that memory
+    /// runs out. No command copies users.
     pub fn try_clone(&self, alloc: Global) -> Result<Users, AllocError>
         ensures { IfOk result (λ copy. copy ≡ self.now) }
     {
@@ -88,8 +89,8 @@ impl Users {
         Ok(Users { rows, groups })
     }
 
-    /// Whether a line has that name, which is then a legal user name. `none` too is known only if a
-    /// line has it.
+    /// Whether a line has that name, which is then a legal user name. Users and groups are known
+    /// alike; `none` is known only if a line has it.
     pub fn knows(&self, name: &[u8]) -> bool
         ensures test { result ≡ is_known self.now name.now }
         ensures known { IsTrue result ↔ IsKnown self.now name.now }
@@ -99,7 +100,7 @@ impl Users {
     }
 
     /// Whether the user is a member of the group: both are known, the user is not `none`, and is
-    /// the group itself or listed on its line.
+    /// the group itself or listed on its line. A member of a member isn't one.
     pub fn is_member(&self, user: &[u8], group: &[u8]) -> bool
         ensures test { result ≡ is_member self.now user.now group.now }
         ensures member { IsTrue result ↔ IsMember self.now user.now group.now }
@@ -114,7 +115,8 @@ impl Users {
     }
 
     /// Whether the user leads the group: both are known, the user is not `none`, and is the group's
-    /// leader, or the group has none and the user is a member.
+    /// leader, or the leader's field is empty and the user is a member. If the field has a name
+    /// that no line has, nobody leads the group.
     pub fn is_leader(&self, user: &[u8], group: &[u8]) -> bool
         ensures test { result ≡ is_leader self.now user.now group.now }
         ensures leader { IsTrue result ↔ IsLeader self.now user.now group.now }
@@ -128,8 +130,8 @@ impl Users {
         }
     }
 
-    /// The places, from 0 and in ascending order, of the members of the group at that place; None
-    /// past the last row.
+    /// The members of the group at that place, as places of rows: from 0 and in ascending order.
+    /// None past the last row. No command asks for them.
     pub fn members(&self, group: usize) -> Option<&[usize]>
         ensures some { IsSome result ↔ (group < length self.now) }
         ensures members { IfSome result (λ places. places.now ≡ members_of self.now group) }

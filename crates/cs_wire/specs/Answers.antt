@@ -14,7 +14,8 @@ abbrev pub IsSeenAs : {X Y : Type 0} → (X → Y) → Result X WireFault → Re
 IsSeenAs view (Ok x) read = read ≡ Ok (view x)
 IsSeenAs view (Err e) read = IsFault e read
 
--- likewise, if the call leaves this rest of the bytes
+-- what a call answered, seen by view, and the rest of the bytes that it leaves, are what reading
+-- gives; after a fault any rest may be left
 abbrev pub IsFrontSeenAs : {X Y : Type 0} → (X → Y) → Result X WireFault → List ℕ
     → Result (Y × List ℕ) WireFault → Type 0
 IsFrontSeenAs view (Ok x) rest read = read ≡ Ok (view x, rest)

@@ -17,7 +17,7 @@ request_bytes body = with_request (λ kind fields. bytes_of_field (t_layout kind
 abbrev pub request_size : TBody → Option ℕ
 request_size body = with_request (λ kind fields. size_of (t_layout kind) fields) body
 
--- of a reply, likewise
+-- the same of a reply: the number of its type, the bytes of its fields, and their size
 abbrev pub reply_number : RBody → ℕ
 reply_number body = with_reply (λ kind _. r_number kind) body
 

@@ -24,15 +24,16 @@ pub(crate) struct Cursor<'a> {
     pub(crate) rest: &'a [u8],
 }
 
-/// Whether at least one of the bytes is NUL; false if there are none.
+/// Whether at least one of the bytes is NUL; false if there are none. (`contains_nul` of cs_names
+/// has the same body.)
 pub(crate) fn has_nul(bytes: &[u8]) -> bool
     ensures { result ≡ list_any (λ b. b == 0) bytes.now }
 {
     bytes.iter().any(|b| *b == 0)
 }
 
-/// The bytes as a text; None if they aren't UTF-8 or one of them is NUL. The same as `as_text` of
-/// cs_names, but its contract has the `is_text` of this crate.
+/// The bytes as a text; None if they aren't UTF-8 or one of them is NUL. (`as_text` of cs_names is
+/// the same, but this contract has the `is_text` of this crate.)
 fn text_in(bytes: &[u8]) -> Option<&str>
     ensures some { IfSome result (λ s. (s.now ≡ bytes.now) × (is_text bytes.now ≡ true)) }
     ensures none { IfNone result (is_text bytes.now ≡ false) }
@@ -43,9 +44,10 @@ fn text_in(bytes: &[u8]) -> Option<&str>
     }
 }
 
-/// Reads an entry that fills the bytes: a size, and the fields of a stat. The fault is SizeLies if
-/// the size isn't the number of bytes after it, else that of the first faulty field, else Trailing
-/// if bytes are left after the fields.
+/// Reads an entry that fills the bytes: its size in two bytes, and the fields of a stat. The fault
+/// is Short if there are no two bytes, and SizeLies if the size isn't the number of bytes after it.
+/// Else it is that of the first faulty field (Short or BadText), else Trailing if bytes are left
+/// after the fields.
 #[tactic(auto, unfolding(crate::specs::Reading::sized_in))]
 fn read_sized_stat(bytes: &[u8]) -> Result<StatRef, WireFault>
     ensures { IsSeenAs stat_in result (sized_in (field_at stat_shape) bytes.now) }
@@ -63,7 +65,8 @@ fn read_sized_stat(bytes: &[u8]) -> Result<StatRef, WireFault>
 }
 
 /// Reads an entry that fills the bytes, as `read_sized_stat` does. But Short and Trailing become
-/// SizeLies, since the message gave the length of these bytes as that of the entry.
+/// SizeLies: the message said how long the entry is, so if it is too short or too long for its
+/// fields, a size is wrong.
 fn read_entry(bytes: &[u8]) -> Result<StatRef, WireFault>
     ensures { IsSeenAs stat_in result (entry_in (field_at stat_shape) bytes.now) }
 {
@@ -74,7 +77,7 @@ fn read_entry(bytes: &[u8]) -> Result<StatRef, WireFault>
 }
 
 impl<'a> Cursor<'a> {
-    /// Takes the next `count` bytes. If there are fewer the fault is Short, and nothing is taken.
+    /// Takes the next `count` bytes. If there are fewer, the fault is Short, and nothing is taken.
     pub(crate) fn read_bytes(&mut self, count: usize) -> Result<&'a [u8], WireFault>
         ensures { IsFrontSeenAs (λ x. x.now) result self.new.rest.now
             (front_at count self.old.rest.now) }
@@ -97,7 +100,7 @@ impl<'a> Cursor<'a> {
         Ok(())
     }
 
-    /// Takes the next N bytes as an array. If there are fewer the fault is Short, and nothing is
+    /// Takes the next N bytes as an array. If there are fewer, the fault is Short, and nothing is
     /// taken.
     fn read_array<const N: usize>(&mut self) -> Result<[u8; N], WireFault>
         ensures { IsFrontSeenAs (λ x. x) result self.new.rest.now (front_at N self.old.rest.now) }
@@ -170,8 +173,8 @@ impl<'a> Cursor<'a> {
         })
     }
 
-    /// Reads a count in four bytes, and takes that many bytes. An error (Short) may leave the count
-    /// taken.
+    /// Reads data: a count in four bytes, and that many bytes, which are lent. An error (Short) may
+    /// leave the count taken.
     #[tactic(auto, unfolding(crate::specs::Reading::raw_at))]
     pub(crate) fn read_data(&mut self) -> Result<&'a [u8], WireFault>
         ensures { IsFrontSeenAs (λ x. x.now) result self.new.rest.now (raw_at self.old.rest.now) }
@@ -180,8 +183,9 @@ impl<'a> Cursor<'a> {
         self.read_bytes(count as usize)
     }
 
-    /// Reads `count` texts, at most 16 (the caller has checked), without a count before them. An
-    /// error leaves the texts before the faulty one taken, and maybe a part of it.
+    /// Reads `count` names of a walk, without a count before them. The caller has checked that they
+    /// are at most 16. An error (Short or BadText) leaves the names before the faulty one taken,
+    /// and maybe a part of it.
     fn read_each_name(&mut self, count: u16) -> Result<Few<&'a str>, WireFault>
         requires { count ≤ WALK_NAMES }
         ensures { IsFrontSeenAs (λ names. texts_in (items_of names)) result self.new.rest.now
@@ -195,8 +199,9 @@ impl<'a> Cursor<'a> {
         Ok(names)
     }
 
-    /// Reads `count` qids, at most 16 (the caller has checked), without a count before them. An
-    /// error (Short) leaves the qids before the faulty one taken, and maybe a part of it.
+    /// Reads `count` qids, without a count before them. The caller has checked that they are at
+    /// most 16. An error (Short) leaves the qids before the faulty one taken, and maybe a part of
+    /// it.
     fn read_each_qid(&mut self, count: u16) -> Result<Few<Qid>, WireFault>
         requires { count ≤ WALK_NAMES }
         ensures { IsFrontSeenAs (λ qids. map qid_of (items_of qids)) result self.new.rest.now
@@ -215,8 +220,9 @@ impl<'a> Cursor<'a> {
         Ok(qids)
     }
 
-    /// Reads the names of a walk, after their count in two bytes. The fault is TooManyNames if the
-    /// count is above 16, else the first one of a text. An error may leave a part of them taken.
+    /// Reads the names of a walk, after their count in two bytes. The fault is Short if the count
+    /// isn't there, TooManyNames if it is above 16, else that of the first faulty name (Short or
+    /// BadText). An error may leave the count and some names taken.
     #[tactic(auto, unfolding(crate::specs::Reading::several_at))]
     pub(crate) fn read_names(&mut self) -> Result<Few<&'a str>, WireFault>
         ensures { IsFrontSeenAs (λ names. texts_in (items_of names)) result self.new.rest.now
@@ -230,7 +236,7 @@ impl<'a> Cursor<'a> {
     }
 
     /// Reads the qids of a walk, after their count in two bytes. The fault is TooManyNames if the
-    /// count is above 16, else Short. An error may leave a part of them taken.
+    /// count is above 16, else Short. An error may leave the count and some qids taken.
     #[tactic(auto, unfolding(crate::specs::Reading::several_at))]
     pub(crate) fn read_qids(&mut self) -> Result<Few<Qid>, WireFault>
         ensures { IsFrontSeenAs (λ qids. map qid_of (items_of qids)) result self.new.rest.now
@@ -243,8 +249,8 @@ impl<'a> Cursor<'a> {
         self.read_each_qid(count)
     }
 
-    /// Reads the fields of a stat, without a size before them. An error leaves the fields before
-    /// the faulty one taken, and maybe a part of it.
+    /// Reads the fields of a stat, without a size before them (stat(5)). An error (Short or
+    /// BadText) leaves the fields before the faulty one taken, and maybe a part of it.
     #[tactic(auto, unfolding(crate::specs::Reading::field_at))]
     fn read_stat_fields(&mut self) -> Result<StatRef<'a>, WireFault>
         ensures { IsFrontSeenAs stat_in result self.new.rest.now

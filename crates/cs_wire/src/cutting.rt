@@ -1,5 +1,5 @@
-//! A stream has the same messages however it is cut into pieces. A call of a function here does
-//! nothing: its contract is the law.
+//! A stream has the same messages however it is cut into pieces. The functions are laws: a call
+//! does nothing, its contract is the law.
 
 ghost use Rattle.std.specs.Prelude.{◌≡◌, ◌<◌, ℕ, List, [], ◌++◌, length};
 ghost use Rattle.cs_wire.specs.Messages.{requests, replies, Message, Fits, spelling};

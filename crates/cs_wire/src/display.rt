@@ -53,7 +53,8 @@ fn print_times_of_stat<W: fmt::Write>(
     write!(f, " atime {atime} mtime {mtime} length {length}")
 }
 
-/// Prints a field that is a text: its name, and the text in quotation marks.
+/// Prints a field that is a text: its name, and the text in quotation marks, with escapes as `{:?}`
+/// writes them.
 fn print_text<W: fmt::Write>(f: &mut fmt::Formatter<W>, name: &str, text: &str) -> fmt::Result {
     write!(f, " {name} {text:?}")
 }
@@ -103,7 +104,7 @@ fn print_version<W: fmt::Write>(
     write!(f, " msize {msize} version {version:?}")
 }
 
-/// Prints the fields of a Tauth, which are also the last three of a Tattach: afid, uname, aname.
+/// Prints the fields of a Tauth: afid, uname and aname. They are also the last three of a Tattach.
 fn print_tauth<W: fmt::Write>(
     f: &mut fmt::Formatter<W>,
     afid: u32,
@@ -113,7 +114,7 @@ fn print_tauth<W: fmt::Write>(
     write!(f, " afid {afid} uname {uname:?} aname {aname:?}")
 }
 
-/// Prints the fields of a Twalk: two fids, and the names in brackets.
+/// Prints the fields of a Twalk: two fids, and the names in quotation marks and brackets.
 fn print_twalk<W: fmt::Write>(
     f: &mut fmt::Formatter<W>,
     fid: u32,

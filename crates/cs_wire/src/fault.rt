@@ -6,18 +6,20 @@ ghost use Rattle.cs_wire.specs.declared.fault.WireFault.TheVariants.{Memory};
 use std::alloc::{AllocError, AllocFailed};
 use std::fmt;
 
-/// The first fault of a message's bytes, from the left.
+/// Why bytes aren't a message: the first fault, in the order that `decode_request` gives.
 #[derive(Clone, Copy, Debug, PartialEq, Eq)]
 pub enum WireFault {
-    /// Fewer than 7 bytes, or a field that runs past the end.
+    /// Fewer than 7 bytes, or a field that runs past the end of the message. (Past the end of a
+    /// stat's entry it is SizeLies.)
     Short,
-    /// The size is not the number of bytes, or a stat is not as long as its sizes say.
+    /// The message's size is not the number of its bytes, or a stat's entry is not as long as its
+    /// two sizes say.
     SizeLies,
-    /// The type isn't in the table.
+    /// No row of the table has the type's number.
     UnknownType,
     /// A text is not UTF-8, or has a NUL.
     BadText,
-    /// More than 16 names, or qids, in a walk.
+    /// The count of a walk's names, or of its qids, is above 16.
     TooManyNames,
     /// There are bytes after the last field.
     Trailing,
@@ -52,7 +54,7 @@ impl From<AllocError> for WireFault {
 impl<T: Drop> From<AllocFailed<T>> for WireFault {
     ghost from_gives = { λ _ e. e ≡ Memory };
 
-    /// An allocation that fails is Memory; the value that was to be stored is dropped.
+    /// An allocation that fails is Memory. The value that needed the memory is dropped.
     fn from(_refused: AllocFailed<T>) -> WireFault {
         WireFault::Memory
     }

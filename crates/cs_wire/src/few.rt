@@ -8,7 +8,7 @@ use cs_names::limits::WALK_NAMES;
 /// The most names that a walk can have, and the most qids that its reply can have: 16.
 const PLACES: usize = WALK_NAMES as usize;
 
-/// At most 16 items, in the order that they came.
+/// At most 16 items, in the order that they came: the first `count` of `places`.
 #[derive(Drop)]
 pub(crate) struct Few<T: Copy> {
     places: [T; PLACES],

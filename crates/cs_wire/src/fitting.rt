@@ -22,7 +22,7 @@ fn size_of_u8(number: &u8) -> usize
     ensures size { size_of One number.now ≡ Some result }
     ensures small { result ≡ 1 }
 {
-    // the number is in the contract, and the result doesn't depend on it
+    // only the contract needs the number
     know(*number);
     1
 }
@@ -33,7 +33,7 @@ fn size_of_u16(number: &u16) -> usize
     ensures size { size_of Two number.now ≡ Some result }
     ensures small { result ≡ 2 }
 {
-    // as in `size_of_u8`
+    // only the contract needs the number
     know(*number);
     2
 }
@@ -44,7 +44,7 @@ fn size_of_u32(number: &u32) -> usize
     ensures size { size_of Four number.now ≡ Some result }
     ensures small { result ≡ 4 }
 {
-    // as in `size_of_u8`
+    // only the contract needs the number
     know(*number);
     4
 }
@@ -55,7 +55,7 @@ fn size_of_u64(number: &u64) -> usize
     ensures size { size_of Eight number.now ≡ Some result }
     ensures small { result ≡ 8 }
 {
-    // as in `size_of_u8`
+    // only the contract needs the number
     know(*number);
     8
 }
@@ -102,8 +102,8 @@ fn size_of_data(bytes: &[u8]) -> Option<usize>
     Some(bytes.len() + 4)
 }
 
-/// The sum of the sizes of at most 16 names, without a count before them; None if one of them can't
-/// be held.
+/// The sum of the sizes of at most 16 names, without a count before them; None if one of them is
+/// too long or has a NUL.
 fn size_of_each_name(names: &[String]) -> Option<usize>
     requires { length names.now ≤ WALK_NAMES }
     ensures size { result ≡ sizes_of (size_of Text) (names_of names.now) }
@@ -130,7 +130,7 @@ fn size_of_each_qid(qids: &[Qid]) -> usize
 }
 
 /// The size of a walk's names, with the two bytes of their count; None if there are more than 16,
-/// or if one of them can't be held.
+/// or if one of them is too long or has a NUL.
 #[tactic(auto, unfolding(crate::specs::Fields::size_of))]
 fn size_of_names(wname: &[String]) -> Option<usize>
     ensures size { result ≡ size_of (Several Text) (names_of wname.now) }
@@ -154,7 +154,8 @@ fn size_of_qids(wqid: &[Qid]) -> Option<usize>
     Some(2 + size_of_each_qid(wqid))
 }
 
-/// The size of a stat's fields, without a size before them; None if one of its texts can't be held.
+/// The size of a stat's fields, without a size before them; None if one of its texts is too long or
+/// has a NUL.
 #[tactic(auto, unfolding(crate::specs::Fields::size_of))]
 fn size_of_stat_fields(stat: &StatRef) -> Option<usize>
     ensures size { result ≡ size_of stat_shape (stat_in stat.now) }
@@ -170,8 +171,9 @@ fn size_of_stat_fields(stat: &StatRef) -> Option<usize>
     Some(numbers + times + name + users)
 }
 
-/// The size of a stat's entry, with the two bytes of its size; None if the whole is above 65,535,
-/// which a message's length of the entry can't count, or if one of its texts can't be held.
+/// The size of a stat's entry, with the two bytes of its own size. None if one of its texts is too
+/// long or has a NUL, or if the whole is above 65,535: a message gives the length of an entry in
+/// two bytes.
 fn size_of_entry(stat: &StatRef) -> Option<usize>
     ensures size { result ≡ entry_size (size_of stat_shape (stat_in stat.now)) }
     ensures small { IfSome result (λ size. size < 65536) }
@@ -208,7 +210,8 @@ macro_rules! size_of_body {
     };
 }
 
-/// The sum of the sizes of a request's fields; None if one can't hold its value.
+/// The sum of the sizes of a request's fields; None if a field can't hold its value, as the
+/// functions above say.
 #[tactic(auto, unfolding(crate::specs::Fields::size_of))]
 fn size_of_request_fields(body: &TBody<'_>) -> Option<usize>
     ensures size { result ≡ request_size body.now }
@@ -217,7 +220,8 @@ fn size_of_request_fields(body: &TBody<'_>) -> Option<usize>
     each_request!(size_of_body (body TBody))
 }
 
-/// The sum of the sizes of a reply's fields; None if one can't hold its value.
+/// The sum of the sizes of a reply's fields; None if a field can't hold its value, as the functions
+/// above say.
 #[tactic(auto, unfolding(crate::specs::Fields::size_of))]
 fn size_of_reply_fields(body: &RBody) -> Option<usize>
     ensures size { result ≡ reply_size body.now }
@@ -226,8 +230,9 @@ fn size_of_reply_fields(body: &RBody) -> Option<usize>
     each_reply!(size_of_body (body RBody))
 }
 
-/// The size of a message whose fields have this size: seven bytes more, for size, type and tag.
-/// None if `fields` is None. Of the tag only its size counts.
+/// The size of a message whose fields have this size, which is a sum of `size_of_request_fields` or
+/// `size_of_reply_fields`: seven bytes more, for size, type and tag. None if `fields` is None. The
+/// tag's number doesn't matter.
 #[tactic(auto, unfolding(crate::specs::Fields::size_of))]
 fn size_with_header(tag: &u16, fields: Option<usize>) -> Option<usize>
     requires { IfSome fields (λ size. size ≤ 4295000000) }
@@ -238,9 +243,10 @@ fn size_with_header(tag: &u16, fields: Option<usize>) -> Option<usize>
 }
 
 impl TMessage<'_> {
-    /// Whether the request has a spelling of at most 65,536 bytes: each text is shorter than 65,536
-    /// bytes and has no NUL, a walk has at most 16 names, and a stat's entry is shorter than 65,536
-    /// bytes.
+    /// Whether the request has a spelling of at most 65,536 bytes. It has none if a text has a NUL
+    /// or more than 65,535 bytes, if a walk has more than 16 names, if a stat's entry has more than
+    /// 65,535 bytes, or if its data has 2^32 bytes or more. A session's message size, which may be
+    /// smaller, isn't asked.
     pub fn fits(&self) -> bool
         ensures { result ≡ true ↔ Fits (t_view self.now) }
     {
@@ -250,7 +256,8 @@ impl TMessage<'_> {
         }
     }
 
-    /// The length of the request's spelling in bytes. The request must fit.
+    /// The length in bytes of the request's spelling, which is what `encode_request` appends, with
+    /// the four of its size. The request must fit (`fits`).
     pub fn spelled_length(&self) -> usize
         requires { Fits (t_view self.now) }
         ensures { result ≡ length (spelling (t_view self.now)) }
@@ -261,9 +268,10 @@ impl TMessage<'_> {
 }
 
 impl RMessage {
-    /// Whether the reply has a spelling of at most 65,536 bytes: each text is shorter than 65,536
-    /// bytes and has no NUL, a walk has at most 16 qids, and a stat's entry is shorter than 65,536
-    /// bytes.
+    /// Whether the reply has a spelling of at most 65,536 bytes. It has none if a text has a NUL or
+    /// more than 65,535 bytes, if a walk has more than 16 qids, if a stat's entry has more than
+    /// 65,535 bytes, or if its data has 2^32 bytes or more. A session's message size, which may be
+    /// smaller, isn't asked.
     pub fn fits(&self) -> bool
         ensures { result ≡ true ↔ Fits (r_view self.now) }
     {
@@ -273,7 +281,8 @@ impl RMessage {
         }
     }
 
-    /// The length of the reply's spelling in bytes. The reply must fit.
+    /// The length in bytes of the reply's spelling, which is what `encode_reply` appends, with the
+    /// four of its size. The reply must fit (`fits`).
     pub fn spelled_length(&self) -> usize
         requires { Fits (r_view self.now) }
         ensures { result ≡ length (spelling (r_view self.now)) }
@@ -284,15 +293,16 @@ impl RMessage {
 }
 
 impl StatRef<'_> {
-    /// Whether the stat has an entry: the entry and each text are shorter than 65,536 bytes, and no
-    /// text has a NUL.
+    /// Whether the stat has an entry (stat(5)). It has none if a text has a NUL, or if a text or
+    /// the whole has more than 65,535 bytes.
     pub fn fits(&self) -> bool
         ensures { result ≡ true ↔ IsEntry (stat_in self.now) }
     {
         size_of_entry(self).is_some()
     }
 
-    /// The length of the stat's entry in bytes, with the two of its size. The stat must fit.
+    /// The length of the stat's entry in bytes, with the two of its size (stat(5)). The stat must
+    /// fit (`fits`).
     pub fn entry_length(&self) -> usize
         requires { IsEntry (stat_in self.now) }
         ensures { result ≡ length (stat_entry (stat_in self.now)) }

@@ -1,5 +1,5 @@
 //! A stream of messages in one buffer: bytes come in pieces, and whole messages are lent from the
-//! buffer.
+//! buffer (intro(5): each begins with its size).
 
 ghost use Rattle.std.specs.Prelude.{◌≡◌, ◌≢◌, ◌+◌, ◌≤◌, ◌<◌, ℕ, List, [], ◌++◌, length, take, drop};
 ghost use Rattle.std.specs.Prelude.{vec_len, IsOk, OnOk, OnErr, MatchResult, MatchOption, IfOk};
@@ -22,7 +22,8 @@ pub enum FrameFault {
     Undersize,
     /// The next size is above MESSAGE_BYTES, 65,536.
     Oversize,
-    /// The stream ended inside a message, or before `next` gave all of its messages.
+    /// The stream ended, and bytes are left: a part of a message, or messages that `next` hasn't
+    /// given yet.
     Cut,
 }
 
@@ -120,7 +121,8 @@ impl Framer {
         }
     }
 
-    /// The bytes in the buffer, and how many of them, from the front, were given already.
+    /// The bytes in the buffer, and how many of them, from the front, `next` has given already. The
+    /// given ones go when room is made (`reserve`, `feed`, `make_room`).
     pub fn buffered(&self) -> (&[u8], usize)
         ensures bytes { result.0.now ≡ self.now.bytes }
         ensures place { result.1 ≡ self.now.place }
@@ -170,8 +172,8 @@ impl Framer {
         self.place = 0;
     }
 
-    /// The room after the bytes that came, to be written to. Call `advance` then with the number of
-    /// bytes written.
+    /// The room after the bytes that came, to be written to; `reserve` says how to get enough. What
+    /// is written counts only after `advance` with the number of bytes written.
     pub fn room(&mut self) -> &mut [u8]
         ensures* writes_back { sem 𝓛 (LendsRoom self.entry result) }
         ensures value { result.now ≡ self.old.room }
@@ -179,7 +181,8 @@ impl Framer {
         self.buffer.slice_mut(self.filled..)
     }
 
-    /// Adds the first `count` bytes of the room, which the caller wrote, to those that came.
+    /// Adds the first `count` bytes of the room, which the caller wrote, to those that came. There
+    /// must be so many in the room.
     pub fn advance(&mut self, count: usize)
         requires { count ≤ length self.old.room }
         ensures left { pending_bytes self.new ≡ pending_bytes self.old ++ take count self.old.room }

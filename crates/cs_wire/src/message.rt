@@ -8,13 +8,14 @@ use std::borrow::CowStr;
 pub struct Qid {
     /// The high byte of the file's mode.
     pub kind: u8,
-    /// Counts the changes of the file.
+    /// Changes each time that the file does.
     pub vers: u32,
     /// The file's number.
     pub path: u64,
 }
 
-/// What a stat says of a file (stat(5)).
+/// What a stat says of a file (stat(5)). In a Twstat, an empty text or a number with all bits set
+/// leaves that field as it is, and so does a qid whose three numbers have all bits set.
 #[derive(Debug, Drop)]
 pub struct Stat {
     /// For the server's kernel; 0 in each stat that this server sends.
@@ -30,6 +31,7 @@ pub struct Stat {
     pub mtime: u32,
     /// Bytes of the file, 0 for a directory.
     pub length: u64,
+    /// The file's name in its directory, `/` for the root.
     pub name: String,
     /// The owner.
     pub uid: String,
@@ -39,7 +41,8 @@ pub struct Stat {
     pub muid: String,
 }
 
-/// A request: the message of a client.
+/// A request: the message of a client. Only the data of a Twrite is borrowed from the bytes that
+/// were decoded.
 #[derive(Debug, Drop)]
 pub struct TMessage<'a> {
     /// The client's number for this request.
@@ -47,7 +50,8 @@ pub struct TMessage<'a> {
     pub body: TBody<'a>,
 }
 
-/// The fields of a request, by its type.
+/// The fields of a request, by its type. The manual page that is named at a type says what its
+/// fields mean; they are in the order of the message.
 #[derive(Debug, Drop)]
 pub enum TBody<'a> {
     /// Tversion 100, version(5).
@@ -121,7 +125,7 @@ pub enum TBody<'a> {
     },
 }
 
-/// A reply: the message of the server.
+/// A reply: the message of the server. It owns what it holds, but for texts of the program itself.
 #[derive(Drop)]
 pub struct RMessage {
     /// The tag of the request.
@@ -129,15 +133,16 @@ pub struct RMessage {
     pub body: RBody,
 }
 
-/// The fields of a reply, by its type.
+/// The fields of a reply, by its type, in the order of the message. The manual page that is named
+/// at a type says what they mean.
 #[derive(Drop)]
 pub enum RBody {
-    /// Rversion 101, version(5).
+    /// Rversion 101, version(5). The server's own texts are borrowed; a decoded one is owned.
     Version {
         msize: u32,
         version: CowStr<'static>,
     },
-    /// Rauth 103, attach(5).
+    /// Rauth 103, attach(5). This server never sends it.
     Auth {
         aqid: Qid,
     },
@@ -145,22 +150,22 @@ pub enum RBody {
     Attach {
         qid: Qid,
     },
-    /// Rerror 107, error(5).
+    /// Rerror 107, error(5): why the request was refused. Any request may have this reply.
     Error {
         ename: CowStr<'static>,
     },
     /// Rflush 109, flush(5).
     Flush,
-    /// Rwalk 111, walk(5).
+    /// Rwalk 111, walk(5): a qid for each name that was walked, which may be fewer than the names.
     Walk {
         wqid: Vec<Qid>,
     },
-    /// Ropen 113, open(5).
+    /// Ropen 113, open(5). This server's iounit is 0.
     Open {
         qid: Qid,
         iounit: u32,
     },
-    /// Rcreate 115, open(5).
+    /// Rcreate 115, open(5). This server's iounit is 0.
     Create {
         qid: Qid,
         iounit: u32,

@@ -36,8 +36,8 @@ fn read_header(bytes: &[u8]) -> Result<(u8, u16, Cursor), WireFault>
     Ok((number, tag, cursor))
 }
 
-/// The client's message that the bytes spell, or the first fault, in the order of `decode_request`,
-/// whose clauses say what that means.
+/// Reads a request, as `decode_request` does. The contract has the reading step by step; that of
+/// `decode_request`, which follows from it, has what callers need.
 #[tactic(auto, unfolding(crate::specs::Reading::message_of))]
 fn read_request(alloc: Global, bytes: &[u8]) -> Result<TMessage<'_>, WireFault>
     ensures { IsSeenAsOrMemory t_view result (message_of requests bytes.now) }
@@ -47,8 +47,8 @@ fn read_request(alloc: Global, bytes: &[u8]) -> Result<TMessage<'_>, WireFault>
     read_request_fields(alloc, kind, tag, fields)
 }
 
-/// The reply that the bytes spell, or the first fault, in the order of `decode_request`. What that
-/// means is in the clauses of `decode_reply`.
+/// Reads a reply, as `decode_reply` does. The contract has the reading step by step; that of
+/// `decode_reply`, which follows from it, has what callers need.
 #[tactic(auto, unfolding(crate::specs::Reading::message_of))]
 fn read_reply(alloc: Global, bytes: &[u8]) -> Result<RMessage, WireFault>
     ensures { IsSeenAsOrMemory r_view result (message_of replies bytes.now) }
@@ -60,17 +60,18 @@ fn read_reply(alloc: Global, bytes: &[u8]) -> Result<RMessage, WireFault>
 
 /// The client's message that the bytes spell, all of the bytes (intro(5)).
 ///
-/// Else the first fault, in this order: fewer than 7 bytes, a size that isn't their number, a type
-/// that isn't in the table, then the fields one after the other, then bytes that are left. The
-/// fault is `Memory` only if the bytes are a message with a text or a list that isn't empty: an
-/// empty one needs no allocation, and the data of a write is lent, not copied.
+/// Else the first fault, in this order: fewer than 7 bytes (Short), a size that isn't their number
+/// (SizeLies), a type that isn't in the table (UnknownType), then the fields one after the other,
+/// then bytes that are left (Trailing). Memory comes last, and only if the bytes are a message with
+/// a text or a list that isn't empty: an empty one needs no allocation, and the data of a write is
+/// lent, not copied. How long a message may be isn't checked here.
 pub fn decode_request(alloc: Global, bytes: &[u8]) -> Result<TMessage<'_>, WireFault>
-    // What is read is spelled so.
+    // The bytes are the spelling of the message that is returned.
     ensures found { IfOk result (λ m. IsMessage (t_view m) × (bytes.now ≡ spelling (t_view m))) }
-    // What is spelled so is read, unless memory runs out.
+    // The spelling of any message is read as that message, unless memory runs out.
     ensures only { (m : Message requests) → IsMessage m → bytes.now ≡ spelling m
         → Gives t_view result (Ok m) }
-    // Which fault it is.
+    // The fault is the first one of reading from the left.
     ensures exact { Gives t_view result (message_of requests bytes.now) }
     // Out of memory comes last.
     ensures memory { IsErrOf result Memory → IsOk (message_of requests bytes.now) }
@@ -80,15 +81,15 @@ pub fn decode_request(alloc: Global, bytes: &[u8]) -> Result<TMessage<'_>, WireF
     read_request(alloc, bytes)
 }
 
-/// The reply that the bytes spell, all of the bytes, or the first fault, in the order of
-/// `decode_request`. The data of an Rread is copied.
+/// The reply that the bytes spell, all of the bytes (intro(5)), or the first fault, in the order of
+/// `decode_request`. Texts, lists and the data of an Rread are copied.
 pub fn decode_reply(alloc: Global, bytes: &[u8]) -> Result<RMessage, WireFault>
-    // What is read is spelled so.
+    // The bytes are the spelling of the message that is returned.
     ensures found { IfOk result (λ m. IsMessage (r_view m) × (bytes.now ≡ spelling (r_view m))) }
-    // What is spelled so is read, unless memory runs out.
+    // The spelling of any message is read as that message, unless memory runs out.
     ensures only { (m : Message replies) → IsMessage m → bytes.now ≡ spelling m
         → Gives r_view result (Ok m) }
-    // Which fault it is.
+    // The fault is the first one of reading from the left.
     ensures exact { Gives r_view result (message_of replies bytes.now) }
     // Out of memory comes last.
     ensures memory { IsErrOf result Memory → IsOk (message_of replies bytes.now) }
@@ -98,8 +99,9 @@ pub fn decode_reply(alloc: Global, bytes: &[u8]) -> Result<RMessage, WireFault>
     read_reply(alloc, bytes)
 }
 
-/// Different messages have different spellings, and no spelling is the beginning of another: so the
-/// bytes that begin with a message's spelling begin with that of no other.
+/// A law, so a call does nothing. Different messages have different spellings, and no spelling is
+/// the beginning of another: bytes that begin with the spelling of a message begin with that of no
+/// other.
 pub fn one_spelling()
     ensures requests { (a b : Message requests) (x y : List ℕ) → IsMessage a → IsMessage b
         → spelling a ++ x ≡ spelling b ++ y → (a ≡ b) × (x ≡ y) }
@@ -107,8 +109,9 @@ pub fn one_spelling()
         → spelling a ++ x ≡ spelling b ++ y → (a ≡ b) × (x ≡ y) }
 {}
 
-/// Unless memory runs out, `decode_request` reads what `encode_request` appends to an empty `Vec`
-/// as the same message, and so does `decode_reply` with what `encode_reply` appends.
+/// A law, so a call does nothing. Unless memory runs out, `decode_request` reads what
+/// `encode_request` appends to an empty `Vec` as the same message, and so does `decode_reply` with
+/// what `encode_reply` appends.
 pub fn what_is_written_is_read()
     ensures requests { IsReadBack requests t_view }
     ensures replies { IsReadBack replies r_view }

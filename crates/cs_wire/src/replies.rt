@@ -1,5 +1,7 @@
-//! The fields of each reply. As in `requests`, they are read first, then no byte may be left, and
-//! only then are texts and lists copied. The data of a read is copied too.
+//! The fields of each reply. Each `read_` function gets the tag from the header, and a cursor with
+//! the bytes after the header, which must be exactly the fields. As in `requests`, they are read
+//! first, then no byte may be left (Trailing), and only then are texts, lists and data copied, so
+//! Memory is the last fault.
 
 ghost use Rattle.cs_wire.specs.declared.kind.RKind.TheVariants as rk;
 ghost use Rattle.cs_wire.specs.Messages.{replies, r_view};
@@ -14,7 +16,7 @@ use crate::message::{RBody, RMessage};
 use std::alloc::Global;
 use std::borrow::CowStr;
 
-/// Reads the fields of an Rversion: msize and version.
+/// Reads the fields of an Rversion: msize and version. The text is copied.
 #[tactic(auto, unfolding(crate::specs::Reading::all_of, crate::specs::Reading::field_at))]
 fn read_rversion(alloc: Global, tag: u16, mut fields: Cursor) -> Result<RMessage, WireFault>
     ensures { IsSeenAsOrMemory r_view result (all_of replies rk.Version tag fields.entry.rest.now) }
@@ -29,7 +31,7 @@ fn read_rversion(alloc: Global, tag: u16, mut fields: Cursor) -> Result<RMessage
     })
 }
 
-/// Reads the fields of an Rauth: aqid.
+/// Reads the field of an Rauth: aqid.
 #[tactic(auto, unfolding(crate::specs::Reading::all_of))]
 fn read_rauth(tag: u16, mut fields: Cursor) -> Result<RMessage, WireFault>
     ensures { IsSeenAs r_view result (all_of replies rk.Auth tag fields.entry.rest.now) }
@@ -42,7 +44,7 @@ fn read_rauth(tag: u16, mut fields: Cursor) -> Result<RMessage, WireFault>
     })
 }
 
-/// Reads the fields of an Rattach: qid.
+/// Reads the field of an Rattach: qid.
 #[tactic(auto, unfolding(crate::specs::Reading::all_of))]
 fn read_rattach(tag: u16, mut fields: Cursor) -> Result<RMessage, WireFault>
     ensures { IsSeenAs r_view result (all_of replies rk.Attach tag fields.entry.rest.now) }
@@ -55,7 +57,7 @@ fn read_rattach(tag: u16, mut fields: Cursor) -> Result<RMessage, WireFault>
     })
 }
 
-/// Reads the fields of an Rerror: ename.
+/// Reads the field of an Rerror: ename, which is copied.
 #[tactic(auto, unfolding(crate::specs::Reading::all_of))]
 fn read_rerror(alloc: Global, tag: u16, mut fields: Cursor) -> Result<RMessage, WireFault>
     ensures { IsSeenAsOrMemory r_view result (all_of replies rk.Error tag fields.entry.rest.now) }
@@ -81,7 +83,7 @@ fn read_rflush(tag: u16, fields: Cursor) -> Result<RMessage, WireFault>
     })
 }
 
-/// Reads the fields of an Rwalk: at most 16 qids.
+/// Reads the field of an Rwalk: at most 16 qids, which are copied.
 #[tactic(auto, unfolding(crate::specs::Reading::all_of, crate::specs::Reading::field_at))]
 fn read_rwalk(alloc: Global, tag: u16, mut fields: Cursor) -> Result<RMessage, WireFault>
     ensures { IsSeenAsOrMemory r_view result (all_of replies rk.Walk tag fields.entry.rest.now) }
@@ -123,7 +125,7 @@ fn read_rcreate(tag: u16, mut fields: Cursor) -> Result<RMessage, WireFault>
     })
 }
 
-/// Reads the fields of an Rread: data, which is copied.
+/// Reads the field of an Rread: data, which is copied.
 #[tactic(auto, unfolding(crate::specs::Reading::all_of, crate::specs::Reading::field_at))]
 fn read_rread(alloc: Global, tag: u16, mut fields: Cursor) -> Result<RMessage, WireFault>
     ensures { IsSeenAsOrMemory r_view result (all_of replies rk.Read tag fields.entry.rest.now) }
@@ -137,7 +139,7 @@ fn read_rread(alloc: Global, tag: u16, mut fields: Cursor) -> Result<RMessage, W
     })
 }
 
-/// Reads the fields of an Rwrite: count.
+/// Reads the field of an Rwrite: count.
 #[tactic(auto, unfolding(crate::specs::Reading::all_of, crate::specs::Reading::field_at))]
 fn read_rwrite(tag: u16, mut fields: Cursor) -> Result<RMessage, WireFault>
     ensures { IsSeenAs r_view result (all_of replies rk.Write tag fields.entry.rest.now) }
@@ -174,7 +176,7 @@ fn read_rremove(tag: u16, fields: Cursor) -> Result<RMessage, WireFault>
     })
 }
 
-/// Reads the fields of an Rstat: stat.
+/// Reads the field of an Rstat: stat. Its texts are copied.
 #[tactic(auto, unfolding(crate::specs::Reading::all_of, crate::specs::Reading::field_at))]
 fn read_rstat(alloc: Global, tag: u16, mut fields: Cursor) -> Result<RMessage, WireFault>
     ensures { IsSeenAsOrMemory r_view result (all_of replies rk.Stat tag fields.entry.rest.now) }
@@ -200,8 +202,8 @@ fn read_rwstat(tag: u16, fields: Cursor) -> Result<RMessage, WireFault>
     })
 }
 
-/// The reply of that type and tag whose fields are all of the bytes, or the first fault; Memory is
-/// the last.
+/// The reply of that type and tag whose fields are all the bytes of the cursor, or the first fault.
+/// Memory comes last, after Trailing.
 pub(crate) fn read_reply_fields(
     alloc: Global,
     kind: RKind,

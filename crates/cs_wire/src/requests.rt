@@ -1,6 +1,7 @@
-//! The fields of each request. They must be all of the bytes of the cursor: first they are read,
-//! then no byte may be left, and only then are they copied, so that Memory is the last fault. The
-//! data of a write is lent, not copied. What comes before the fields is read in `reading`.
+//! The fields of each request. Each `read_` function gets the tag from the header, and a cursor
+//! with the bytes after the header, which must be exactly the fields. First they are read, then no
+//! byte may be left (Trailing), and only then are they copied, so Memory is the last fault. What
+//! comes before the fields is read in `reading`.
 
 ghost use Rattle.cs_wire.specs.declared.kind.TKind.TheVariants as tk;
 ghost use Rattle.cs_wire.specs.Messages.{requests, t_view};
@@ -14,7 +15,7 @@ use crate::kind::TKind;
 use crate::message::{TBody, TMessage};
 use std::alloc::Global;
 
-/// Reads the fields of a Tversion: msize and version.
+/// Reads the fields of a Tversion: msize and version. The text is copied.
 #[tactic(auto, unfolding(crate::specs::Reading::all_of, crate::specs::Reading::field_at))]
 fn read_tversion(alloc: Global, tag: u16, mut fields: Cursor<'_>) -> Result<TMessage<'_>, WireFault>
     ensures { IsSeenAsOrMemory t_view result
@@ -30,7 +31,7 @@ fn read_tversion(alloc: Global, tag: u16, mut fields: Cursor<'_>) -> Result<TMes
     Ok(TMessage { tag, body })
 }
 
-/// Reads the fields of a Tauth: afid, uname and aname.
+/// Reads the fields of a Tauth: afid, uname and aname. The texts are copied.
 #[tactic(auto, unfolding(crate::specs::Reading::all_of, crate::specs::Reading::field_at))]
 fn read_tauth(alloc: Global, tag: u16, mut fields: Cursor<'_>) -> Result<TMessage<'_>, WireFault>
     ensures { IsSeenAsOrMemory t_view result (all_of requests tk.Auth tag fields.entry.rest.now) }
@@ -47,7 +48,7 @@ fn read_tauth(alloc: Global, tag: u16, mut fields: Cursor<'_>) -> Result<TMessag
     Ok(TMessage { tag, body })
 }
 
-/// Reads the fields of a Tattach: fid, afid, uname and aname.
+/// Reads the fields of a Tattach: fid, afid, uname and aname. The texts are copied.
 #[tactic(auto, unfolding(crate::specs::Reading::all_of, crate::specs::Reading::field_at))]
 fn read_tattach(alloc: Global, tag: u16, mut fields: Cursor<'_>) -> Result<TMessage<'_>, WireFault>
     ensures { IsSeenAsOrMemory t_view result (all_of requests tk.Attach tag fields.entry.rest.now) }
@@ -79,7 +80,7 @@ fn read_tflush(tag: u16, mut fields: Cursor<'_>) -> Result<TMessage<'_>, WireFau
     })
 }
 
-/// Reads the fields of a Twalk: fid, newfid, and at most 16 names.
+/// Reads the fields of a Twalk: fid, newfid, and at most 16 names, which are copied.
 #[tactic(auto, unfolding(crate::specs::Reading::all_of, crate::specs::Reading::field_at))]
 fn read_twalk(alloc: Global, tag: u16, mut fields: Cursor<'_>) -> Result<TMessage<'_>, WireFault>
     ensures { IsSeenAsOrMemory t_view result (all_of requests tk.Walk tag fields.entry.rest.now) }
@@ -110,7 +111,7 @@ fn read_topen(tag: u16, mut fields: Cursor<'_>) -> Result<TMessage<'_>, WireFaul
     })
 }
 
-/// Reads the fields of a Tcreate: fid, name, perm and mode.
+/// Reads the fields of a Tcreate: fid, name, perm and mode. The name is copied.
 #[tactic(auto, unfolding(crate::specs::Reading::all_of, crate::specs::Reading::field_at))]
 fn read_tcreate(alloc: Global, tag: u16, mut fields: Cursor<'_>) -> Result<TMessage<'_>, WireFault>
     ensures { IsSeenAsOrMemory t_view result (all_of requests tk.Create tag fields.entry.rest.now) }
@@ -144,7 +145,8 @@ fn read_tread(tag: u16, mut fields: Cursor<'_>) -> Result<TMessage<'_>, WireFaul
     })
 }
 
-/// Reads the fields of a Twrite: fid, offset, and data, which is lent from the bytes.
+/// Reads the fields of a Twrite: fid, offset, and data, which is lent from the bytes and not
+/// copied.
 #[tactic(auto, unfolding(crate::specs::Reading::all_of, crate::specs::Reading::field_at))]
 fn read_twrite(tag: u16, mut fields: Cursor<'_>) -> Result<TMessage<'_>, WireFault>
     ensures { IsSeenAs t_view result (all_of requests tk.Write tag fields.entry.rest.now) }
@@ -198,7 +200,7 @@ fn read_tstat(tag: u16, mut fields: Cursor<'_>) -> Result<TMessage<'_>, WireFaul
     })
 }
 
-/// Reads the fields of a Twstat: fid and stat.
+/// Reads the fields of a Twstat: fid and stat. The texts of the stat are copied.
 #[tactic(auto, unfolding(crate::specs::Reading::all_of, crate::specs::Reading::field_at))]
 fn read_twstat(alloc: Global, tag: u16, mut fields: Cursor<'_>) -> Result<TMessage<'_>, WireFault>
     ensures { IsSeenAsOrMemory t_view result (all_of requests tk.Wstat tag fields.entry.rest.now) }
@@ -213,8 +215,8 @@ fn read_twstat(alloc: Global, tag: u16, mut fields: Cursor<'_>) -> Result<TMessa
     Ok(TMessage { tag, body })
 }
 
-/// The request of that type and tag whose fields are all of the bytes, or the first fault; Memory
-/// is the last.
+/// The request of that type and tag whose fields are all the bytes of the cursor, or the first
+/// fault. Memory comes last, after Trailing.
 pub(crate) fn read_request_fields(
     alloc: Global,
     kind: TKind,

@@ -8,7 +8,8 @@ use crate::copying::copy_text;
 use crate::message::{Qid, Stat};
 use std::alloc::{AllocError, Global};
 
-/// A stat as `Stat` is, field by field, but with borrowed texts (stat(5)).
+/// A stat with borrowed texts. Its fields are those of `Stat`, whose comments say what they mean
+/// (stat(5)).
 #[derive(Clone, Copy)]
 pub struct StatRef<'a> {
     pub kind: u16,
@@ -25,7 +26,9 @@ pub struct StatRef<'a> {
 }
 
 impl StatRef<'_> {
-    /// The same stat, with its texts copied. It allocates only for a text that isn't empty.
+    /// The same stat, with its texts copied. It allocates only for a text that isn't empty. After
+    /// an error nothing is left of the copies. (`copy_stat` of cs_permit lists the same fields:
+    /// change both.)
     pub fn to_stat(&self, alloc: Global) -> Result<Stat, AllocError>
         ensures same { IfOk result (λ copy. stat_of copy ≡ stat_in self.now) }
         ensures grows { OnErr result (holds_bytes stat_shape (stat_in self.now) ≡ true) }
@@ -47,7 +50,7 @@ impl StatRef<'_> {
 }
 
 impl Stat {
-    /// The same stat, with its texts borrowed.
+    /// The same stat, with its texts borrowed. It allocates nothing.
     pub fn as_stat_ref(&self) -> StatRef<'_>
         ensures { stat_in result ≡ stat_of self.now }
     {

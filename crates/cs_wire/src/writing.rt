@@ -18,7 +18,7 @@ use crate::stat::StatRef;
 use crate::table::{each_reply, each_request};
 use std::alloc::AllocError;
 
-/// Appends the bytes, without their count.
+/// Appends the bytes, without their count. The caller has reserved room for them.
 fn put_bytes(out: &mut Vec<u8>, bytes: &[u8])
     requires { vec_len out.old + length bytes.now ≤ vec_capacity out.old }
     ensures items { out.new.items ≡ out.old.items ++ bytes.now }
@@ -99,7 +99,7 @@ fn put_qid(out: &mut Vec<u8>, qid: &Qid)
     put_u64(out, qid.path);
 }
 
-/// Appends the names one after the other, without a count before them.
+/// Appends the names one after the other, each after its length, without a count before them.
 fn put_each_name(out: &mut Vec<u8>, names: &[String])
     requires fits { AllByRecursion (IsIn Text) (names_of names.now) }
     requires room { vec_len out.old + length (flat_map (bytes_of_field Text) (names_of names.now))
@@ -292,14 +292,14 @@ macro_rules! number_of_body {
     };
 }
 
-/// The number of the request's type.
+/// The number of the request's type, such as 110 for a Twalk.
 fn request_type(body: &TBody<'_>) -> u8
     ensures { result ≡ request_number body.now }
 {
     each_request!(number_of_body (body TBody))
 }
 
-/// The number of the reply's type.
+/// The number of the reply's type, such as 111 for an Rwalk.
 fn reply_type(body: &RBody) -> u8
     ensures { result ≡ reply_number body.now }
 {
@@ -320,8 +320,9 @@ fn put_header(out: &mut Vec<u8>, size: u32, number: u8, tag: u16)
     put_u16(out, tag);
 }
 
-/// Appends the only spelling of the reply (intro(5)). The reply must fit. If `out` has room, the
-/// call allocates nothing and succeeds. If memory runs out, the bytes in `out` are unchanged.
+/// Appends the only spelling of the reply (intro(5)). The reply must fit (`fits`). If `out` has
+/// room, the call allocates nothing and succeeds. If memory runs out, the bytes in `out` are
+/// unchanged.
 pub fn encode_reply(message: &RMessage, out: &mut Vec<u8>) -> Result<(), AllocError>
     requires { Fits (r_view message.now) }
     ensures ok { OnOk result (out.new.items ≡ out.old.items ++ spelling (r_view message.now)) }
@@ -337,8 +338,9 @@ pub fn encode_reply(message: &RMessage, out: &mut Vec<u8>) -> Result<(), AllocEr
     Ok(())
 }
 
-/// Appends the only spelling of the request (intro(5)). The request must fit. If `out` has room,
-/// the call allocates nothing and succeeds. If memory runs out, the bytes in `out` are unchanged.
+/// Appends the only spelling of the request (intro(5)). The request must fit (`fits`). If `out` has
+/// room, the call allocates nothing and succeeds. If memory runs out, the bytes in `out` are
+/// unchanged.
 pub fn encode_request(message: &TMessage<'_>, out: &mut Vec<u8>) -> Result<(), AllocError>
     requires { Fits (t_view message.now) }
     ensures ok { OnOk result (out.new.items ≡ out.old.items ++ spelling (t_view message.now)) }
@@ -355,8 +357,9 @@ pub fn encode_request(message: &TMessage<'_>, out: &mut Vec<u8>) -> Result<(), A
 }
 
 impl StatRef<'_> {
-    /// Appends the bytes of the stat's entry (stat(5)). The stat must fit. If `out` has room, the
-    /// call allocates nothing and succeeds. If memory runs out, the bytes in `out` are unchanged.
+    /// Appends the bytes of the stat's entry, as a read of a directory has them (stat(5)). The stat
+    /// must fit (`fits`). If `out` has room, the call allocates nothing and succeeds. If memory
+    /// runs out, the bytes in `out` are unchanged.
     pub fn encode_entry(&self, out: &mut Vec<u8>) -> Result<(), AllocError>
         requires { IsEntry (stat_in self.now) }
         ensures ok { OnOk result (out.new.items ≡ out.old.items ++ stat_entry (stat_in self.now)) }

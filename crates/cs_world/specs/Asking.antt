@@ -49,7 +49,7 @@ attach_answer registry place pair = (AttachAnswer pair.0, with_run_at registry p
 abbrev pub call_answer : Registry RunOf → ℕ → Answer × RunOf → PortAnswer × Registry RunOf
 call_answer registry place pair = (CallAnswer pair.0, with_run_at registry place pair.1)
 
--- the answer to a question in which memory refuses that growth, and the registry then
+-- the answer to a question in which the allocation that the mark names fails, and the registry then
 abbrev pub answer_of_runs : Registry RunOf → Question → RunMark → PortAnswer × Registry RunOf
 answer_of_runs registry (FindRun state_name run_name) mark =
     found_by registry mark (key_in state_name run_name)
@@ -61,7 +61,7 @@ answer_of_runs registry (CallOn now place pass call) mark =
     (λ run. call_answer registry place (call_on run now pass call (step_mark_of mark)))
     (held_at registry.runs place) (CallAnswer (Denied S5), registry)
 
--- the answer is the definition's, with or without a growth refused
+-- the answer is the definition's, whether an allocation fails or none
 abbrev pub IsGiven : Registry RunOf → Question → PortAnswer → Registry RunOf → Type 0
 IsGiven registry question answer after =
     (mark : RunMark) × ((answer, after) ≡ answer_of_runs registry question mark)

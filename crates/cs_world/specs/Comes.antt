@@ -36,8 +36,8 @@ pub data ConnectionStepComesTo (world : World) (conn now : ℕ) (step : SessionS
       → first_move_by now (session_at world conn) step refused ≡ Done own_reply session
       → reply ≡ Connection own_reply → after ≡ with_both world conn session world.registry
       → ConnectionStepComesTo world conn now step refused reply after
-  -- the registry is asked for a run, and memory may refuse that growth; the connection goes on from
-  -- its answer, as from those below
+  -- the registry is asked for a run, and the allocation that the mark names may fail; the
+  -- connection continues from its answer, as from those below
   AsksRegistry : (state_name run_name : List ℕ) (mark : RunMark)
       → first_move_by now (session_at world conn) step refused ≡ Asks (FindRun state_name run_name)
       → (reply, after) ≡ continued_from world conn step

@@ -11,7 +11,7 @@ session_step (Call message) = session.CallStep message
 session_step (Close fid) = session.CloseStep fid
 session_step (Table change) = session.Table change
 
--- and back
+-- a session's step as a step of a connection of a world
 abbrev pub connection_step : session.Step → ConnectionStep
 connection_step (session.FindStep message) = Find message
 connection_step session.AttachStep = Attach

@@ -104,7 +104,7 @@ CanBeAsked registry (CallOn now place pass call) =
     IsSomeAnd (held_at registry.runs place) (λ run. (pass < run.passes)
     × (IsSome (closed_open_number call) → is_full (state_of run) pass call ≡ false))
 
--- likewise for all that a connection asks
+-- whatever a connection asks in its next step, what the question needs is there
 abbrev pub AsksWhatCanBeAsked : World → ℕ → Type 0
 AsksWhatCanBeAsked world conn =
     (now : ℕ) (step : SessionStep) (refused : Bool) (question : Question)

@@ -31,7 +31,8 @@ pub record HasEntry (run : RunOf) (entry : EntryOf) (answer : Answer) (run' : Ru
 abbrev pub failing_rule_of : RunOf → Call → Option RuleId
 failing_rule_of run call = failing_rule (rules_view_of (state_of run)) call
 
--- one of five ends; `want` of the theorem says whether memory was refused
+-- a call on a run ends in one of five ways; `want` of `StepIsJudged` says whether memory was
+-- refused
 pub data CallComesTo (run : RunOf) (now pass : ℕ) (call : Call) (answer : Answer) (run' : RunOf)
     : Type 0 where
   -- no room in the journal: nothing changes

@@ -25,7 +25,7 @@ abbrev pub run_after : World → List (Step × WorldMark) → Key → Option Run
 run_after world marked key = run_with_key (steps_of world marked).1.registry key
 
 -- the list of users at the time of the first granted find of a key, which made its run; none if no
--- find of it was granted. Of steps from a world in which it has no run
+-- find of it was granted. The steps must begin in a world in which the key has no run
 abbrev pub users_made_with : World → List (Step × WorldMark) → Key → Option (List Row)
 users_made_with world [] key = None
 users_made_with world (one ∷ rest) key =
@@ -36,7 +36,7 @@ users_made_with world (one ∷ rest) key =
 -- ---- a run is what reached it
 
 -- the run has the users of its first granted find; and it is the fresh run of its state, with
--- these, after the calls alone that reached it, which are answered as they are there
+-- these, after only the calls that reached it, which are answered as they are there
 pub record IsAlone (world : World) (marked : List (Step × WorldMark)) (key : Key) (run : RunOf)
     : Type 0 where
   pub users : users_made_with world marked key ≡ Some run.users
@@ -87,7 +87,7 @@ pub record IsSameWithoutSecond (first : ℕ → Bool) (world : World)
 
 -- ---- the three laws
 
--- of steps from a new world, each with the growth that memory refuses in it
+-- of steps from a new world, each with the allocation that fails in it
 pub record NoneReachesAnother (world : World) (marked : List (Step × WorldMark)) : Type 0 where
   -- each run that was found is what reached it
   pub alone : (key : Key) (run : RunOf) → run_after world marked key ≡ Some run
@@ -106,15 +106,15 @@ pub record NoneReachesAnother (world : World) (marked : List (Step × WorldMark)
 
 -- ---- of a list that was run
 
--- memory refuses a growth only in steps whose replies say so
+-- an allocation fails only in steps whose replies say so
 abbrev pub RefusesOnlyWhereTold : World → List (Step × WorldMark) → Type 0
 RefusesOnlyWhereTold world [] = Unit {0}
 RefusesOnlyWhereTold world (one ∷ rest) =
     (says_out_of_memory (step_of world one.0 one.1).0 ≡ false → one.1 ≡ nothing_refused)
     × RefusesOnlyWhereTold (step_of world one.0 one.1).1 rest
 
--- the steps have these replies and lead there, with marks that `taken` has, one a step; of these
--- memory refuses a growth only if the reply says so; and no run reaches another
+-- the steps have these replies and lead there, with marks that `taken` has, one a step; of these an
+-- allocation fails only if the reply says so; and no run reaches another
 pub record IsIsolated (world : World) (steps : List Step) (replies : List Reply) (after : World)
     : Type 0 where
   pub taken : IsStepList world steps replies after

@@ -29,7 +29,7 @@ use Rattle.cs_world.specs.Worlds.{World, session_at}
 abbrev pub reply_before : Reply → List Reply × World → List Reply × World
 reply_before reply rest = (reply ∷ rest.0, rest.1)
 
--- the replies to steps, each with the growth that memory refuses in it, and the world then
+-- the replies to steps, each with the allocation that fails in it, and the world then
 abbrev pub steps_of : World → List (Step × WorldMark) → List Reply × World
 steps_of world [] = ([], world)
 steps_of world (one ∷ rest) =
@@ -56,9 +56,9 @@ step_on conn now step = On conn now (connection_step step)
 abbrev pub steps_on : ℕ → ℕ → List (SessionStep × WorldMark) → List (Step × WorldMark)
 steps_on conn now marked = map (λ one. (step_on conn now one.0, one.1)) marked
 
--- a message's own steps on a connection, each with its mark: each is the one that it takes next
--- in the world that those before it led to, another follows exactly if the message goes on, and the
--- last one's reply is the message's
+-- a message's own steps on a connection, each with its mark: each is the one that it takes next in
+-- the world that those before it led to, another follows exactly if the message isn't answered yet,
+-- and the last one's reply is the message's
 abbrev pub AreOwnSteps : Message → ℕ → ℕ → World → List (SessionStep × WorldMark) → SessionReply
     → Type 0
 AreOwnSteps message conn now world [] reply = ⊥

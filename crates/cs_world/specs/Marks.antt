@@ -1,4 +1,4 @@
--- The growth that memory refuses in a step, as data: one that the step doesn't reach counts for
+-- The allocation that fails in a step, as data. A mark of one that the step doesn't make changes
 -- nothing.
 use Rattle.std.specs.Prelude.{Bool, true, false}
 use Rattle.cs_journal.specs.Marks.{StepMark, Ample}
@@ -34,7 +34,7 @@ abbrev pub refuses_own : WorldMark → Bool
 refuses_own NoOwn = true
 refuses_own other = false
 
--- what is left of it for the runs
+-- what of the mark is about a run
 abbrev pub run_mark_of : WorldMark → RunMark
 run_mark_of (Below mark) = mark
 run_mark_of other = InRun Ample
@@ -47,7 +47,7 @@ abbrev pub refuses_pass : RunMark → Bool
 refuses_pass NoPass = true
 refuses_pass other = false
 
--- what is left of it for a call in a run
+-- what of the mark is about a call in a run
 abbrev pub step_mark_of : RunMark → StepMark
 step_mark_of (InRun mark) = mark
 step_mark_of other = Ample

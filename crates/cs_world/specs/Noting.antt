@@ -12,7 +12,7 @@ use Rattle.cs_world.specs.Questions.{question_of_step}
 use Rattle.cs_world.specs.Steps.{step_of}
 use Rattle.cs_world.specs.Worlds.{World, new_world}
 
--- the world that it is
+-- the watched world as a world: what it notes is left out
 abbrev pub world_in : WatchedWorld → World
 world_in watching =
     record { registry = watching.watched.runs; connections = watching.sessions.items }

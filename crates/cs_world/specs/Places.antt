@@ -21,7 +21,7 @@ fids_with_places place fids = map_values (entry_with_places place) fids
 abbrev pub awaited_with_places : (ℕ → ℕ) → Awaited → Awaited
 awaited_with_places place awaited = record awaited { run = place awaited.run }
 
--- so has each run of a connection, and nothing else is different
+-- each run of the connection has another place, and nothing else is different
 abbrev pub with_places : (ℕ → ℕ) → SessionState → SessionState
 with_places place session = record {
   msize = session.msize;

@@ -53,12 +53,12 @@ port_says_out_of_memory (AttachAnswer (Ok given)) = answer_says_out_of_memory gi
 port_says_out_of_memory (CallAnswer answer) = answer_says_out_of_memory answer
 port_says_out_of_memory answer = false
 
--- the growth that memory refused: a mark counts only if the answer says out of memory
+-- the allocation that failed: a mark counts only if the answer says out of memory
 abbrev pub mark_that_counts : PortAnswer → RunMark → RunMark
 mark_that_counts answer mark = if port_says_out_of_memory answer then mark else InRun Ample
 
--- what a question puts to the run of a key: an attach, or another call, with the growth that
--- memory refused, if any
+-- what a question puts to the run of a key: an attach, or another call, with the allocation that
+-- failed, if one did
 abbrev pub put_to : Registry RunOf → Key → Question → RunMark → List (RunCall × RunMark)
 put_to registry key (FindRun state_name run_name) mark = []
 put_to registry key (AttachTo now place call) mark =
@@ -92,8 +92,8 @@ answers_by world key mark asked =
     option_map_or (λ question. answers_there world.registry key question (run_mark_of mark)) asked
     []
 
--- the calls of a list of steps that reach the run of a key, each with the growth that memory
--- refused, if any
+-- the calls of a list of steps that reach the run of a key, each with the allocation that failed,
+-- if one did
 abbrev pub projection_of : World → List (Step × WorldMark) → Key → List (RunCall × RunMark)
 projection_of world [] key = []
 projection_of world (one ∷ rest) key =

@@ -14,14 +14,14 @@ abbrev pub question_of_move : FirstMove → Option Question
 question_of_move (Done reply session) = None
 question_of_move (Asks question) = Some question
 
--- of a step of a connection
+-- the question of a step of a connection, if it asks one
 abbrev pub question_on : World → ℕ → ℕ → SessionStep → WorldMark → Option Question
 question_on world conn now step mark =
     if nat_lt conn CONNECTIONS
     then question_of_move (first_move_by now (session_at world conn) step (refuses_own mark))
     else None
 
--- of any step: a publish and a reload ask nothing
+-- the question of any step, if it asks one: a publish and a reload ask nothing
 abbrev pub question_of_step : World → Step → WorldMark → Option Question
 question_of_step world (On conn now step) mark =
     question_on world conn now (session_step step) mark

@@ -18,7 +18,7 @@ IsRepliedOn world conn now bytes wire_reply after =
     IsReplied IsGiven now bytes (session_at world conn) world.registry wire_reply
     (session_at after conn) after.registry
 
--- a message has this reply on it
+-- a message has this reply on that connection, and leads there
 abbrev pub IsAnsweredOn : World → ℕ → ℕ → Message → SessionReply → World → Type 0
 IsAnsweredOn world conn now message reply after =
     IsAnswered IsGiven now message (session_at world conn) world.registry reply

@@ -26,7 +26,7 @@ answer_and_run stepped = (stepped.answer, stepped.run)
 abbrev pub run_step : RunOf → ℕ → ℕ → Call → StepMark → Answer × RunOf
 run_step run now pass call mark = answer_and_run (step run (fresh_pass pass) now call mark)
 
--- under a pass that the run gave
+-- a call under a pass that the run gave; S5 if it gave no such pass
 abbrev pub call_on : RunOf → ℕ → ℕ → Call → StepMark → Answer × RunOf
 call_on run now pass call mark =
     if nat_lt pass run.passes then run_step run now pass call mark else (Denied S5, run)

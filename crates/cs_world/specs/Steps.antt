@@ -1,5 +1,4 @@
--- A step of a world, as a function of the growth that memory refuses: its reply, and the world
--- then.
+-- A step of a world, as a function of the allocation that fails: its reply, and the world then.
 use Rattle.std.specs.Prelude.{◌≡◌, ℕ, nat_lt, if◌then◌else◌}
 use Rattle.cs_names.specs.declared.limits.TheConstants.{CONNECTIONS}
 use Rattle.cs_names.specs.declared.rule_id.RuleId.TheVariants.{S5}
@@ -29,7 +28,7 @@ abbrev pub reply_and_world : World → ℕ → Registry RunOf → SessionReply �
 reply_and_world world conn registry pair =
     (Connection pair.0, with_both world conn pair.1 registry)
 
--- the connection goes on from the answer
+-- the connection continues from the answer
 abbrev pub continued_from : World → ℕ → SessionStep → PortAnswer × Registry RunOf → Reply × World
 continued_from world conn step answer =
     reply_and_world world conn answer.1 (after_answer (session_at world conn) step answer.0)
@@ -59,6 +58,6 @@ step_of world (Publish number) mark = by_registry world (publish_step world.regi
 step_of world (Reload users) mark = by_registry world (reload_step world.registry users mark)
 step_of world (On conn now step) mark = on_connection world conn now (session_step step) mark
 
--- with some mark
+-- the step has this reply and leads there if memory refuses what some mark says
 abbrev pub IsStep : World → Step → Reply → World → Type 0
 IsStep world step reply after = (mark : WorldMark) × ((reply, after) ≡ step_of world step mark)

@@ -44,7 +44,7 @@ StepComesTo world (On conn now step) mark reply after =
     ConnectionStepComesTo world conn now (session_step step) (refuses_own mark) reply after
 StepComesTo world other mark reply after = (reply, after) ≡ step_of world other mark
 
--- a step, in which memory refuses the growth of its mark, has that reply and leads there
+-- a step, in which the allocation that its mark names fails, has that reply and leads there
 pub record StepIsJudged (world : World) (step : Step) (mark : WorldMark) (reply : Reply)
     (after : World) : Type 0 where
   pub comes : StepComesTo world step mark reply after
@@ -61,7 +61,7 @@ pub record StepIsJudged (world : World) (step : Step) (mark : WorldMark) (reply 
       → first_move_by now (session_at world conn) (session_step own) (refuses_own mark)
       ≡ Done (Error rule) left
       → IsFirstToFail (own_rules now (session_at world conn) (session_step own)) rule
-  -- the reply says out of memory exactly if a growth was refused
+  -- the reply says out of memory exactly if an allocation failed
   pub want : (says_out_of_memory reply ≡ false) ↔ (mark ≡ nothing_refused)
   -- no run changes except the one that it asks or finds, and the scene stays
   pub others : (place : ℕ) → run_asked_or_found_by world step mark ≢ Some place

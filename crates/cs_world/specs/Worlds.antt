@@ -22,7 +22,7 @@ new_world scene users = record {
 abbrev pub session_at : World → ℕ → SessionState
 session_at world conn = slice_index_or world.connections conn (empty_session None)
 
--- with that connection, and these runs
+-- the world with this connection under that number, and these runs
 abbrev pub with_both : World → ℕ → SessionState → Registry RunOf → World
 with_both world conn session registry =
     record { registry = registry; connections = slice_set world.connections conn session }

@@ -96,8 +96,8 @@ pub fn messages_are_steps()
         steps_of world (ones ++ others) ≡ follow_on (steps_of world ones) others }
 {}
 
-/// A step whose reply doesn't say out of memory is the same as if memory refused nothing; and in a
-/// consistent world, if memory refuses nothing, the reply doesn't say out of memory.
+/// A step whose reply doesn't say out of memory is the same as if no allocation had failed. In a
+/// consistent world, if no allocation fails, the reply doesn't say out of memory.
 pub fn only_out_of_memory_differs()
     ensures differs { (world : World) (step : Step) (mark : WorldMark) →
         says_out_of_memory (step_of world step mark).0 ≡ false →
@@ -106,12 +106,12 @@ pub fn only_out_of_memory_differs()
         says_out_of_memory (step_of world step nothing_refused).0 ≡ false }
 {}
 
-/// No run reaches another: three laws of every list of steps from a new world, whichever growths
-/// memory refuses in them. Each run is a fresh one with the users of the time of its first granted
-/// find, after the calls that reached it. The same calls to a run with the same users leave the
-/// same run. Of two groups of connections that find no run in common, the first doesn't notice the
-/// second, if no find meets the limit of runs. The laws also hold for what `step`, `message` and
-/// `hang_up` result in, one after the other.
+/// No run reaches another: three laws of every list of steps from a new world, whichever
+/// allocations fail in them. Each run is a fresh one with the users of the time of its first
+/// granted find, after the calls that reached it. The same calls to a run with the same users leave
+/// the same run. Of two groups of connections that find no run in common, the first doesn't notice
+/// the second, if no find meets the limit of runs. The laws also hold for what `step`, `message`
+/// and `hang_up` result in, one after the other.
 pub fn no_run_reaches_another()
     ensures { (scene : Scene) (users : List Row) (marked : List (Step × WorldMark)) →
         NoneReachesAnother (new_world scene users) marked }

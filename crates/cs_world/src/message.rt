@@ -41,11 +41,11 @@ fn out_of_turn_reply(bytes: &[u8]) -> RMessage
 }
 
 impl World {
-    /// Answers one message of a connection, of at least 7 bytes, at the moment `now`: takes the
-    /// message's steps, one after the other. The reply is that of the last, with the message's tag;
-    /// it is an Rerror with the first rule that fails, or because memory ran out (error(5)). S5,
-    /// and nothing changes, while a run awaits its attach: the connection can't take a message's
-    /// steps then. No other connection changes.
+    /// Answers one message of the connection `conn`, below CONNECTIONS, which must have at least 7
+    /// bytes, at the moment `now`: takes the message's steps, one after the other. The reply is
+    /// that of the last, with the message's tag; it is an Rerror with the first rule that fails, or
+    /// because memory ran out (error(5)). S5, and nothing changes, while a run awaits its attach:
+    /// the connection can't take a message's steps then. No other connection changes.
     pub fn message(&mut self, alloc: Global, conn: u32, now: u32, bytes: &[u8]) -> RMessage
         requires connection { conn < CONNECTIONS }
         requires whole { 7 ≤ length bytes.now }
@@ -67,9 +67,9 @@ impl World {
         session.reply(alloc, &mut self.runs, now, bytes)
     }
 
-    /// Ends a connection at the moment `now`: its open fids are closed, the least number first, and
-    /// then all are freed (intro(5)). The reply is Closed. S5, and nothing changes, while a run
-    /// awaits its attach. No other connection changes.
+    /// Ends the connection `conn`, below CONNECTIONS, at the moment `now`: its open fids are
+    /// closed, the least number first, and then all are freed (intro(5)). The reply is Closed. S5,
+    /// and nothing changes, while a run awaits its attach. No other connection changes.
     pub fn hang_up(&mut self, alloc: Global, conn: u32, now: u32) -> Reply
         requires connection { conn < CONNECTIONS }
         ensures closed { (session_at self.old conn).awaited ≡ None →

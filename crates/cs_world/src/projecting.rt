@@ -1,5 +1,5 @@
 //! The calls of a list of steps that reach one run, found by taking the steps in a world that notes
-//! them.
+//! them. Library surface: no command calls `World::project`.
 ghost use Rattle.std.specs.Prelude.{◌≡◌, IfOk, length};
 ghost use Rattle.std.specs.Arc.{arc_value};
 ghost use Rattle.cs_names.specs.declared.limits.TheConstants.{CONNECTIONS};
@@ -26,13 +26,15 @@ use std::sync::Arc;
 /// A world that notes the calls which reach the run of one key.
 #[derive(Drop)]
 pub(crate) struct WatchedWorld {
+    /// Its states and runs, and the calls so far.
     watched: WatchedRuns,
+    /// CONNECTIONS of them, by number.
     sessions: Vec<Session>,
 }
 
 impl WatchedWorld {
     /// A new world of this scene and these users, which notes the calls that reach the run of the
-    /// key: none has yet.
+    /// key: none has yet. The error is out of memory.
     fn new(
         alloc: Global,
         scene: Arc<Scene>,
@@ -54,7 +56,8 @@ impl WatchedWorld {
     }
 
     /// Takes a step as `World::take_step` does, and notes the call that reaches the run of the key,
-    /// if one does.
+    /// if one does. It is that function's twin: change both. The world has all CONNECTIONS
+    /// connections, before and afterwards.
     fn step(&mut self, alloc: Global, step: Step) -> Reply
         requires all { length self.old.sessions.items ≡ CONNECTIONS }
         ensures all { length self.new.sessions.items ≡ CONNECTIONS }
@@ -69,7 +72,8 @@ impl WatchedWorld {
 
     /// Takes a step of a connection as `World::take_connection_step` does, and notes the call that
     /// reaches the run of the key, if one does. S5, and nothing changes, if no connection has the
-    /// number.
+    /// number. It is that function's twin: change both. The world has all CONNECTIONS connections,
+    /// before and afterwards.
     fn take_connection_step(
         &mut self,
         alloc: Global,
@@ -89,8 +93,9 @@ impl WatchedWorld {
 }
 
 impl World {
-    /// A new world of the same scene and users, which notes the calls that reach the run of the
-    /// key.
+    /// A new world of the same scene and of the users loaded last, which notes the calls that reach
+    /// the run of the key. The error is out of memory, or that the scene or the users have as many
+    /// handles as can be.
     fn new_watched(&self, alloc: Global, key: RunKey) -> Result<WatchedWorld, AllocError>
         ensures { IfOk result (λ world.
             IsStart self.now.registry.scene self.now.registry.users key world) }
@@ -101,10 +106,11 @@ impl World {
         WatchedWorld::new(alloc, scene, users, key)
     }
 
-    /// The calls of a list of steps that reach one run, of that name and of the state of that
-    /// number, each with its pass and its moment. The steps are taken in a new world of this one's
-    /// scene and users, and reloads count too. Memory refuses nothing there: an error means that an
-    /// allocation failed. This world is unchanged.
+    /// Library surface: no command calls it. The calls of a list of steps that reach one run, of
+    /// that name and of the state of that number, each with its pass and its moment, in order. The
+    /// steps are taken in a new world of this one's scene and users, and reloads count too. The
+    /// error is out of memory in that world or for the result: so the calls are those of a world in
+    /// which no allocation fails. This world is unchanged.
     pub fn project(
         &self,
         alloc: Global,

@@ -18,11 +18,13 @@ use std::alloc::{AllocError, Global};
 use std::marker::Model;
 use std::sync::Arc;
 
-/// A run, with the passes that it gave, each at the place of its number. Contracts see the run, as
-/// its journal has it.
+/// A run, with the passes that it gave, each at the place of its number. (In a server each
+/// connection has its own passes.) Contracts see the run, as its journal has it.
 #[derive(Drop)]
 pub struct RunWithPasses {
+    /// The run and its journal.
     run: Run<Built>,
+    /// At the place of a pass's number, the pass as it is now.
     passes: Vec<Pass>,
 }
 
@@ -49,7 +51,8 @@ impl Held for RunWithPasses {
     ghost is_fresh = { λ key tree users run. run ≡ fresh_run tree users };
 
     /// A run over the state `lower`, with these users, that has given no pass. The key isn't used,
-    /// because the registry keeps it: it is a parameter for runs that hold their own key.
+    /// because the registry keeps it: it is a parameter for runs that hold their own key. The error
+    /// is out of memory.
     fn fresh(
         alloc: Global,
         _key: &RunKey,

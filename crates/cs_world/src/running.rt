@@ -15,11 +15,12 @@ use cs_names::laws::know;
 use std::alloc::{AllocError, Global};
 
 impl World {
-    /// Takes steps, one after the other, and returns their replies. Memory for the replies is taken
-    /// first: if there is none, no step is taken, and the steps come back. From a consistent world,
-    /// each call is judged: out of memory or of room, denied by the first rule that fails, or
-    /// granted with its effect. No other run changes. Each run that is there afterwards began as
-    /// the state of its number, which a crash may leave. From a new world, no run reaches another.
+    /// Library surface: no command calls it. Takes steps, one after the other, and returns their
+    /// replies in the same order. Memory for the replies is taken first: if there is none, no step
+    /// is taken, and the steps come back. From a consistent world, each call is judged: out of
+    /// memory or of room, denied by the first rule that fails, or granted with its effect. No other
+    /// run changes. Each run that is there afterwards began as the state of its number, which a
+    /// crash may leave. From a new world, no run reaches another.
     pub fn run(
         &mut self,
         alloc: Global,

@@ -12,9 +12,11 @@ use cs_users::Users;
 use std::alloc::Global;
 use std::marker::Model;
 
-/// The published states of a scene, and their runs. Contracts see the registry.
+/// The published states of a scene, and their runs. It is the port of all connections of the world,
+/// so a place in the port is the run's place in the registry. Contracts see the registry.
 #[derive(Drop)]
 pub struct Runs {
+    /// The registry, which keeps each run with its passes.
     pub(crate) states: States<RunWithPasses>,
 }
 

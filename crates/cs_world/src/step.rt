@@ -5,7 +5,7 @@ use cs_session::{AttachMessage, CallMessage, TableStep};
 use cs_users::Users;
 use std::alloc::{AllocError, Global};
 
-/// A step that a connection takes.
+/// A step that a connection takes. A message is one or several of these (`World::message`).
 #[derive(Debug, Drop)]
 pub enum ConnectionStep {
     /// The run of an attach is found, and then awaits the attach (attach(5)).
@@ -16,12 +16,12 @@ pub enum ConnectionStep {
     Call(CallMessage<'static>),
     /// The open fid of that number is closed (clunk(5)).
     Close(u32),
-    /// The connection's own table is changed.
+    /// The connection's own fids and message size are changed; no run is asked.
     Table(TableStep),
 }
 
 impl ConnectionStep {
-    /// A copy of the connection's step.
+    /// A copy of the connection's step. The error is out of memory.
     fn try_clone(&self, alloc: Global) -> Result<ConnectionStep, AllocError>
         ensures { IfOk result (λ copy. copy ≡ self.now) }
     {
@@ -43,7 +43,7 @@ pub enum Step {
     /// Another list of users is loaded: the runs that are made from then on have it.
     Reload(Users),
     /// A step of the connection of that number at that moment, in seconds since 1970. The moment of
-    /// a find, and of a change of the table, counts for nothing.
+    /// a find, and of a change of the table, isn't used.
     On {
         conn: u32,
         now: u32,
@@ -52,7 +52,8 @@ pub enum Step {
 }
 
 impl Step {
-    /// A copy of the world's step: a reload's list of users is copied too.
+    /// A copy of the world's step: a reload's list of users is copied too. The error is out of
+    /// memory.
     pub(crate) fn try_clone(&self, alloc: Global) -> Result<Step, AllocError>
         ensures { IfOk result (λ copy. copy ≡ self.now) }
     {

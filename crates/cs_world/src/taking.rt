@@ -7,6 +7,7 @@ use cs_session::{Port, Reply, Session};
 use std::alloc::Global;
 
 /// Takes a step of a connection at the moment `now`, over its port `runs`, and returns the reply.
+/// The functions of `Session` that it calls say what a refusal leaves.
 pub(crate) fn take_session_step<P: Port>(
     alloc: Global,
     session: &mut Session,

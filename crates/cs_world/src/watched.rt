@@ -14,13 +14,17 @@ use cs_session::{FindFault, PassFault, Port};
 use std::alloc::{AllocError, Global};
 
 /// The runs of a world, which are the port of its connections, and the calls that reached the run
-/// of a key, in order. If memory ran out for a note, or an attach to the run got no pass,
-/// `is_short` is true, and calls may be missing.
+/// of a key, in order. For `World::project` only.
 #[derive(Drop)]
 pub(crate) struct WatchedRuns {
+    /// All runs of the world.
     pub(crate) runs: Runs,
+    /// The run whose calls are noted.
     pub(crate) key: RunKey,
+    /// The calls that reached it, in order.
     pub(crate) calls: Vec<RunCall>,
+    /// Whether memory ran out for a note, or an attach to the run got no pass: calls may be missing
+    /// then.
     pub(crate) is_short: bool,
 }
 
@@ -132,7 +136,7 @@ impl Port for WatchedRuns {
     }
 }
 
-/// The call that attaches the user, whose name is copied.
+/// The call that attaches the user, whose name is copied. The error is out of memory.
 fn attach_call(user: &Text) -> Result<Call<'static>, AllocError>
     ensures { IfOk result (λ call. call ≡ Attach (record { user = user.now })) }
 {

@@ -1,4 +1,4 @@
--- The paths of what a set leaves follow from the moves of directories alone.
+-- The paths of what a set leaves follow from the moves of directories only.
 use Rattle.std.proofs.Common.{◌≡◌, ℕ, zero, suc, ◌≤◌, cond, [], ◌∷◌}
 use Rattle.std.proofs.Common.{◌++◌, Some, sym, ap, ◌∙◌, arith}
 use Rattle.std.proofs.lemmas.Bool.{eq-eqb, ne_eqb}

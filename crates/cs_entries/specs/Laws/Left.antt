@@ -125,7 +125,7 @@ module _ (start : Entries) (ops : ℕ → EntryOp) (n : ℕ) (has : ℕ → Bool
   whole_tree (suc k) le =
       tree_after (E k) (ops k) (whole_tree k (omega (arith, le))) (legal k (omega (arith, le)))
 
-  -- where no directory is moved, each is at its own entry
+  -- if no directory is moved, each is at its own entry
   fixed_place : (fixed : AreFixed start ops n) (j : ℕ) → j ≤ n → (f : Entry) (d : ℕ)
       → F j f ≡ Some (Directory d) → fixed.home d ≡ f
   fixed_place fixed zero le f d h = fixed.first f d h
@@ -212,7 +212,8 @@ module _ (start : Entries) (ops : ℕ → EntryOp) (n : ℕ) (has : ℕ → Bool
             let up = here.reached h.0 (Directory g.directory) h.1 in
             (suc up.0, (h.0, h.1, tt, up.1)))
 
-    -- where a member moves a directory, those of the trace stand where they stand in it
+    -- if a member moves a directory, each directory of the state is at the entry at which the trace
+    -- has it then
     placed : MovesDirectory (ops k) → (j : ℕ) → j ≤ k → (f : Entry) (d : ℕ)
         → F j f ≡ Some (Directory d) → IsHeld (E j) d → E j f ≡ Some (Directory d)
     placed moving zero le f d is h = is

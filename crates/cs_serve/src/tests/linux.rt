@@ -1,6 +1,7 @@
 //! A stream as Linux's own client needs it.
 
 use crate::for_linux::LinuxStream;
+use crate::pending::{PendingRequests, ReplyFate};
 use std::alloc::Global;
 use std::collections::VecDeque;
 use std::io::{self, Read, Write};
@@ -81,4 +82,62 @@ fn a_denial_is_sent_as_an_error_of_linux(rt: HostRuntime) {
     write_each(&mut stream, &[front, rest]).expect(&rt, "memory");
     // the bytes are read back as requests, which they aren't, so they come back as they are
     gives(&rt, &mut stream, &mut [0u8; 64], &[RECEIVED]);
+}
+
+/// The requests with which a session begins, and their replies: an attach of fid 0, and a walk that
+/// makes fid 5 of it.
+const SESSION: [(&[u8], &[u8]); 3] = [
+    (
+        b"\x13\0\0\0d\xff\xff\0 \0\0\x06\09P2000",
+        b"\x13\0\0\0e\xff\xff\0 \0\0\x06\09P2000",
+    ),
+    (
+        b"\x17\0\0\0h\x01\0\0\0\0\0\xff\xff\xff\xff\x03\0cat\x01\x000",
+        b"\x14\0\0\0i\x01\0\x80\0\0\0\0\0\0\0\0\0\0\0\0",
+    ),
+    (
+        b"\x11\0\0\0n\x01\0\0\0\0\0\x05\0\0\0\0\0",
+        b"\x09\0\0\0o\x01\0\0\0",
+    ),
+];
+
+/// A Twstat that gives the file of fid 1 the name `g`, the refusal of that name, and an Rstat of a
+/// file `f`, which replies to the first step of the rename.
+const RENAME: &[u8] =
+    b"?\0\0\0~\x02\0\x01\0\0\02\00\0\xff\xff\xff\xff\xff\xff\xff\xff\xff\xff\xff\xff\xff\xff\xff\xff\xff\xff\xff\xff\xff\xff\xff\xff\xff\xff\xff\xff\xff\xff\xff\xff\xff\xff\xff\xff\xff\xff\xff\x01\0g\0\0\0\0\0\0";
+
+const TAKEN: &[u8] = b"\x17\0\0\0k\x02\0\x0e\0Q7 name exists";
+
+const FILE: &[u8] =
+    b"D\0\0\0}\x02\0;\09\0\0\0\0\0\0\0\0\0\0\0\0\x01\0\0\0\0\0\0\0\xa4\x01\0\0\0\0\0\0\0\0\0\0\0\0\0\0\0\0\0\0\x01\0f\x03\0cat\x03\0cat\x03\0cat";
+
+/// Notes these requests, each with its reply.
+fn note_each(pending: &mut PendingRequests, session: &[(&[u8], &[u8])]) {
+    for (request, reply) in session {
+        let _matters = pending.note_request(request);
+        let _passed = pending.note_reply(reply);
+    }
+}
+
+/// Whether a rename onto a name that is taken looks for its file in a directory.
+fn looks_in_a_directory(pending: &mut PendingRequests) -> bool {
+    let _matters = pending.note_request(RENAME);
+    let _asked = pending.note_reply(TAKEN);
+    let looks = matches!(pending.note_reply(FILE), ReplyFate::Followed(_));
+    // the file isn't there: so the rename ends
+    let _refused = pending.note_reply(TAKEN);
+    looks
+}
+
+/// A rename looks for its file in the directories of its own session: after a second Tversion and
+/// attach in the one that was walked to since, and in none if none was. The attach and the
+/// directory of the first session don't count any more.
+#[test]
+fn a_session_has_its_own_attach_and_directories(rt: HostRuntime) {
+    let mut pending = PendingRequests::new(rt.alloc());
+    note_each(&mut pending, &SESSION);
+    note_each(&mut pending, &SESSION);
+    assert!(rt; looks_in_a_directory(&mut pending));
+    note_each(&mut pending, &SESSION[..1]);
+    assert!(rt; !looks_in_a_directory(&mut pending));
 }

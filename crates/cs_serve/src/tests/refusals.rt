@@ -2,6 +2,7 @@
 
 use super::fixture::{TRACE, inputs_of};
 use crate::accepting::{Accepted, accept_next};
+use crate::waiting::AwaitsClients;
 use crate::{Client, Serving, serve_of};
 use std::io::{self, Error, ErrorKind};
 use std::net::{Ipv4Addr, OpenListener, SocketAddr};
@@ -58,6 +59,23 @@ impl OpenListener for Failing {
     }
 }
 
+/// Waits that end at once, and are counted. Each fails if that is set.
+#[derive(Drop)]
+struct Waits {
+    count: u64,
+    fails: bool,
+}
+
+impl AwaitsClients for Waits {
+    fn wait_for_client(&mut self) -> io::Result<()> {
+        self.count = self.count.wrapping_add(1);
+        if self.fails {
+            return Err(Error::from(ErrorKind::Other));
+        }
+        Ok(())
+    }
+}
+
 /// Whether a connection is accepted after that many accepts, of which the one of the place `idle`
 /// finds no client and the others fail, and how many were made.
 fn accepted_after<R: Wait + Clock>(rt: &R, failures: u64, idle: u64) -> (bool, u64) {
@@ -66,7 +84,11 @@ fn accepted_after<R: Wait + Clock>(rt: &R, failures: u64, idle: u64) -> (bool, u
         idle,
         accepts: AtomicU64::new(0),
     };
-    let accepted = match accept_next(rt, &listener, &AtomicBool::new(false)) {
+    let mut waits = Waits {
+        count: 0,
+        fails: false,
+    };
+    let accepted = match accept_next(rt, &listener, &mut waits, &AtomicBool::new(false)) {
         Accepted::Connection((), _) => true,
         Accepted::Closing | Accepted::Failed => false,
     };
@@ -84,4 +106,21 @@ fn accepts_that_fail_end_by_a_bound(rt: HostRuntime) {
 #[test]
 fn failures_count_in_a_row(rt: HostRuntime) {
     assert!(rt; accepted_after(&rt, 151, 75) == (true, 152));
+}
+
+/// Only an accept that finds no client waits for one; a wait that fails is followed by an accept.
+#[test]
+fn accepts_without_a_client_wait(rt: HostRuntime) {
+    for fails in [false, true] {
+        let listener = Failing {
+            failures: 4,
+            idle: 2,
+            accepts: AtomicU64::new(0),
+        };
+        let mut waits = Waits { count: 0, fails };
+        let closing = AtomicBool::new(false);
+        let accepted = accept_next(&rt, &listener, &mut waits, &closing);
+        assert!(rt; matches!(&accepted, Accepted::Connection((), _)));
+        assert!(rt; waits.count == 1 && listener.accepts.load(Ordering::SeqCst) == 5);
+    }
 }

@@ -1,6 +1,7 @@
 //! The steps of a session that make one call. All eight do the same: decide by the connection's own
 //! rules what to ask, or refuse; ask the fid's run; and make the reply, and the change of the fids,
-//! from its answer.
+//! from its answer. If the connection refuses, the reply is the first of its rules that fails, or
+//! out of memory, and the run isn't asked.
 ghost use Rattle.std.specs.Prelude.{◌≡◌};
 ghost use Rattle.cs_session.specs.declared.message.CallMessage.TheVariants as call;
 ghost use Rattle.cs_session.specs.Sizes.{CallFits, ReplyFits};
@@ -21,8 +22,8 @@ use crate::writing::{decide_write, write_reply};
 use std::alloc::Global;
 
 impl Session {
-    /// Walks from a fid to a new one, or moves the fid itself. No fid changes if the walk is
-    /// refused or a rule stops it on the way.
+    /// Walks from a fid to a new one, or moves the fid itself. The reply is Walk, or a refusal as
+    /// in `call_step`. No fid changes if the walk is refused or a rule stops it on the way.
     fn walk_step<P: Port>(
         &mut self,
         alloc: Global,
@@ -52,7 +53,7 @@ impl Session {
         settle_walk(&mut self.fids, fid, newfid, from, answer)
     }
 
-    /// Opens a fid. If the open is refused, no fid changes.
+    /// Opens a fid. The reply is Open, or a refusal as in `call_step`; no fid changes then.
     fn open_step<P: Port>(
         &mut self,
         alloc: Global,
@@ -75,8 +76,8 @@ impl Session {
         settle_open(&mut self.fids, message.fid, message.mode, answer)
     }
 
-    /// Makes a file in the fid's directory. The fid is then that of the new file, and open. If the
-    /// create is refused, no fid changes.
+    /// Makes a file in the fid's directory. The fid is then that of the new file, and open. The
+    /// reply is Create, or a refusal as in `call_step`; no fid changes then.
     fn create_step<P: Port>(
         &mut self,
         alloc: Global,
@@ -99,8 +100,9 @@ impl Session {
         settle_create(&mut self.fids, fid, mode, answer)
     }
 
-    /// Reads from an open fid, at most as many bytes as a reply holds. After a read of entries of a
-    /// directory the fid keeps the place at which the next read continues; else no fid changes.
+    /// Reads from an open fid, at most as many bytes as a reply holds. The reply is Read, or a
+    /// refusal as in `call_step`. After a read of entries of a directory the fid keeps the place at
+    /// which the next read continues; else no fid changes.
     fn read_step<P: Port>(
         &mut self,
         alloc: Global,
@@ -123,7 +125,8 @@ impl Session {
         settle_read(&mut self.fids, message.fid, answer)
     }
 
-    /// Writes to an open fid. No fid changes.
+    /// Writes to an open fid. The reply is Write, with how many bytes were written, or a refusal as
+    /// in `call_step`. No fid changes.
     fn write_step<P: Port>(
         &mut self,
         alloc: Global,
@@ -146,8 +149,9 @@ impl Session {
         write_reply(answer)
     }
 
-    /// Removes the fid's file. The fid is free once the connection asks the run, even if the run
-    /// refuses. If the connection itself refuses, no fid changes.
+    /// Removes the fid's file. The reply is Remove, or a refusal as in `call_step`. The fid is free
+    /// once the connection asks the run, even if the run refuses. If the connection itself refuses,
+    /// no fid changes.
     fn remove_step<P: Port>(&mut self, alloc: Global, port: &mut P, now: u32, fid: u32) -> Reply
         ensures takes { IsStepTaken P.gives now self.old port.old (CallStep (call.Remove fid))
             result
@@ -164,7 +168,8 @@ impl Session {
         remove_reply(answer)
     }
 
-    /// Returns the attributes of the fid's file. No fid changes.
+    /// Replies with the attributes of the fid's file, or with a refusal as in `call_step`. No fid
+    /// changes.
     fn stat_step<P: Port>(&mut self, alloc: Global, port: &mut P, now: u32, fid: u32) -> Reply
         ensures takes { IsStepTaken P.gives now self.old port.old (CallStep (call.Stat fid)) result
             self.new port.new }
@@ -180,7 +185,8 @@ impl Session {
         stat_reply(answer)
     }
 
-    /// Changes attributes of the fid's file. No fid changes.
+    /// Changes attributes of the fid's file, all or none. The reply is Wstat, or a refusal as in
+    /// `call_step`. No fid changes.
     fn wstat_step<P: Port>(
         &mut self,
         alloc: Global,

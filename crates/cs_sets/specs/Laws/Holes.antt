@@ -73,7 +73,7 @@ module _ (needs : ℕ → ℕ → Bool) (back : IsBackward needs) where
         ∙ ap (λ b. not (b || by_chain needs i i)) (eq-eqb i i refl);
   }
 
-  -- a set that lacks just i, and what needs it, is a hole
+  -- a set that lacks exactly i, and what needs it, is a hole
   pub lacks_is_hole : (n i k : ℕ) (places : List ℕ) → k < n → IsAllowed needs n places
       → LacksOne needs i k places
       → places ≡ hole needs i (k + 1)

@@ -3,7 +3,7 @@ use Rattle.cs_sets.specs.Different.{firsts, leave_alike}
 use Rattle.cs_sets.specs.Rows.{bit_in, needed_in}
 use Rattle.cs_different.specs.Seen.{none_seen, see}
 use Rattle.cs_different.specs.declared.classes.Class.{Class}
-use Rattle.cs_different.proofs.Members.{members_allowed, members_read}
+use Rattle.cs_different.proofs.ClassPlaces.{members_allowed, members_read}
 use Rattle.cs_different.proofs.classes.class_sets.Goals as goal
 
 pub returns-clause-allowed : goal.returns-clause-allowed

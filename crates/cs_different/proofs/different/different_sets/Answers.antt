@@ -3,7 +3,6 @@ use Rattle.std.specs.List.{All}
 use Rattle.cs_apm.specs.Orders.{needs_of, order_of}
 use Rattle.cs_sets.specs.Orders.{needs_in}
 use Rattle.cs_trace_lines.specs.Versions.{profile_of}
-use Rattle.cs_sets.specs.Sets as sets
 use Rattle.cs_micro.specs.Micros.{Micros}
 use Rattle.cs_plan.specs.Scenes.{micros_of, order_in}
 use Rattle.cs_sets.specs.declared.row.Row.{Row}
@@ -21,7 +20,7 @@ use Rattle.cs_different.specs.Refusals.{IsRefused}
 use Rattle.cs_different.specs.declared.classes.TheConstants.{CLASSES}
 use Rattle.cs_different.specs.declared.fault.DifferentFault.{DifferentFault}
 use Rattle.cs_different.specs.declared.fault.DifferentFault.TheVariants.{Memory, More, TooMany}
-use Rattle.cs_different.proofs.Gluing.{AreColumns, classes_found, columns_at, columns_backward, columns_same, err_weaker, law_of, leavable}
+use Rattle.cs_different.proofs.Gluing.{AreColumns, classes_found, columns_at, columns_backward, columns_same, err_weaker, law_by, leavable}
 use Rattle.cs_different.proofs.Alike.{left_is_like, left_told}
 use Rattle.cs_different.proofs.Firsts.{firsts_are}
 use Rattle.cs_different.proofs.different.different_sets.Goals as goal
@@ -34,7 +33,7 @@ class_sets-requires-clause-backward c =
     let back : IsBackward needs = subst IsBackward (ap needs_in c.order-order.ensures.value) c.len.ensures.backward in
     let rows = c.as_slice-2.result.now in
     let cols : AreColumns needs n rows =
-    columns_at s c.order-order.result.now rows c.in_ok-needed.needed.items c.as_slice-2.ensures.value c.in_ok-needed.ensures.long
+    columns_at (order_in s) c.order-order.result.now rows c.in_ok-needed.needed.items c.as_slice-2.ensures.value c.in_ok-needed.ensures.long
     c.in_ok-needed.ensures.chains c.order-order.ensures.value in
     columns_backward needs back n rows cols
 
@@ -46,7 +45,7 @@ returns-in_err-classes-clause-refused c =
     let back : IsBackward needs = subst IsBackward (ap needs_in c.order-order.ensures.value) c.len.ensures.backward in
     let rows = c.as_slice-2.result.now in
     let cols : AreColumns needs n rows =
-    columns_at s c.order-order.result.now rows c.in_ok-needed.needed.items c.as_slice-2.ensures.value c.in_ok-needed.ensures.long
+    columns_at (order_in s) c.order-order.result.now rows c.in_ok-needed.needed.items c.as_slice-2.ensures.value c.in_ok-needed.ensures.long
     c.in_ok-needed.ensures.chains c.order-order.ensures.value in
     let P : DifferentFault → Type 0 = λ fault. (fault ≡ Memory) ⊎ ((fault ≡ TooMany) × (CLASSES < length (every (needed_in rows) (length
     rows)))) in
@@ -67,20 +66,21 @@ firsts_of-requires-clause-sets c =
     let back : IsBackward needs = subst IsBackward (ap needs_in c.order-order.ensures.value) c.len.ensures.backward in
     let rows = c.as_slice-2.result.now in
     let cols : AreColumns needs n rows =
-    columns_at s c.order-order.result.now rows c.in_ok-needed.needed.items c.as_slice-2.ensures.value c.in_ok-needed.ensures.long
+    columns_at (order_in s) c.order-order.result.now rows c.in_ok-needed.needed.items c.as_slice-2.ensures.value c.in_ok-needed.ensures.long
     c.in_ok-needed.ensures.chains c.order-order.ensures.value in
     let wants = bit_in c.as_slice.result.now in
     let are : (z k : ℕ) → wants z k ≡ true → Wants s z k =
     (λ z k t. c.in_ok-wanted.ensures.wants z k (ap (λ r. bit_in r z k) (sym c.as_slice.ensures.value) ∙ t)) in
     let long : length (order_in s) ≡ length (micros_of s).ops =
     ap length (sym c.order-order.ensures.value) ∙ c.order-order.ensures.long in
-    let told : (p : List ℕ) → sets.IsAllowed needs n p ↔ IsLeavable s p =
-    subst (λ (m : Micros). (p : List ℕ) → sets.IsAllowed (needs_in (order_of m)) (length (order_of m)) p
-    ↔ sets.IsAllowed (needs_of m) (length m.ops) p) c.micros.ensures
+    let told : (p : List ℕ) → IsAllowed needs n p ↔ IsLeavable s p =
+    subst (λ (m : Micros). (p : List ℕ) → IsAllowed (needs_in (order_of m)) (length (order_of m)) p
+    ↔ IsAllowed (needs_of m) (length m.ops) p) c.micros.ensures
     (c.rules_are_sentences.ensures.sets (profile_of c.micros.result.now.version)) in
     let law : (places : List ℕ) → IsAllowed needs n places
-    → LeaveSame s places (chosen (state_of (see wants) none_seen places) n) = law_of s wants are back long told in
-    let all = leavable s wants rows cols back law c.in_ok-classes.classes.items c.in_ok-classes.ensures.allowed in
+    → LeaveSame s places (chosen (state_of (see wants) none_seen places) n) =
+    (λ places allowed. law_by s wants needs back n long places allowed are (λ p h. (told p).0 h)) in
+    let all = leavable s wants needs n rows cols back law c.in_ok-classes.classes.items c.in_ok-classes.ensures.allowed in
     subst (All (λ (row : Row). IsLeavable s (places_of row))) (sym c.as_slice-3.ensures.value) (λ k d low. (told _).0 (all k d low))
 
 pub returns-in_err-sets-clause-refused : goal.returns-in_err-sets-clause-refused
@@ -91,23 +91,24 @@ returns-in_err-sets-clause-refused c =
     let back : IsBackward needs = subst IsBackward (ap needs_in c.order-order.ensures.value) c.len.ensures.backward in
     let rows = c.as_slice-2.result.now in
     let cols : AreColumns needs n rows =
-    columns_at s c.order-order.result.now rows c.in_ok-needed.needed.items c.as_slice-2.ensures.value c.in_ok-needed.ensures.long
+    columns_at (order_in s) c.order-order.result.now rows c.in_ok-needed.needed.items c.as_slice-2.ensures.value c.in_ok-needed.ensures.long
     c.in_ok-needed.ensures.chains c.order-order.ensures.value in
     let wants = bit_in c.as_slice.result.now in
     let are : (z k : ℕ) → wants z k ≡ true → Wants s z k =
     (λ z k t. c.in_ok-wanted.ensures.wants z k (ap (λ r. bit_in r z k) (sym c.as_slice.ensures.value) ∙ t)) in
     let long : length (order_in s) ≡ length (micros_of s).ops =
     ap length (sym c.order-order.ensures.value) ∙ c.order-order.ensures.long in
-    let told : (p : List ℕ) → sets.IsAllowed needs n p ↔ IsLeavable s p =
-    subst (λ (m : Micros). (p : List ℕ) → sets.IsAllowed (needs_in (order_of m)) (length (order_of m)) p
-    ↔ sets.IsAllowed (needs_of m) (length m.ops) p) c.micros.ensures
+    let told : (p : List ℕ) → IsAllowed needs n p ↔ IsLeavable s p =
+    subst (λ (m : Micros). (p : List ℕ) → IsAllowed (needs_in (order_of m)) (length (order_of m)) p
+    ↔ IsAllowed (needs_of m) (length m.ops) p) c.micros.ensures
     (c.rules_are_sentences.ensures.sets (profile_of c.micros.result.now.version)) in
     let law : (places : List ℕ) → IsAllowed needs n places
-    → LeaveSame s places (chosen (state_of (see wants) none_seen places) n) = law_of s wants are back long told in
+    → LeaveSame s places (chosen (state_of (see wants) none_seen places) n) =
+    (λ places allowed. law_by s wants needs back n long places allowed are (λ p h. (told p).0 h)) in
     let same : firsts (leave_same s) (map places_of c.as_slice-3.result.now) ≡ firsts (leave_same s) (every needs n) =
     ap (λ (r : List Row). firsts (leave_same s) (map places_of r)) c.as_slice-3.ensures.value
-    ∙ classes_found s wants rows cols back law c.in_ok-classes.classes.items c.in_ok-classes.ensures.allowed c.in_ok-classes.ensures.firsts
-    in
+    ∙ classes_found s wants needs n rows cols back law c.in_ok-classes.classes.items c.in_ok-classes.ensures.allowed
+    c.in_ok-classes.ensures.firsts in
     let P : DifferentFault → Type 0 = λ fault. (fault ≡ Memory)
     ⊎ ((fault ≡ More c.args.most) × (c.args.most < length (firsts (leave_same s) (map places_of c.as_slice-3.result.now)))) in
     let known : IfErr c.from_residual-in_err-sets.result P = search rules in
@@ -134,22 +135,23 @@ returns-clause-different c =
     let back : IsBackward needs = subst IsBackward (ap needs_in c.order-order.ensures.value) c.len.ensures.backward in
     let rows = c.as_slice-2.result.now in
     let cols : AreColumns needs n rows =
-    columns_at s c.order-order.result.now rows c.in_ok-needed.needed.items c.as_slice-2.ensures.value c.in_ok-needed.ensures.long
+    columns_at (order_in s) c.order-order.result.now rows c.in_ok-needed.needed.items c.as_slice-2.ensures.value c.in_ok-needed.ensures.long
     c.in_ok-needed.ensures.chains c.order-order.ensures.value in
     let wants = bit_in c.as_slice.result.now in
     let are : (z k : ℕ) → wants z k ≡ true → Wants s z k =
     (λ z k t. c.in_ok-wanted.ensures.wants z k (ap (λ r. bit_in r z k) (sym c.as_slice.ensures.value) ∙ t)) in
     let long : length (order_in s) ≡ length (micros_of s).ops =
     ap length (sym c.order-order.ensures.value) ∙ c.order-order.ensures.long in
-    let told : (p : List ℕ) → sets.IsAllowed needs n p ↔ IsLeavable s p =
-    subst (λ (m : Micros). (p : List ℕ) → sets.IsAllowed (needs_in (order_of m)) (length (order_of m)) p
-    ↔ sets.IsAllowed (needs_of m) (length m.ops) p) c.micros.ensures
+    let told : (p : List ℕ) → IsAllowed needs n p ↔ IsLeavable s p =
+    subst (λ (m : Micros). (p : List ℕ) → IsAllowed (needs_in (order_of m)) (length (order_of m)) p
+    ↔ IsAllowed (needs_of m) (length m.ops) p) c.micros.ensures
     (c.rules_are_sentences.ensures.sets (profile_of c.micros.result.now.version)) in
     let law : (places : List ℕ) → IsAllowed needs n places
-    → LeaveSame s places (chosen (state_of (see wants) none_seen places) n) = law_of s wants are back long told in
+    → LeaveSame s places (chosen (state_of (see wants) none_seen places) n) =
+    (λ places allowed. law_by s wants needs back n long places allowed are (λ p h. (told p).0 h)) in
     let same : firsts (leave_same s) (map places_of c.as_slice-3.result.now) ≡ firsts (leave_same s) (every needs n) =
     ap (λ (r : List Row). firsts (leave_same s) (map places_of r)) c.as_slice-3.ensures.value
-    ∙ classes_found s wants rows cols back law c.in_ok-classes.classes.items c.in_ok-classes.ensures.allowed c.in_ok-classes.ensures.firsts
-    in
+    ∙ classes_found s wants needs n rows cols back law c.in_ok-classes.classes.items c.in_ok-classes.ensures.allowed
+    c.in_ok-classes.ensures.firsts in
     subst (AreDifferent s) (sym (c.in_ok-sets.ensures.firsts ∙ same))
     (firsts_are (leave_same s) (left_is_like s) (LeaveSame s) (left_told s) needs back n)

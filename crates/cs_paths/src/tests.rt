@@ -1,2 +1,0 @@
-//! Orders of paths of small traces.
-mod moved;

@@ -1,3 +1,0 @@
-//! States against plain stores of their sets.
-mod compared;
-mod moved;
