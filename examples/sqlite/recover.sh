@@ -1,8 +1,14 @@
 #!/bin/sh
 # The table must have the acknowledged rows, in order. It may have the next row of the session too.
-rows() { echo ok; printf "'%s'\n" Bern Oslo Quito Rome | head -n "$1"; }
-acknowledged=$(rows "$CRASHFS_SAYS")
-with_next=$(rows $((CRASHFS_SAYS + 1)))
+newline='
+'
+set -- Bern Oslo Quito Rome
+acknowledged=ok
+while read -r row _; do
+    acknowledged="$acknowledged$newline'$row'"
+    shift
+done
+with_next=$acknowledged${1:+"$newline'$1'"}
 query='PRAGMA integrity_check(1); SELECT quote(name) FROM city ORDER BY rowid'
 found=$(sqlite3 test.db "$query" 2>&1)
 case $found in

@@ -16,11 +16,11 @@ KILLED = (-signal.SIGKILL, 128 + signal.SIGKILL, 256 - signal.SIGKILL)
 
 
 class Check(NamedTuple):
-    """An ended check. most is how many bytes the largest of its processes had."""
+    """An ended check of a crate. `memory` is how many bytes the largest of its processes had."""
 
     status: int
     output: bytes
-    most: int
+    memory: int
 
     @property
     def is_killed(self) -> bool:
@@ -29,8 +29,9 @@ class Check(NamedTuple):
 
 
 def run_check(words: List[str], folder: Path) -> Check:
-    """Runs a command of `rt` in the folder of a crate to its end, with both outputs in one. A
-    status that isn't 0 isn't an error here; OSError if the command isn't there."""
+    """Runs a command of `rt` in the folder of a crate, without input. Waits without limit until it
+    and all processes that have its output have ended. `output` has both outputs. Any status is
+    returned; OSError if the command or the folder isn't there."""
     with subprocess.Popen(
         words,
         cwd=folder,
@@ -40,37 +41,39 @@ def run_check(words: List[str], folder: Path) -> Check:
     ) as child:
         assert child.stdout is not None
         output = child.stdout.read()
-        child.returncode, most = wait_for(child.pid)
-    return Check(child.returncode, output, most)
+        child.returncode, memory = wait_for_child(child.pid)
+    return Check(child.returncode, output, memory)
 
 
-def wait_for(process: int) -> Tuple[int, int]:
-    """Waits for a child to end. Returns its status, negative for a signal, and the most bytes that
-    a single process had: the child, or one below it that was waited for."""
-    _, status, used = os.wait4(process, 0)
-    return os.waitstatus_to_exitcode(status), used.ru_maxrss * 1024
+def wait_for_child(process: int) -> Tuple[int, int]:
+    """Waits without limit for a child to end. Returns its status, negative for a signal, and the
+    largest memory, in bytes, of one process: the child, or a descendant that was waited for.
+    ChildProcessError if the child was waited for before."""
+    _, status, usage = os.wait4(process, 0)
+    return os.waitstatus_to_exitcode(status), usage.ru_maxrss * 1024
 
 
 def memory_of_machine() -> int:
-    """How many bytes of memory the machine has, in use or not; a container's limit isn't looked
-    at."""
+    """How many bytes of memory the machine has, used or not; a container's limit isn't looked at.
+    OSError without /proc."""
     with open(MEMORY, encoding='ascii') as file:
         fields = dict(line.split(':') for line in file)
     return int(fields['MemTotal'].split()[0]) * 1024
 
 
 def killed_text(name: str, check: Check, jobs: int, processors: int) -> str:
-    """Says that the system has killed a check: how much memory its largest process had with so many
-    jobs, how much the machine has, and what helps. processors are those on which checks ran side by
-    side: half of them is the advice, unless it was one."""
+    """A line about a check that the system has killed: the memory of its largest process, with so
+    many jobs, the machine's memory, and what helps. That is to use half of the `processors` on
+    which checks ran side by side, or, if it was one, another machine. OSError as
+    memory_of_machine()."""
     advice = (
         f'run tools/build --processors {processors // 2}'
         if processors > 1
         else 'it needs a machine with more memory'
     )
-    shown = 'a job' if jobs == 1 else f'{jobs} jobs'
+    jobs_text = 'a job' if jobs == 1 else f'{jobs} jobs'
     return (
         f'{name}: the system killed its check, most likely because memory ran out. The largest '
-        f'process of its check, with {shown}, had {check.most / GIGABYTE:.1f} GB; the machine has '
-        f'{memory_of_machine() / GIGABYTE:.1f} GB: {advice}'
+        f'process of its check, with {jobs_text}, had {check.memory / GIGABYTE:.1f} GB; the '
+        f'machine has {memory_of_machine() / GIGABYTE:.1f} GB: {advice}'
     )

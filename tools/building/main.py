@@ -12,7 +12,13 @@ import time
 from pathlib import Path
 
 from .order import TOP, Work, chain_lengths, libraries
-from .proving import build_program, copy_to, error_text, keep_libraries, prove_in
+from .proving import (
+    build_program,
+    copy_sources_to,
+    error_text,
+    copy_libraries_home,
+    prove_crates_in,
+)
 
 DESCRIPTION = """\
 Proves all that crashfs uses, several crates side by side, and builds the program.
@@ -34,44 +40,52 @@ NO_RT = (
 
 
 def main() -> int:
-    """Runs tools/build with the words of its command line, and returns its status: 1 if there is no
-    `rt`, or a crate isn't proved. An error of the system, as a full disk, is a line with status 1.
-    A wrong word ends the program (SystemExit); fewer than one processor count as one."""
+    """Runs tools/build with its command line, and returns the status: 1 if there is no `rt`, a
+    crate isn't proved, or the program isn't built. An error of the system, as a full disk, is a
+    line with status 1. A wrong word and --help end the program (SystemExit). --processors below 1
+    counts as 1, and may be above what the machine has."""
     parser = argparse.ArgumentParser(
         description=DESCRIPTION, formatter_class=argparse.RawDescriptionHelpFormatter
     )
-    most = min(MOST_PROCESSORS, os.cpu_count() or 1)
+    default = min(MOST_PROCESSORS, os.cpu_count() or 1)
     parser.add_argument(
         '--processors',
         type=int,
-        default=most,
+        default=default,
         metavar='N',
-        help=f'how many processors it takes ({most})',
+        help=f'how many processors it takes ({default})',
     )
-    given = parser.parse_args()
+    options = parser.parse_args()
     if shutil.which('rt') is None:
         print(NO_RT, file=sys.stderr)
         return 1
     try:
-        return build_all(max(1, given.processors))
+        return build_all(max(1, options.processors))
     except OSError as error:
         print(f'tools/build: {error_text(error)}', file=sys.stderr)
         return 1
 
 
 def build_all(processors: int) -> int:
-    """Proves the libraries on so many processors, then the program, and returns the status: 0 if
-    all is proved and built. After a crate that isn't proved no other is begun, and those that are
-    being proved are finished. All libraries that are proved are kept in the repository itself."""
-    below, begun = libraries(), time.monotonic()
-    work = Work(below, chain_lengths(below), processors)
-    with tempfile.TemporaryDirectory(prefix='crashfs-build-') as room:
-        copies = [TOP, *(copy_to(Path(room) / str(it)) for it in range(1, processors))]
-        threads = [threading.Thread(target=prove_in, args=(it, work, begun)) for it in copies]
+    """Proves the libraries on so many processors, then builds the program. Returns the status: 0 if
+    all is proved and built. After a crate that isn't proved no other is begun, but running checks
+    go on. Proved libraries are copied to the repository itself in any case. OSError if crates.txt
+    or a text can't be read, or a copy of the repository or a library can't be made."""
+    uses, start_time = libraries(), time.monotonic()
+    work = Work(uses, chain_lengths(uses), processors)
+    with tempfile.TemporaryDirectory(prefix='crashfs-build-') as folder:
+        copies = [
+            TOP,
+            *(copy_sources_to(Path(folder) / str(number)) for number in range(1, processors)),
+        ]
+        threads = [
+            threading.Thread(target=prove_crates_in, args=(copy, work, start_time))
+            for copy in copies
+        ]
         for thread in threads:
             thread.start()
         for thread in threads:
             thread.join()
         # After a failure too: the next build then proves only what is left.
-        keep_libraries(work)
-    return 1 if work.failed else build_program(begun)
+        copy_libraries_home(work)
+    return 1 if work.failed_crate else build_program(start_time)

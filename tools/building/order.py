@@ -15,122 +15,132 @@ MOST_JOBS = 3
 MANY_BELOW = 16
 
 
-def uses_by_crate(crates: str) -> Dict[str, List[str]]:
-    """Each crate that the text of crates.txt has a line for, in its order, with all that the line
-    names: crates of ours and of the kit. Comments, from `#` on, and lines without a colon are left
-    out."""
-    found: Dict[str, List[str]] = {}
-    for line in crates.splitlines():
-        head, colon, names = line.partition('#')[0].partition(':')
+def uses_by_crate(crates_text: str) -> Dict[str, List[str]]:
+    """What each crate uses, by the text of crates.txt: crates of this repository and of the kit.
+    Comments, from `#` on, lines without a colon, and further words before a colon are left out. Of
+    two lines for a crate the last one counts. IndexError for a line that begins with a colon."""
+    uses: Dict[str, List[str]] = {}
+    for line in crates_text.splitlines():
+        first_words, colon, used_crates = line.partition('#')[0].partition(':')
         if colon:
-            found[head.split()[0]] = names.split()
-    return found
+            uses[first_words.split()[0]] = used_crates.split()
+    return uses
 
 
 def crates_below(uses: Dict[str, List[str]], name: str) -> Set[str]:
-    """The crates that a crate uses, directly or not, but not the crate itself. One that `uses`
-    doesn't have, as one of the kit, uses none."""
-    found: Set[str] = set()
-    left = [name]
-    while left:
-        new = set(uses.get(left.pop(), ())) - found
-        found |= new
-        left.extend(new)
-    return found
+    """The crates that a crate uses, directly or not. The crate itself is among them only if it is
+    in a cycle. One that `uses` doesn't have, as one of the kit, uses none."""
+    below: Set[str] = set()
+    remaining = [name]
+    while remaining:
+        new_crates = set(uses.get(remaining.pop(), ())) - below
+        below |= new_crates
+        remaining.extend(new_crates)
+    return below
 
 
 def libraries() -> Dict[str, List[str]]:
-    """Each crate of ours that the program uses, directly or not, with those of ours that it uses
-    directly; in no particular order. The program isn't among them."""
+    """The crates of this repository that the program uses, directly or not, in no particular order;
+    for each those of this repository that it uses directly. Empty if crates.txt has no line for the
+    program; OSError if it can't be read."""
     uses = uses_by_crate((TOP / 'crates.txt').read_text())
-    own = {name: [it for it in its if it in uses] for name, its in uses.items()}
-    return {name: own[name] for name in crates_below(own, PROGRAM)}
+    own_uses = {name: [crate for crate in used if crate in uses] for name, used in uses.items()}
+    return {name: own_uses[name] for name in crates_below(own_uses, PROGRAM)}
 
 
-def texts_of(crate: Path) -> Iterator[Path]:
-    """All that is in the folders of a crate's texts: what `rt` makes in out/ isn't."""
-    return (it for part in ('src', 'specs', 'proofs') for it in (crate / part).rglob('*'))
+def paths_of_texts(crate: Path) -> Iterator[Path]:
+    """All paths in the folders of a crate's texts; what `rt` makes in out/ isn't among them."""
+    folders = (crate / name for name in ('src', 'specs', 'proofs'))
+    return (path for folder in folders for path in folder.rglob('*'))
 
 
-def line_count(name: str) -> int:
-    """How many lines the texts of a crate have: a check takes longer the more there are."""
-    files = (it for it in texts_of(TOP / 'crates' / name) if it.is_file())
-    return sum(len(it.read_bytes().splitlines()) for it in files)
+def count_lines(name: str) -> int:
+    """How many lines the texts of a crate have: the more, the longer a check takes. 0 if there is
+    no such crate; OSError if a text can't be read."""
+    paths = (path for path in paths_of_texts(TOP / 'crates' / name) if path.is_file())
+    return sum(len(path.read_bytes().splitlines()) for path in paths)
 
 
-def chain_lengths(below: Dict[str, List[str]]) -> Dict[str, int]:
-    """For each crate, the lines of the longest chain of crates that begins with it and in which
-    each uses the one before. `below` has what each crate uses, and no other crates; it must have no
-    cycle."""
-    above = {name: [it for it in below if name in below[it]] for name in below}
-    found: Dict[str, int] = {}
+def chain_lengths(uses: Dict[str, List[str]]) -> Dict[str, int]:
+    """For each crate, how many lines the longest chain of crates has that begins with it, and in
+    which each crate uses the one before. `uses` has what each crate uses, and no other crates:
+    RecursionError if there is a cycle. OSError as count_lines()."""
+    users = {name: [user for user in uses if name in uses[user]] for name in uses}
+    lengths: Dict[str, int] = {}
 
     def length_from(name: str) -> int:
-        """The lines of the longest chain that begins with a crate, which are then kept in
-        `found`."""
-        if name not in found:
-            found[name] = line_count(name) + max((length_from(it) for it in above[name]), default=0)
-        return found[name]
+        """The length of the longest chain that begins with a crate. It is stored in `lengths`, so
+        that each is computed once."""
+        if name not in lengths:
+            longest = max((length_from(user) for user in users[name]), default=0)
+            lengths[name] = count_lines(name) + longest
+        return lengths[name]
 
-    return {name: length_from(name) for name in below}
+    return {name: length_from(name) for name in uses}
 
 
 @dataclass
 class Work:
-    """What is left to prove, shared by threads, one for each copy of the repository. places has the
-    copy in which each crate was proved, jobs how many processors each running check has, and failed
-    is the first crate that was not proved."""
+    """What is left to prove, shared by threads, one for each copy of the repository. uses and
+    chain_lengths are as libraries() and chain_lengths() return them. proved_in has the copy in
+    which each crate was proved, begun_crates each crate whose check has begun, jobs the number of
+    processors of each running check. failed_crate is the first that was not proved."""
 
-    below: Dict[str, List[str]]
-    chains: Dict[str, int]
+    uses: Dict[str, List[str]]
+    chain_lengths: Dict[str, int]
     processors: int
-    places: Dict[str, Path] = field(default_factory=dict)
-    begun: Set[str] = field(default_factory=set)
+    proved_in: Dict[str, Path] = field(default_factory=dict)
+    begun_crates: Set[str] = field(default_factory=set)
     jobs: Dict[str, int] = field(default_factory=dict)
-    failed: Optional[str] = None
-    change: threading.Condition = field(default_factory=threading.Condition)
+    failed_crate: Optional[str] = None
+    change_condition: threading.Condition = field(default_factory=threading.Condition)
 
-    def best_crate(self) -> Optional[Tuple[str, int]]:
-        """The crate to prove next, and how many processors it gets; None if none is ready, or no
-        processor is idle. Ready are those whose libraries are proved: of these it is the one with
-        the longest chain. It marks nothing, and the caller holds the lock of `change`."""
-        ready = [
-            it
-            for it in self.below
-            if it not in self.begun and all(lower in self.places for lower in self.below[it])
+    def choose_crate(self) -> Optional[Tuple[str, int]]:
+        """The crate to prove next, with its processors: of those whose libraries are proved, the
+        one with the longest chain. It gets two processors if its chain is longer than those of all
+        running checks, else one, and more if the other crates leave them; at most MOST_JOBS, or one
+        above MANY_BELOW crates. None if no crate or no processor is free. Nothing is marked; the
+        caller must hold the lock."""
+        ready_crates = [
+            crate
+            for crate in self.uses
+            if crate not in self.begun_crates
+            and all(lower in self.proved_in for lower in self.uses[crate])
         ]
-        idle = self.processors - sum(self.jobs.values())
-        if not ready or idle < 1:
+        idle_processors = self.processors - sum(self.jobs.values())
+        if not ready_crates or idle_processors < 1:
             return None
-        name = max(ready, key=lambda it: self.chains[it])
-        is_longest = all(self.chains[name] > self.chains[it] for it in self.jobs)
-        wanted = max(2 if is_longest else 1, idle - (len(ready) - 1))
-        most = MOST_JOBS if len(crates_below(self.below, name)) < MANY_BELOW else 1
-        return name, min(wanted, idle, most)
+        name = max(ready_crates, key=lambda crate: self.chain_lengths[crate])
+        is_longest = all(
+            self.chain_lengths[name] > self.chain_lengths[crate] for crate in self.jobs
+        )
+        wanted = max(2 if is_longest else 1, idle_processors - (len(ready_crates) - 1))
+        most_jobs = MOST_JOBS if len(crates_below(self.uses, name)) < MANY_BELOW else 1
+        return name, min(wanted, idle_processors, most_jobs)
 
-    def next_crate(self) -> Optional[Tuple[str, int]]:
-        """Waits for the next crate to prove, marks it as begun, and returns it with its processors.
-        None if all are begun, or one was not proved. Each crate that it returns needs a call of
-        end_crate(): until then the other threads may wait."""
-        with self.change:
-            while not self.failed and len(self.begun) < len(self.below):
-                chosen = self.best_crate()
-                if chosen:
-                    name, jobs = chosen
-                    self.begun.add(name)
+    def begin_next_crate(self) -> Optional[Tuple[str, int]]:
+        """Waits for a crate to prove, marks it as begun, and returns it with its processors. None
+        if all are begun, or one was not proved. The caller must call end_crate() for each crate
+        that it gets: until then other threads may wait."""
+        with self.change_condition:
+            while not self.failed_crate and len(self.begun_crates) < len(self.uses):
+                choice = self.choose_crate()
+                if choice:
+                    name, jobs = choice
+                    self.begun_crates.add(name)
                     self.jobs[name] = jobs
-                    return chosen
-                self.change.wait()
+                    return choice
+                self.change_condition.wait()
             return None
 
-    def end_crate(self, name: str, place: Optional[Path]) -> None:
-        """Notes that the check of a crate has ended, and wakes the threads that wait: it is proved
-        in the copy `place`, or it isn't proved (None). After one that isn't, no other crate is
-        begun."""
-        with self.change:
+    def end_crate(self, name: str, copy: Optional[Path]) -> None:
+        """Notes that the check of a crate has ended: it is proved in the copy `copy`, or not proved
+        (None). Wakes the threads that wait. After a crate that isn't proved no other is begun.
+        KeyError if the crate isn't being checked, as after an earlier call."""
+        with self.change_condition:
             del self.jobs[name]
-            if place:
-                self.places[name] = place
+            if copy:
+                self.proved_in[name] = copy
             else:
-                self.failed = self.failed or name
-            self.change.notify_all()
+                self.failed_crate = self.failed_crate or name
+            self.change_condition.notify_all()

@@ -8,27 +8,29 @@ import time
 from pathlib import Path
 from typing import Tuple
 
-from crashfs_tools.common.command import shortened
-from crashfs_tools.common.printable import printable
+from crashfs_tools.common.command import shorten
+from crashfs_tools.common.printable import escape_unprintable
 
 from .checks import Check, killed_text, run_check
-from .order import PROGRAM, TOP, Work, crates_below, texts_of
-from .sharing import give_library
+from .order import PROGRAM, TOP, Work, crates_below, paths_of_texts
+from .sharing import copy_library
 
 
-def is_library_current(top: Path, name: str) -> bool:
-    """Whether the library of a crate in a copy is newer than all texts of the crate: `rt` then only
-    needs a second to look. False if there is none. The texts of crates below aren't looked at."""
-    crate = top / 'crates' / name
+def is_library_current(copy: Path, name: str) -> bool:
+    """Whether the library of a crate in a copy of the repository is no older than all texts of the
+    crate: then `rt` only needs a second. False if there is no library. Texts that were removed, and
+    those of crates below, aren't looked at."""
+    crate = copy / 'crates' / name
     library = crate / 'out' / 'rlib' / 'stamp'
     return library.is_file() and all(
-        it.stat().st_mtime <= library.stat().st_mtime for it in texts_of(crate)
+        path.stat().st_mtime <= library.stat().st_mtime for path in paths_of_texts(crate)
     )
 
 
-def copy_to(folder: Path) -> Path:
-    """Copies what `rt` reads of the repository, without what it made, into a new folder, and
-    returns that. FileExistsError if the folder has crates already."""
+def copy_sources_to(folder: Path) -> Path:
+    """Copies what `rt` reads of the repository, without what it made, to a new folder, and returns
+    the folder. FileExistsError if it has crates already; after another OSError a part of the copy
+    is left."""
     (folder / 'crates').mkdir(parents=True)
     for name in ('crates.txt', 'HANDLES'):
         shutil.copy2(TOP / name, folder / name)
@@ -38,67 +40,71 @@ def copy_to(folder: Path) -> Path:
 
 
 def report_failure(name: str, check: Check, jobs: int, processors: int) -> None:
-    """Prints on standard error what a check that failed has printed. If the system killed it,
-    killed_text follows."""
+    """Prints on standard error what a failed check printed, and killed_text() if the system killed
+    it: OSError as there."""
     sys.stderr.buffer.write(check.output)
     sys.stderr.buffer.flush()
     if check.is_killed:
         print(killed_text(name, check, jobs, processors), file=sys.stderr, flush=True)
 
 
-def prove_in(copy: Path, work: Work, begun: float) -> None:
-    """Proves one crate after the other in a copy of the repository, until nothing is left or one
-    isn't proved, and prints a line for each with the minutes since `begun`."""
+def prove_crates_in(copy: Path, work: Work, start_time: float) -> None:
+    """Proves one crate after the other in a copy of the repository, until none is left, or one
+    isn't proved, here or in another thread. Prints a line for each, with the minutes since
+    `start_time`, and what a failed check printed. OSError if that can't be printed."""
     while True:
-        chosen = work.next_crate()
-        if chosen is None:
+        choice = work.begin_next_crate()
+        if choice is None:
             return
-        name, jobs = chosen
-        top, check = check_in(copy, work, name, jobs)
-        work.end_crate(name, top if check.status == 0 else None)
+        name, jobs = choice
+        used_copy, check = check_crate_in(copy, work, name, jobs)
+        work.end_crate(name, used_copy if check.status == 0 else None)
         result = 'proved' if check.status == 0 else 'NOT PROVED'
-        minutes = (time.monotonic() - begun) / 60
-        count = f'{len(work.places)} of {len(work.below)}'
+        minutes = (time.monotonic() - start_time) / 60
+        count = f'{len(work.proved_in)} of {len(work.uses)}'
         print(f'{minutes:5.1f} min: {name} {result} ({count})', flush=True)
         if check.status:
             report_failure(name, check, jobs, work.processors)
 
 
-def check_in(copy: Path, work: Work, name: str, jobs: int) -> Tuple[Path, Check]:
-    """Checks a crate in a copy of the repository, or, which takes a second, in the repository
-    itself if the crate's library there is current. Returns where, and the check. Any error, as a
-    full disk, is a check that failed and printed that: other threads wait for the crate's end."""
-    top = copy
+def check_crate_in(copy: Path, work: Work, name: str, jobs: int) -> Tuple[Path, Check]:
+    """Checks a crate in a copy of the repository; if its library in the repository itself is
+    current, there, which takes a second. Returns the copy that was used, and the check. Any
+    exception, as of a full disk, becomes a failed check with its text: other threads wait for the
+    crate's end."""
+    used_copy = copy
     try:
         if is_library_current(TOP, name):
-            top = TOP
-        for library in crates_below(work.below, name):
-            give_library(work.places[library], top, library)
-        return top, run_check(['rt', 'lib', '--jobs', str(jobs)], top / 'crates' / name)
+            used_copy = TOP
+        for library in crates_below(work.uses, name):
+            copy_library(work.proved_in[library], used_copy, library)
+        return used_copy, run_check(['rt', 'lib', '--jobs', str(jobs)], used_copy / 'crates' / name)
     except Exception as error:
-        return top, Check(1, f'{name}: {error_text(error)}\n'.encode(), 0)
+        return used_copy, Check(1, f'{name}: {error_text(error)}\n'.encode(), 0)
 
 
 def error_text(error: Exception) -> str:
     """An error as a line: its type and its text, without control characters, and shortened."""
-    return shortened(printable(f'{type(error).__name__}: {error}'))
+    return shorten(escape_unprintable(f'{type(error).__name__}: {error}'))
 
 
-def keep_libraries(work: Work) -> None:
-    """Copies each library that is proved to the repository itself; OSError if one can't be."""
-    for name, place in work.places.items():
-        give_library(place, TOP, name)
+def copy_libraries_home(work: Work) -> None:
+    """Copies each proved library to the repository itself. OSError if one can't be copied: then
+    those after it aren't copied either."""
+    for name, copy in work.proved_in.items():
+        copy_library(copy, TOP, name)
 
 
-def build_program(begun: float) -> int:
-    """Builds the program in the repository itself, which has all libraries. Returns the status: 0,
-    or 1 if it isn't built; what `rt` printed is printed then."""
+def build_program(start_time: float) -> int:
+    """Builds the program in the repository itself, which must have all libraries, and runs it with
+    --help. Returns the status: 0, or 1 if it isn't built, after printing what `rt` printed. OSError
+    if there is no `rt`."""
     words = ['rt', 'run', '--jobs', '1', '--', '--help']
     check = run_check(words, TOP / 'crates' / PROGRAM)
     if check.status:
         # It runs alone, with one job: fewer processors would be no help.
         report_failure(PROGRAM, check, jobs=1, processors=1)
         return 1
-    minutes = (time.monotonic() - begun) / 60
+    minutes = (time.monotonic() - start_time) / 60
     print(f'{minutes:5.1f} min: crates/{PROGRAM}/out/{PROGRAM} is built', flush=True)
     return 0

@@ -6,28 +6,31 @@ import shutil
 from pathlib import Path
 
 
-def library_of(top: Path, name: str) -> Path:
-    """The folder of a crate's library in a copy of the repository."""
-    return top / 'crates' / name / 'out' / 'rlib'
+def library_folder(copy: Path, name: str) -> Path:
+    """The folder of a crate's library in a copy of the repository; it may be missing."""
+    return copy / 'crates' / name / 'out' / 'rlib'
 
 
-def stamp_of(library: Path) -> bytes:
-    """What `rt` writes once a library is whole: a checksum of all texts that it was made from.
-    Empty if there is no library, or it isn't whole."""
+def read_stamp(library: Path) -> bytes:
+    """A checksum of all texts that a library was made from, which `rt` writes once the library is
+    whole. Empty if there is no library, or if it isn't whole. OSError if it can't be read."""
     stamp = library / 'stamp'
     return stamp.read_bytes() if stamp.is_file() else b''
 
 
-def give_library(source: Path, target: Path, name: str) -> None:
-    """Copies the proved library of a crate from one copy of the repository to another, so that `rt`
-    doesn't prove it again. Nothing is done if both have the same one, or none. One that differs is
-    removed first; a half copied library is never in its place."""
-    proved, library = library_of(source, name), library_of(target, name)
-    if stamp_of(proved) == stamp_of(library):
+def copy_library(source_copy: Path, target_copy: Path, name: str) -> None:
+    """Copies the proved library of a crate between copies of the repository, so that `rt` doesn't
+    prove it again. Does nothing if both have the same one, or none. An older library in the target
+    is removed first, and one that is copied only in part is never in its place. OSError if the
+    source has none or it can't be copied: then the target has none."""
+    source_library, target_library = library_folder(source_copy, name), library_folder(
+        target_copy, name
+    )
+    if read_stamp(source_library) == read_stamp(target_library):
         return
-    part = library.with_name('rlib.part')
-    for folder in (part, library):
+    partial_copy = target_library.with_name('rlib.part')
+    for folder in (partial_copy, target_library):
         shutil.rmtree(folder, ignore_errors=True)
-    part.parent.mkdir(parents=True, exist_ok=True)
-    shutil.copytree(proved, part, symlinks=True)
-    part.rename(library)
+    partial_copy.parent.mkdir(parents=True, exist_ok=True)
+    shutil.copytree(source_library, partial_copy, symlinks=True)
+    partial_copy.rename(target_library)

@@ -3,6 +3,7 @@ _crashfs() {
     local current=${COMP_WORDS[COMP_CWORD]} previous=${COMP_WORDS[COMP_CWORD - 1]} words=
     COMPREPLY=()
     case $previous in
+        --profile) words='blocks ordered journal' ;;
         --client) words='plan9 linux' ;;
         --picks | --trace | --state | --states | --sample | --seed | --most | --users | --listen \
         | --workers | --connections) return ;;
@@ -24,7 +25,7 @@ _crashfs() {
                     picks)
                         words='
                             -h --help --lost --files --sample --seed --every --different --count
-                            --most --trace' ;;
+                            --profile --most --trace' ;;
                     script)
                         words='
                             -h --help --verbose --users --holes --picks --trace' ;;

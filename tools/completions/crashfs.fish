@@ -26,6 +26,7 @@ complete -c crashfs -n '__fish_seen_subcommand_from picks' -l seed -r -d 'The nu
 complete -c crashfs -n '__fish_seen_subcommand_from picks' -l every -d 'All sets that a crash may leave'
 complete -c crashfs -n '__fish_seen_subcommand_from picks' -l different -d 'Of these only the first of those that leave equal states'
 complete -c crashfs -n '__fish_seen_subcommand_from picks' -l count -d 'Only how many sets there are'
+complete -c crashfs -n '__fish_seen_subcommand_from picks' -l profile -x -a 'blocks ordered journal' -d 'Of these only those that a file system of the profile may leave too'
 complete -c crashfs -n '__fish_seen_subcommand_from picks' -l most -r -d 'The most sets that are printed, 1 to 16777216; default 1000000'
 complete -c crashfs -n '__fish_seen_subcommand_from picks' -l trace -r -d 'The same as TRACE'
 complete -c crashfs -n __fish_use_subcommand -a script -d 'Runs the 9P2000 messages of standard input, one a line, and prints the replies'

@@ -48,6 +48,7 @@ else
                 '--every[All sets that a crash may leave]' \
                 '--different[Of these only the first of those that leave equal states]' \
                 '--count[Only how many sets there are]' \
+                '--profile[Of these only those that a file system of the profile may leave too]:PROFILE:(blocks ordered journal)' \
                 '--most[The most sets that are printed, 1 to 16777216; default 1000000]:N:_files' \
                 '--trace[The same as TRACE]:FILE:_files' \
                 '1:TRACE:_files' ;;

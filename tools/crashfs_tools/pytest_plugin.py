@@ -58,11 +58,13 @@ class CrashStates:
     ) -> Report:
         """Records the session, runs the recovery in its crash states, and returns the report. The
         test fails with one failure for each entry that isn't accepted. It also fails if a state has
-        no answer, if the trace isn't complete, or if record() or check() refuses something.
+        no answer, if the trace isn't complete, or if record() or check() refuses something. Any
+        other exception of these or of start is passed on.
 
         start is called with the directory before the session begins. ignore, mapped and block are
         options of crashfs_tools.record, all others of crashfs_tools.check; accept takes the place
-        of --crash-accept. A second call in the same test is a FileExistsError."""
+        of --crash-accept. A second call in the same test is a FileExistsError. The store and the
+        trace stay in the test's tmp_path."""
         store = self.folder / 'store'
         store.mkdir()
         if start is not None:
@@ -80,9 +82,10 @@ class CrashStates:
         return report
 
     def fail_if_bad(self, report: Report, trace: Path) -> None:
-        """Fails the test with the first failure of the report; pytest_runtest_protocol reports the
-        others, which are kept. If there is none but the status isn't 0, as for a state that wasn't
-        tried, the test fails with the whole report. Returns only for the status 0."""
+        """Fails the test with the first failure of the report, and keeps the texts of the others in
+        the test's stash, for pytest_runtest_protocol. If there is none but the status isn't 0, as
+        for a state that wasn't tried or a second crash, fails it with the whole report. Returns
+        only for status 0."""
         texts = [failure_text(entry, trace) for entry in report.failures]
         if texts:
             self.item.stash[OTHERS] = texts[1:]
@@ -113,7 +116,7 @@ def crash_states(request: pytest.FixtureRequest, tmp_path: Path) -> CrashStates:
 @pytest.hookimpl(hookwrapper=True)
 def pytest_runtest_protocol(item: pytest.Item) -> Iterator[None]:
     """After a test has run, reports each further failure that CrashStates kept as a failed test of
-    its own: pytest itself has one failure for a test."""
+    its own, numbered from 2: pytest itself has one failure for a test."""
     yield
     others = item.stash[OTHERS] if OTHERS in item.stash else []
     for number, text in enumerate(others, 2):
@@ -121,13 +124,13 @@ def pytest_runtest_protocol(item: pytest.Item) -> Iterator[None]:
 
 
 def failure_report(item: pytest.Item, number: int, text: str) -> pytest.TestReport:
-    """The report of a further failure of a test, as if another test at its place had failed. Its
-    name is that of the test with the number after it, as `test_store (2)`."""
+    """The report of a further failure of a test, as if another test at the same place had failed.
+    That test's name has the number at its end, such as `test_store (2)`."""
     try:
         fail(text)
     except pytest.fail.Exception:
-        shown = item.repr_failure(pytest.ExceptionInfo.from_current())
+        failure = item.repr_failure(pytest.ExceptionInfo.from_current())
     path, line, name = item.location
     keywords = {item.name: 1}
     location = path, line, f'{name} ({number})'
-    return pytest.TestReport(item.nodeid, location, keywords, 'failed', shown, 'call')
+    return pytest.TestReport(item.nodeid, location, keywords, 'failed', failure, 'call')

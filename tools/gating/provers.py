@@ -15,85 +15,89 @@ PROCESSES = Path('/proc')
 
 @dataclass(frozen=True)
 class Prover:
-    """A process that proves: when it began and how long it computed, in seconds, its memory in
-    bytes, its crate, and what it works on (kind_of_work)."""
+    """A process that proves: its number, when it began, in seconds after the system did, how many
+    processor seconds it and its ended children took, its memory in bytes, its crate, and what it
+    works on (kind_of_work)."""
 
     number: int
-    begun: float
+    start_time: float
     seconds: float
     memory: int
     crate: str
     kind: str
 
 
-def kind_of_work(words: List[str], folder: str) -> str:
-    """What a prover with these arguments works on in this folder: `tests`, `programs`, `edits` or
-    `proof`. An edit is tried in a copy of its crate, which isn't below a folder `crates`."""
-    if '--test' in words:
+def kind_of_work(arguments: List[str], folder: str) -> str:
+    """What a prover with these arguments works on in a folder: `tests`, `programs`, `edits` or
+    `proof`. A must-fail edit is tried in a copy of its crate, outside a folder `crates`."""
+    if '--test' in arguments:
         return 'tests'
-    if '--crate-checked' in words:
+    if '--crate-checked' in arguments:
         return 'programs'
-    if words[1:2] == ['check'] and '/crates/' not in folder:
+    if arguments[1:2] == ['check'] and '/crates/' not in folder:
         return 'edits'
     return 'proof'
 
 
-def fields_of(process: Path) -> List[str]:
-    """The fields of proc(5)'s stat of a process from field 3, its state, on: so the parent is at 1,
-    the times at 11 to 14, the begin at 19, the memory at 21. Field 2, the name, may have any bytes.
-    OSError or IndexError if the process has ended."""
+def read_stat_fields(process: Path) -> List[str]:
+    """The fields of /proc/PROCESS/stat from field 3, the state, on: the parent is at 1, the times
+    at 11 to 14, the begin at 19, the memory at 21. Field 2, the name, may have any bytes. OSError
+    or IndexError if the process has ended."""
     return (process / 'stat').read_text('ascii', 'replace').rsplit(')', 1)[1].split()
 
 
-def parent_of(process: Path) -> int:
-    """The number of the process that started this one, or that took it over when that ended; 0 if
-    it has ended itself."""
+def read_parent(process: Path) -> int:
+    """The number of the process that started this one, or that became its parent when that ended. 0
+    if this one has ended, or its parent can't be seen here."""
     try:
-        return int(fields_of(process)[1])
+        return int(read_stat_fields(process)[1])
     except (OSError, IndexError):
         return 0
 
 
-def prover_of(process: Path) -> Optional[Prover]:
-    """What a process proves, as it is now; None if it is no prover of a crate, has ended, or may
+def read_prover(process: Path) -> Optional[Prover]:
+    """What a process proves, at this moment. None if it is no prover of a crate, has ended, or may
     not be read."""
     try:
-        words = (process / 'cmdline').read_bytes().decode(errors='replace').split('\0')
-        if not words[0].endswith('/rattle') or '--crate-name' not in words:
+        arguments = (process / 'cmdline').read_bytes().decode(errors='replace').split('\0')
+        if not arguments[0].endswith('/rattle') or '--crate-name' not in arguments:
             return None
         folder = os.readlink(process / 'cwd')
-        stat = fields_of(process)
+        stat_fields = read_stat_fields(process)
     except (OSError, IndexError):
         return None
     return Prover(
         number=int(process.name),
-        begun=int(stat[19]) / TICKS,
+        start_time=int(stat_fields[19]) / TICKS,
         # its own time, and that of the children that have ended
-        seconds=sum(int(field) for field in stat[11:15]) / TICKS,
-        memory=int(stat[21]) * PAGE,
-        crate=words[words.index('--crate-name') + 1],
-        kind=kind_of_work(words, folder),
+        seconds=sum(int(field) for field in stat_fields[11:15]) / TICKS,
+        memory=int(stat_fields[21]) * PAGE,
+        crate=arguments[arguments.index('--crate-name') + 1],
+        kind=kind_of_work(arguments, folder),
     )
 
 
-def ancestors(number: int, parents: Dict[int, int]) -> Iterator[int]:
-    """A process, the one that started it, and so on upwards. `parents` has the parent of each known
-    process by number: the first that it doesn't have isn't among them."""
+def process_and_ancestors(number: int, parents: Dict[int, int]) -> Iterator[int]:
+    """A process, then the one that started it, and so on upwards. `parents` has the parent of each
+    known process; the first process that it doesn't have is left out."""
     while number in parents:
         yield number
         number = parents[number]
 
 
 def provers_below(top: int) -> List[List[Prover]]:
-    """The provers that run below a process, in groups: in each first one that no other prover
-    started, then those that came from it. Empty if there are none, also if the process has
-    ended."""
+    """The provers that run below the process `top`, in groups: first a prover that no other prover
+    started, then those below it. A process that ends meanwhile is left out, and perhaps those that
+    it started. Empty if there are none, or if `top` has ended; OSError without /proc."""
     processes = [path for path in PROCESSES.iterdir() if path.name.isdigit()]
-    parents = {int(path.name): parent_of(path) for path in processes}
-    running = {prover.number: prover for prover in map(prover_of, processes) if prover}
+    parents = {int(path.name): read_parent(path) for path in processes}
+    running = {prover.number: prover for prover in map(read_prover, processes) if prover}
     groups: Dict[int, List[Prover]] = defaultdict(list)
     for prover in running.values():
-        line = list(ancestors(prover.number, parents))
-        if top in line:
-            groups[[number for number in line if number in running][-1]].append(prover)
-    return [sorted(group, key=lambda it: it.number != first) for first, group in groups.items()]
+        lineage = list(process_and_ancestors(prover.number, parents))
+        if top in lineage:
+            groups[[number for number in lineage if number in running][-1]].append(prover)
+    return [
+        sorted(group, key=lambda prover: prover.number != first_number)
+        for first_number, group in groups.items()
+    ]

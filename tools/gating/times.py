@@ -25,23 +25,24 @@ KINDS = ('proof', 'tests', 'edits', 'programs')
 
 @dataclass
 class Share:
-    """What the provers of one crate and kind took: processor seconds and wall seconds by process,
-    which is a number and when it began, and the most memory that one group had at a time."""
+    """What the provers of one crate and kind took: the processor seconds and the wall seconds of
+    each group, by the number and the start time of its first prover, and the most memory of a group
+    at a time, in bytes."""
 
     seconds: Dict[Tuple[int, float], float] = field(default_factory=dict)
-    walls: Dict[Tuple[int, float], float] = field(default_factory=dict)
+    wall_seconds: Dict[Tuple[int, float], float] = field(default_factory=dict)
     memory: int = 0
 
     def add(self, group: List[Prover], now: float) -> None:
-        """Counts a group, a prover and those that it started, as it is at the time `now`, in
-        seconds since the system began: it takes the place of an earlier sample of this group.
-        Seconds never fall: those of a process that ended are missing until the prover has waited
-        for it."""
-        first = group[0]
-        process = first.number, first.begun
+        """Adds a sample of a group, a prover and those that it started, at the time `now`, in
+        seconds since the system began; it replaces an earlier sample of the group. The processor
+        seconds never fall, though those of an ended process are missing until the prover has waited
+        for it. IndexError for an empty group."""
+        first_prover = group[0]
+        process = first_prover.number, first_prover.start_time
         seconds = sum(prover.seconds for prover in group)
         self.seconds[process] = max(seconds, self.seconds.get(process, 0))
-        self.walls[process] = now - first.begun
+        self.wall_seconds[process] = now - first_prover.start_time
         self.memory = max(self.memory, sum(prover.memory for prover in group))
 
 
@@ -56,25 +57,32 @@ def add_sample(shares: Shares, groups: List[List[Prover]], now: float) -> None:
 
 
 def crate_row(crate: str, shares: Shares) -> List[str]:
-    """A crate's row of the table: seconds by kind, their sum, the wall seconds of the prover that
-    ran longest, and megabytes. ValueError if `shares` has nothing of the crate."""
-    own = {kind: share for (name, kind), share in shares.items() if name == crate}
-    taken = [sum(own[kind].seconds.values()) if kind in own else 0.0 for kind in KINDS]
-    longest = max(wall for share in own.values() for wall in share.walls.values())
-    memory = max(share.memory for share in own.values()) // 1_000_000
-    return [crate, *(f'{seconds:.0f}' for seconds in [*taken, sum(taken), longest]), str(memory)]
+    """A crate's row of the table: processor seconds by kind, their sum, the wall seconds of the
+    prover that ran longest, and megabytes. ValueError if `shares` has nothing of the crate."""
+    crate_shares = {kind: share for (name, kind), share in shares.items() if name == crate}
+    seconds = [
+        sum(crate_shares[kind].seconds.values()) if kind in crate_shares else 0.0 for kind in KINDS
+    ]
+    longest_wall = max(
+        wall for share in crate_shares.values() for wall in share.wall_seconds.values()
+    )
+    megabytes = max(share.memory for share in crate_shares.values()) // 1_000_000
+    times = [*seconds, sum(seconds), longest_wall]
+    return [crate, *(f'{time_taken:.0f}' for time_taken in times), str(megabytes)]
 
 
-def table_of(shares: Shares, wall: float) -> str:
-    """The table: a line for each crate, those with the most seconds first, and the sum of all.
-    `wall` is how many seconds it was sampled."""
-    crates: Dict[str, float] = defaultdict(float)
+def format_table(shares: Shares, wall_seconds: float) -> str:
+    """The table, with tabs between its columns: their names, a line for each crate, those with the
+    most processor seconds first, and the sum of all. `wall_seconds` is how long the samples were
+    taken."""
+    seconds_by_crate: Dict[str, float] = defaultdict(float)
     for (crate, _), share in shares.items():
-        crates[crate] += sum(share.seconds.values())
+        seconds_by_crate[crate] += sum(share.seconds.values())
     rows = [['crate', *KINDS, 'all', 'longest wall', 'most MB']]
-    rows += [crate_row(crate, shares) for crate in sorted(crates, key=lambda it: -crates[it])]
-    minutes = sum(crates.values()) / 60
-    rows.append([f'all: {minutes:.0f} processor minutes in {wall / 60:.0f} minutes'])
+    crates = sorted(seconds_by_crate, key=lambda crate: -seconds_by_crate[crate])
+    rows += [crate_row(crate, shares) for crate in crates]
+    minutes = sum(seconds_by_crate.values()) / 60
+    rows.append([f'all: {minutes:.0f} processor minutes in {wall_seconds / 60:.0f} minutes'])
     return ''.join('\t'.join(row) + '\n' for row in rows)
 
 
@@ -83,22 +91,23 @@ def is_running(process: int) -> bool:
     return Path(f'/proc/{process}').exists()
 
 
-def sample_until_end(process: int, every: float, has_ended: threading.Event) -> str:
-    """Takes a sample, and then one each `every` seconds, until the event is set or the process has
-    ended, and returns the table. If the process has ended before, the table has no crate."""
+def sample_until_end(process: int, pause_seconds: float, is_stopped: threading.Event) -> str:
+    """Takes a sample at once and after each pause, until the event is set or the process has ended,
+    and returns the table. It has no crate if the process has ended before. A pause of 0 or less is
+    none. OSError without /proc."""
     shares: Shares = {}
-    begun = time.monotonic()
+    start_time = time.monotonic()
     while is_running(process):
         add_sample(shares, provers_below(process), time.clock_gettime(time.CLOCK_BOOTTIME))
-        if has_ended.wait(every):
+        if is_stopped.wait(pause_seconds):
             break
-    return table_of(shares, time.monotonic() - begun)
+    return format_table(shares, time.monotonic() - start_time)
 
 
 def main(words: Optional[List[str]] = None) -> int:
-    """Runs gate-times with these words, or those of its command line, until the process ends or a
-    signal comes, and returns 0, also if there is no such process. SIGTERM and SIGINT no longer end
-    this process itself. A wrong word ends the program (SystemExit)."""
+    """Runs gate-times until the process ends or a signal comes, and returns 0, also if there is no
+    such process. `words` None means those of the command line. From then on SIGTERM and SIGINT
+    don't end this process. A wrong word ends the program (SystemExit)."""
     parser = argparse.ArgumentParser(
         prog='gate-times', description=ABOUT, formatter_class=argparse.RawDescriptionHelpFormatter
     )
@@ -106,9 +115,9 @@ def main(words: Optional[List[str]] = None) -> int:
         '--every', type=float, default=1.0, metavar='SECONDS', help='how often it samples (1)'
     )
     parser.add_argument('process', type=int, metavar='PROCESS', help='the number of the process')
-    given = parser.parse_args(words)
-    has_ended = threading.Event()
-    for number in (signal.SIGTERM, signal.SIGINT):
-        signal.signal(number, lambda *_: has_ended.set())
-    sys.stdout.write(sample_until_end(given.process, given.every, has_ended))
+    options = parser.parse_args(words)
+    is_stopped = threading.Event()
+    for signal_number in (signal.SIGTERM, signal.SIGINT):
+        signal.signal(signal_number, lambda *_: is_stopped.set())
+    sys.stdout.write(sample_until_end(options.process, options.every, is_stopped))
     return 0

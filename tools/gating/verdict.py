@@ -22,28 +22,30 @@ class Verdict:
     counts: str
 
     def reasons_against(self, commit: str, toolchain: str) -> List[str]:
-        """Why a release of this commit and toolchain can't rest on it, a sentence for each reason;
-        none if it can. The counts must have no failed test and at least one that passed."""
+        """Why a release of this commit and toolchain can't be based on the gate, a sentence for
+        each reason; empty if it can. A test that failed, none that passed, or counts of another
+        form are a reason too."""
         counts = COUNTS.fullmatch(self.counts)
         passed, failed = (int(counts[1]), int(counts[2])) if counts else (0, 0)
-        rows = [
+        checks = [
             (self.commit == commit, f'it is of commit {self.commit}, not of {commit}'),
             (self.tree == 'clean', f'its tree {self.tree}'),
             (self.toolchain == toolchain, f'its toolchain is {self.toolchain}, not {toolchain}'),
             (self.status == '0', f'its status is {self.status}'),
             (passed > 0 and failed == 0, f'it counts {self.counts}'),
         ]
-        return [reason for is_right, reason in rows if not is_right]
+        return [reason for has_passed, reason in checks if not has_passed]
 
 
-def verdict_of(log: str) -> Verdict:
-    """The verdict of what `.ci/run` printed, from its last lines. ValueError if they aren't the
-    gate's, in its order, with the counts last."""
+def parse_verdict(log: str) -> Verdict:
+    """The verdict in the last lines of what `.ci/run` printed. ValueError if these aren't the
+    gate's, in its order, with the counts last. The lines of the linters and of the tools' tests
+    must be there, but aren't kept: the status and the counts include them."""
     lines = log.rstrip('\n').split('\n')
     fields: Dict[str, str] = {}
     for name, line in zip(FIELDS, lines[-len(FIELDS) - 1 : -1]):
-        head, colon, value = line.partition(': ')
-        if head != name or not colon:
+        field, colon, value = line.partition(': ')
+        if field != name or not colon:
             raise ValueError(f'the last lines are not those of .ci/run: no line "{name}: .."')
         fields[name] = value
     if len(fields) < len(FIELDS) or not COUNTS.fullmatch(lines[-1]):
@@ -57,11 +59,10 @@ def verdict_of(log: str) -> Verdict:
     )
 
 
-def counts_of_gate(log: str, commit: str, toolchain: str) -> str:
-    """The counts of a gate of this commit and toolchain that passed, as `N passed, 0 failed`, from
-    what `.ci/run` printed. ValueError if it is of others, didn't pass, or isn't what a gate
-    prints."""
-    verdict = verdict_of(log)
+def counts_of_passed_gate(log: str, commit: str, toolchain: str) -> str:
+    """The counts of a passed gate, as `N passed, 0 failed`, from what `.ci/run` printed. ValueError
+    if the gate didn't pass, was of another commit or toolchain, or if no gate printed this."""
+    verdict = parse_verdict(log)
     reasons = verdict.reasons_against(commit, toolchain)
     if reasons:
         raise ValueError('the gate is not of this release: ' + '; '.join(reasons))

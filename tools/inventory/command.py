@@ -7,7 +7,7 @@ from pathlib import Path
 from typing import Dict, List, Optional
 
 from .completions import completion_files
-from .pages import PRINTED, page_with
+from .pages import PRINTED_LISTS, page_with_part
 from .results import PAGE, results_part
 from .sources import TOP
 
@@ -20,40 +20,44 @@ says and the contracts that cite it (words).
 Exit status 0, or 1 with --check if a file is missing or older than the sources."""
 
 
-def made_files() -> Dict[Path, str]:
-    """Each file that is made from the sources, with the text that it should have now. ValueError if
-    docs/RESULTS.md doesn't have its marks."""
-    return {**completion_files(), PAGE: page_with(PAGE.read_text('utf-8'), results_part())}
+def current_texts() -> Dict[Path, str]:
+    """The text that each file that is made from the sources should have now, by its path.
+    ValueError if docs/RESULTS.md doesn't have its marks. OSError, KeyError or ValueError if a
+    source isn't there, or isn't as completion_files() and results_part() read it."""
+    return {**completion_files(), PAGE: page_with_part(PAGE.read_text('utf-8'), results_part())}
 
 
-def older_files(made: Optional[Dict[Path, str]] = None) -> List[Path]:
-    """The files of `made` that are missing, or that have another text than it gives them; in its
-    order. By default it has all files that are made from the sources."""
+def outdated_files(texts: Dict[Path, str]) -> List[Path]:
+    """The paths of `texts` at which there is no file, or one with another text; in its order.
+    UnicodeDecodeError for a file that isn't UTF-8."""
     return [
         path
-        for path, text in (made_files() if made is None else made).items()
+        for path, text in texts.items()
         if not path.exists() or path.read_text(encoding='utf-8') != text
     ]
 
 
 def main(words: Optional[List[str]] = None) -> int:
-    """Writes, compares or prints, as the words of the command line say; returns the status: 1 only
-    if --check finds a file that differs. A file that is as it should be isn't written again. A
-    wrong word ends the program (SystemExit)."""
+    """Runs `inventories` with these words, or with those of its command line if they are None.
+    Returns the status: 1 only if --check finds a file that differs. With --print it ignores
+    --check. A file that is as it should be isn't written again. A wrong word ends the program
+    (SystemExit). Errors as current_texts(), before anything is written."""
     parser = argparse.ArgumentParser(
         prog='inventories', description=ABOUT, formatter_class=argparse.RawDescriptionHelpFormatter
     )
     parser.add_argument('--check', action='store_true', help='write nothing, only compare')
-    parser.add_argument('--print', choices=sorted(PRINTED), help='print a list; write nothing')
-    given = parser.parse_args(words)
-    if given.print:
-        print(PRINTED[given.print]())
+    parser.add_argument(
+        '--print', choices=sorted(PRINTED_LISTS), help='print a list; write nothing'
+    )
+    options = parser.parse_args(words)
+    if options.print:
+        print(PRINTED_LISTS[options.print]())
         return 0
-    made = made_files()
-    older = older_files(made)
-    for path in older:
-        if given.check:
+    texts = current_texts()
+    outdated = outdated_files(texts)
+    for path in outdated:
+        if options.check:
             print(f'{path.relative_to(TOP)} is older than the sources: run tools/inventories')
         else:
-            path.write_text(made[path], encoding='utf-8')
-    return 1 if given.check and older else 0
+            path.write_text(texts[path], encoding='utf-8')
+    return 1 if options.check and outdated else 0

@@ -17,8 +17,8 @@ from .sources import TOP
 # The function `NAME_command` in it adds the options of the command NAME; functions whose names
 # begin with `with_` add those that several commands share.
 SOURCE = TOP / 'crates' / 'cs_command_line' / 'src' / 'commands.rt'
-# The values of --client, which are the variants of an enum in the source.
-CLIENTS = ('plan9', 'linux')
+# The values of options that have a list of them in the source.
+CHOICES = {'client': ('plan9', 'linux'), 'profile': ('blocks', 'ordered', 'journal')}
 TOOLS = {
     'crashfs-campaign': campaign_options.make_parser,
     'crashfs-check': check_options.make_parser,
@@ -47,75 +47,77 @@ def options_of_tool(command: str) -> List[Option]:
     # argparse has no public list of a parser's options. A test looks for each in --help.
     actions = TOOLS[command]()._actions
     return [
-        option_of(action)
+        option_from_action(action)
         for action in actions
         if action.option_strings and action.help != argparse.SUPPRESS
     ]
 
 
-def option_of(action: argparse.Action) -> Option:
-    """An option of a parser. Its value is named as --help does, by the metavar or else by the
-    attribute in which it is kept, in capitals; a flag has no value."""
+def option_from_action(action: argparse.Action) -> Option:
+    """An option from the action by which a parser has it. Its value is named as in --help, by the
+    metavar or else by the attribute in which it is kept, in capitals; a flag has no value."""
     value = str(action.metavar or action.dest).upper() if action.nargs != 0 else None
-    choices = tuple(str(it) for it in action.choices or ())
-    return Option(tuple(action.option_strings), first_sentence(action), value, choices)
+    choices = tuple(str(choice) for choice in action.choices or ())
+    return Option(tuple(action.option_strings), first_help_sentence(action), value, choices)
 
 
-def first_sentence(action: argparse.Action) -> str:
-    """The first sentence of an option's help, which also ends before a semicolon or colon; empty if
-    there is no help. What is in brackets is left out: a default may differ on another machine, as
-    the number of processors does."""
-    text = ' '.join((action.help or '').split()) % {**vars(action), 'prog': ''}
-    return re.split(r'; |\. |: ', re.sub(r' \([^)]*\)', '', text))[0].rstrip('.')
+def first_help_sentence(action: argparse.Action) -> str:
+    """The first sentence of an option's help, without its full stop; it also ends before a
+    semicolon or colon. Empty if there is no help. What is in round brackets after a blank is left
+    out: a default may differ on another machine, as the number of processors does."""
+    help_text = ' '.join((action.help or '').split()) % {**vars(action), 'prog': ''}
+    return re.split(r'; |\. |: ', re.sub(r' \([^)]*\)', '', help_text))[0].rstrip('.')
 
 
 def functions_of_program() -> Dict[str, str]:
-    """The functions of SOURCE by name, each with the text from its name to the next one's head."""
+    """The functions of SOURCE by name, each with the text from its name to the head of the next
+    function; the comment above that head is a part of it. OSError if there is no such file."""
     parts = re.split(r'^(?:pub )?fn (\w+)', SOURCE.read_text('utf-8'), flags=re.M)
     return dict(zip(parts[1::2], parts[2::2]))
 
 
-def argument_text(body: str, argument: str) -> str:
-    """The value of an argument in a function's body: the argument is a literal, with its quotes, or
-    the name of a variable that the body sets to one. Empty if the body sets no such variable."""
+def text_of_argument(body: str, argument: str) -> str:
+    """The text that an argument means in a function's body. The argument is a literal, with its
+    quotes, or the name of a variable that the body sets to one: the first such line counts. Empty
+    if the body sets no such variable."""
     if argument.startswith('"'):
         return argument.strip('"')
-    found = re.search(rf'let {argument} =\s*"([^"]*)"', body)
-    return found[1] if found else ''
+    literal = re.search(rf'let {argument} =\s*"([^"]*)"', body)
+    return literal[1] if literal else ''
 
 
 def options_in(function: str, functions: Dict[str, str]) -> List[Option]:
     """The options that a function of SOURCE adds, by itself and by the functions `with_..` that it
-    calls. They are in the order of the four kinds below, not in that of the source, and those of
-    other functions come last. KeyError if there is no such function."""
-    body, found = functions[function], []
-    text = r'("[^"]*"|\w+)'
-    for name, about in re.findall(rf'flag\(alloc, "([\w-]+)", {text}', body):
-        found.append(Option((f'--{name}',), argument_text(body, about)))
+    calls: those come last, and the others are in the order of the four kinds below. `functions` are
+    those of functions_of_program(). KeyError if they lack the function, or one that it calls."""
+    body, options = functions[function], []
+    argument = r'("[^"]*"|\w+)'
+    for name, about in re.findall(rf'flag\(alloc, "([\w-]+)", {argument}', body):
+        options.append(Option((f'--{name}',), text_of_argument(body, about)))
     for name, value, about in re.findall(
-        rf'value_argument\(alloc, "([\w-]+)", "([\w-]+)", {text}', body
+        rf'value_argument\(alloc, "([\w-]+)", "([\w-]+)", {argument}', body
     ):
-        choices = CLIENTS if name == 'client' else ()
-        found.append(Option((f'--{name}',), argument_text(body, about), value, choices))
-    for name, about in re.findall(rf'count_argument\(alloc, "([\w-]+)", {text}', body):
-        found.append(Option((f'--{name}',), argument_text(body, about), 'N'))
-    for about in re.findall(rf'users_argument\(alloc, {text}', body):
-        found.append(Option(('--users',), argument_text(body, about), 'FILE'))
-    for other in re.findall(r'\b(with_\w+)\(', body):
-        found += options_in(other, functions) if other != function else []
-    return found
+        choices = CHOICES.get(name, ())
+        options.append(Option((f'--{name}',), text_of_argument(body, about), value, choices))
+    for name, about in re.findall(rf'count_argument\(alloc, "([\w-]+)", {argument}', body):
+        options.append(Option((f'--{name}',), text_of_argument(body, about), 'N'))
+    for about in re.findall(rf'users_argument\(alloc, {argument}', body):
+        options.append(Option(('--users',), text_of_argument(body, about), 'FILE'))
+    for called in re.findall(r'\b(with_\w+)\(', body):
+        options += options_in(called, functions) if called != function else []
+    return options
 
 
 def command_help(command: str) -> str:
     """What the program's help says of a command; empty if it says nothing. KeyError if there is no
-    such command."""
-    found = re.search(r'\.about\("([^"]*)"\)', functions_of_program()[f'{command}_command'])
-    return found[1] if found else ''
+    such command. SOURCE is read each time."""
+    about = re.search(r'\.about\("([^"]*)"\)', functions_of_program()[f'{command}_command'])
+    return about[1] if about else ''
 
 
 def commands_of_program() -> Dict[str, List[Option]]:
-    """The options of each command of the program, by its name, as SOURCE has them; without --help,
-    which each has."""
+    """The options of each command of the program, by the command's name, as SOURCE has them;
+    without --help, which each has. KeyError as options_in(), OSError if SOURCE can't be read."""
     functions = functions_of_program()
     return {
         name.replace('_command', ''): options_in(name, functions)

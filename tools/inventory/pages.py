@@ -7,15 +7,16 @@ from typing import Callable, Dict, List
 
 from .sources import (
     TOP,
+    DescribedTest,
     case_areas,
-    cases_of,
+    cases_in,
     citations,
-    comment_of_file,
+    crate_files,
     crate_names,
     edits_of,
-    examples_in,
-    files_of,
-    tools_tests,
+    read_head_comment,
+    tests_in,
+    tests_of_tools,
     words_of,
 )
 
@@ -31,38 +32,42 @@ def table_cell(text: str) -> str:
     return text.replace('|', '\\|')
 
 
-def tests_of(crate: str) -> List[str]:
-    """The lines that list a crate's tests: a heading, and a table for each file that has tests.
-    Empty if the crate has none."""
+def table_rows(tests: List[DescribedTest]) -> List[str]:
+    """The rows of a table of tests: what each shows, and its name."""
+    return [f'| {table_cell(test.sentence)} | `{test.name}` |' for test in tests]
+
+
+def lines_of_crate_tests(crate: str) -> List[str]:
+    """The lines that list a crate's tests: a heading, and for each file that has tests its comment
+    and a table. Empty if the crate has none. StopIteration as tests_in()."""
     lines: List[str] = []
-    for path in files_of(crate, 'src', '.rt'):
-        examples = examples_in(path)
-        if examples:
+    for path in crate_files(crate, 'src', '.rt'):
+        tests = tests_in(path)
+        if tests:
             name = path.relative_to(TOP / 'crates' / crate / 'src')
-            about = comment_of_file(path)
-            lines += ['', f'`{name}`: {about}' if about else f'`{name}`:']
-            lines += ['', '| Example | Test |', '|---|---|']
-            lines += [f'| {table_cell(it.sentence)} | `{it.name}` |' for it in examples]
+            comment = read_head_comment(path)
+            lines += ['', f'`{name}`: {comment}' if comment else f'`{name}`:']
+            lines += ['', '| Example | Test |', '|---|---|', *table_rows(tests)]
     return ['', f'### {crate}', *lines] if lines else []
 
 
-def tests_of_tools() -> List[str]:
-    """The lines that list tools/tests: a heading, and a table with a row for each file. A file is
-    listed even if it says nothing."""
-    rows = [f'| {table_cell(it.sentence)} | `{it.name}` |' for it in tools_tests()]
+def lines_of_tool_tests() -> List[str]:
+    """The lines that list tools/tests: a heading, and a table with a row for each file. A file
+    without a docstring is listed too. SyntaxError if a file isn't Python."""
+    rows = table_rows(tests_of_tools())
     return ['', '### tools/tests', '', '| What it shows | File |', '|---|---|', *rows]
 
 
-def tests_as_data() -> List[str]:
+def lines_of_cases() -> List[str]:
     """The lines that list tools/tests/data/cases: a heading and a table for each folder."""
     lines: List[str] = []
     for area in case_areas():
         lines += ['', f'### tools/tests/data/cases/{area}', '', '| Example | File |', '|---|---|']
-        lines += [f'| {table_cell(it.sentence)} | `{it.name}` |' for it in cases_of(area)]
+        lines += table_rows(cases_in(area))
     return lines
 
 
-def must_fail_edits() -> List[str]:
+def lines_of_edits() -> List[str]:
     """The lines that list the must-fail edits: a heading, and a table with a row for each crate
     that has some."""
     lines = [
@@ -81,27 +86,29 @@ def must_fail_edits() -> List[str]:
 
 def tests_list() -> str:
     """The list of all tests and of must-fail edits, as Markdown: the crates' tests first, then
-    those that are data, those of the tools, and the edits."""
-    crates = [line for crate in crate_names() for line in tests_of(crate)]
-    return '\n'.join(crates + tests_as_data() + tests_of_tools() + must_fail_edits()).strip()
+    those that are data, those of the tools, and the edits. StopIteration as tests_in(), SyntaxError
+    as tests_of_tools()."""
+    lines = [line for crate in crate_names() for line in lines_of_crate_tests(crate)]
+    lines += [*lines_of_cases(), *lines_of_tool_tests(), *lines_of_edits()]
+    return '\n'.join(lines).strip()
 
 
-def calls_shown(calls: List[str]) -> str:
-    """The first MOST_CALLS of some calls, and how many more there are; empty if there are no
-    calls."""
-    shown = ', '.join(f'`{call}`' for call in calls[:MOST_CALLS])
-    more = len(calls) - MOST_CALLS
-    return f'{shown} and {more} more' if more > 0 else shown
+def calls_text(calls: List[str]) -> str:
+    """The names of the first MOST_CALLS of some calls, and how many more there are; empty if there
+    are no calls."""
+    names = ', '.join(f'`{call}`' for call in calls[:MOST_CALLS])
+    count_left = len(calls) - MOST_CALLS
+    return f'{names} and {count_left} more' if count_left > 0 else names
 
 
 def words_list() -> str:
     """The list of the words of `specs/` of all crates, as Markdown: what each says, its file, and
     the calls whose contracts cite it. Crates without words are left out; words that nothing cites
     aren't."""
-    cited, lines = citations(), []
+    calls_by_crate, lines = citations(), []
     for crate in crate_names():
-        own_words, calls = words_of(crate), cited.get(crate, {})
-        if own_words:
+        words, calls = words_of(crate), calls_by_crate.get(crate, {})
+        if words:
             lines += [
                 '',
                 f'## {crate}',
@@ -110,21 +117,22 @@ def words_list() -> str:
                 '|---|---|---|---|',
             ]
             lines += [
-                f'| `{table_cell(it.name)}` | {table_cell(it.sentence)} | {it.file} '
-                f'| {calls_shown(calls.get(it.name, []))} |'
-                for it in own_words
+                f'| `{table_cell(word.name)}` | {table_cell(word.sentence)} | {word.file} '
+                f'| {calls_text(calls.get(word.name, []))} |'
+                for word in words
             ]
     return '\n'.join(lines).strip()
 
 
-def page_with(page: str, part: str) -> str:
+def page_with_part(page: str, part: str) -> str:
     """A page with this part between its marks BEGIN and END, in the place of what is there.
     ValueError if it doesn't have each mark once, in this order."""
-    between = re.compile(f'{re.escape(BEGIN)}.*{re.escape(END)}', re.DOTALL)
-    made, count = between.subn(lambda _: f'{BEGIN}\n\n{part}\n\n{END}', page)
+    made_part = re.compile(f'{re.escape(BEGIN)}.*{re.escape(END)}', re.DOTALL)
+    new_page, count = made_part.subn(lambda _: f'{BEGIN}\n\n{part}\n\n{END}', page)
     if (count, page.count(BEGIN), page.count(END)) != (1, 1, 1):
         raise ValueError(f'a page has to have the marks once: {BEGIN} .. {END}')
-    return made
+    return new_page
 
 
-PRINTED: Dict[str, Callable[[], str]] = {'tests': tests_list, 'words': words_list}
+# The lists that --print prints, by its values.
+PRINTED_LISTS: Dict[str, Callable[[], str]] = {'tests': tests_list, 'words': words_list}

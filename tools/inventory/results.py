@@ -20,8 +20,9 @@ Row = Dict[str, Any]
 
 
 def results_part() -> str:
-    """The made part of the page, from DATA: the table of all sessions, and the first failure of
-    each store."""
+    """The part of the page that is made from DATA: the table of all sessions, and the first failure
+    of each store. OSError if DATA can't be read, ValueError if it is no JSON, KeyError if a row
+    lacks a key that is used."""
     rows: List[Row] = json.loads(DATA.read_text('utf-8'))
     return '\n'.join([*table_lines(rows), *failure_lines(rows)])
 
@@ -40,15 +41,15 @@ def table_lines(rows: List[Row]) -> Iterator[str]:
 
 def row_cells(row: Row) -> Iterator[str]:
     """The cells of a session in the table, in the order of its columns. Those of the profiles are
-    empty if no state fails."""
+    empty if no state fails; else a profile that the trace doesn't have counts as 0."""
     yield f'{row["store"]} {row["version"]}'
     yield f'[{row["session"]}]({STORES}/{row["key"].partition("/")[0]})'
     yield states_cell(row)
     yield failing_cell(row)
-    for name in PROFILES:
-        yield number_text(row['profiles'].get(name, 0)) if row['failing'] else ''
-    for name in DISKS:
-        yield disk_cell(row, name)
+    for profile in PROFILES:
+        yield number_text(row['profiles'].get(profile, 0)) if row['failing'] else ''
+    for file_system in DISKS:
+        yield disk_cell(row, file_system)
 
 
 def number_text(count: int) -> str:
@@ -67,35 +68,35 @@ def states_cell(row: Row) -> str:
 
 def failing_cell(row: Row) -> str:
     """In how many different states the recovery fails, with the first word of the cause; if there
-    are several such words, how many states have each, the commonest first. `none` if it fails in
-    none."""
+    are several such words, with how many states have each, the commonest first. `none` if it fails
+    in no state."""
     if not row['failing']:
         return 'none'
-    causes = sorted(row['causes'].items(), key=lambda one: -int(one[1]))
+    causes = sorted(row['causes'].items(), key=lambda word_and_count: -int(word_and_count[1]))
     if len(causes) == 1:
         return f'{row["failing"]:,} {causes[0][0]}'
     return f'{row["failing"]:,}: ' + ', '.join(f'{count:,} {word}' for word, count in causes)
 
 
-def disk_cell(row: Row, name: str) -> str:
-    """In how many of the different trees on disks of a file system the recovery fails, or `none`,
-    and in brackets how many of these are outside the model. Empty if the session wasn't tried
-    there."""
-    found = row['disks'].get(name)
-    if found is None:
+def disk_cell(row: Row, file_system: str) -> str:
+    """In how many of the different trees on disks of a file system the recovery fails, or `none`;
+    in brackets how many of the failing ones are outside the model, if any are. Empty if the session
+    wasn't tried on it."""
+    counts = row['disks'].get(file_system)
+    if counts is None:
         return ''
-    text = f'{found["failing"]:,} of {found["trees"]:,}' if found['failing'] else 'none'
-    return f'{text} ({found["outside"]:,} outside)' if found['outside'] else text
+    text = f'{counts["failing"]:,} of {counts["trees"]:,}' if counts['failing'] else 'none'
+    return f'{text} ({counts["outside"]:,} outside)' if counts['outside'] else text
 
 
 def failure_lines(rows: List[Row]) -> Iterator[str]:
     """The lines below the table: for each store with a session that fails, the report of the first
     such session, as far as DATA has it. A store that doesn't fail isn't named."""
     yield from ('', '## The first failure of each store', '')
-    shown: Set[str] = set()
+    stores: Set[str] = set()
     for row in rows:
-        if row['failing'] and row['store'] not in shown:
-            shown.add(row['store'])
+        if row['failing'] and row['store'] not in stores:
+            stores.add(row['store'])
             yield from (f'{row["store"]}, {row["session"]} (`{row["key"]}`):', '')
             yield from (f'    {line}'.rstrip() for line in row['report'])
             yield ''

@@ -25,8 +25,8 @@ IDENTIFIER = re.compile(r"[A-Za-z_][\w']*")
 
 
 @dataclass(frozen=True)
-class Example:
-    """A test: the name of its function or file, and what it shows, as its comment says."""
+class DescribedTest:
+    """A test: the name of its function or file, and the sentence that says what it shows."""
 
     name: str
     sentence: str
@@ -43,62 +43,62 @@ class Word:
 
 
 def crate_names() -> List[str]:
-    """The crates of crates.txt, lowest first."""
+    """The crates of crates.txt, in its order. OSError if it can't be read."""
     return list(uses_by_crate((TOP / 'crates.txt').read_text('utf-8')))
 
 
-def files_of(crate: str, folder: str, suffix: str) -> List[Path]:
+def crate_files(crate: str, folder: str, suffix: str) -> List[Path]:
     """The files whose names end in a suffix, in a folder of a crate and the folders in it; sorted.
     Empty if the crate has no such folder."""
     return sorted((CRATES / crate / folder).rglob(f'*{suffix}'))
 
 
-def comment_above(lines: List[str], at: int, mark: str) -> str:
-    """The comment that ends above a line, as one text: `at` is the line's place from 0, and each
-    line of the comment begins with the mark. Attributes between the two are passed over. Empty if
-    there is no comment."""
-    found: List[str] = []
-    for line in reversed(lines[:at]):
+def comment_above(lines: List[str], index: int, mark: str) -> str:
+    """The comment that ends above the line with this index, as one text; each line of the comment
+    begins with the mark. Attributes of one line between the two are passed over. Empty if there is
+    no comment."""
+    comment: List[str] = []
+    for line in reversed(lines[:index]):
         text = line.strip()
         if text.startswith(mark):
-            found.insert(0, text[len(mark) :].strip())
-        elif found or not text.startswith('#['):
+            comment.insert(0, text[len(mark) :].strip())
+        elif comment or not text.startswith('#['):
             break
-    return ' '.join(found)
+    return ' '.join(comment)
 
 
-def examples_in(path: Path) -> List[Example]:
+def tests_in(path: Path) -> List[DescribedTest]:
     """The tests of a file of a crate, in their order; a test without a comment has an empty
-    sentence. A function must follow each `#[test]` (else StopIteration)."""
+    sentence. Only a `#[test]` that is alone in its line counts. StopIteration if no function
+    follows one, OSError if the file can't be read."""
     lines = path.read_text(encoding='utf-8').splitlines()
-    found: List[Example] = []
-    for at, line in enumerate(lines):
+    tests: List[DescribedTest] = []
+    for index, line in enumerate(lines):
         if line.strip() == '#[test]':
-            heads = (FUNCTION.match(it) for it in lines[at:])
-            head = next(it for it in heads if it)
-            found.append(Example(head.group(3), comment_above(lines, at, '///')))
-    return found
+            head = next(filter(None, map(FUNCTION.match, lines[index:])))
+            tests.append(DescribedTest(head.group(3), comment_above(lines, index, '///')))
+    return tests
 
 
-def comment_of_file(path: Path) -> str:
-    """The comment `//!` that a source file begins with, as one text; empty if it begins
-    otherwise."""
-    found: List[str] = []
+def read_head_comment(path: Path) -> str:
+    """The comment `//!` that a source file begins with, as one text; empty if it begins otherwise.
+    OSError if it can't be read."""
+    comment: List[str] = []
     for line in path.read_text(encoding='utf-8').splitlines():
         if not line.startswith('//!'):
             break
-        found.append(line[len('//!') :].strip())
-    return ' '.join(found)
+        comment.append(line[len('//!') :].strip())
+    return ' '.join(comment)
 
 
-def tools_tests() -> List[Example]:
+def tests_of_tools() -> List[DescribedTest]:
     """The files of the tools' tests, sorted, each with its docstring as one line; the sentence is
-    empty if it has none."""
-    found: List[Example] = []
+    empty if it has none. SyntaxError if one isn't Python."""
+    tests: List[DescribedTest] = []
     for path in sorted(TOOLS_TESTS.glob('test_*.py')):
         text = ast.get_docstring(ast.parse(path.read_text(encoding='utf-8'))) or ''
-        found.append(Example(path.name, ' '.join(text.split())))
-    return found
+        tests.append(DescribedTest(path.name, ' '.join(text.split())))
+    return tests
 
 
 def case_areas() -> List[str]:
@@ -106,25 +106,31 @@ def case_areas() -> List[str]:
     return sorted(path.name for path in CASES.iterdir() if path.is_dir())
 
 
-def cases_of(area: str) -> List[Example]:
-    """The examples of a folder of CASES, sorted by file, each with the text before its first
-    section."""
-    paths = sorted((CASES / area).glob('*.case'))
-    texts = (path.read_text(encoding='utf-8').partition('\n== ')[0] for path in paths)
-    return [Example(path.stem, ' '.join(text.split())) for path, text in zip(paths, texts)]
+def cases_in(area: str) -> List[DescribedTest]:
+    """The tests of a folder of CASES, sorted by file, each with the text before its first section
+    as one line. Empty if there is no such folder."""
+    cases: List[DescribedTest] = []
+    for path in sorted((CASES / area).glob('*.case')):
+        text = path.read_text(encoding='utf-8').partition('\n== ')[0]
+        cases.append(DescribedTest(path.stem, ' '.join(text.split())))
+    return cases
 
 
 def edits_of(crate: str) -> List[str]:
     """The names of a crate's must-fail edits, sorted."""
-    return [path.stem for path in files_of(crate, 'must-fail', '.edit')]
+    return [path.stem for path in crate_files(crate, 'must-fail', '.edit')]
 
 
-def words_in(path: Path, name: str) -> List[Word]:
-    """The public words of a file, in their order, each with the comment above it, and with `name`
-    as its file."""
+def words_in(path: Path, file: str) -> List[Word]:
+    """The public words of a file of specs/, in their order, with `file` as the name of their file.
+    The sentence of a word without a comment is empty. OSError if the file can't be read."""
     lines = path.read_text(encoding='utf-8').splitlines()
-    heads = ((at, WORD.match(line)) for at, line in enumerate(lines))
-    return [Word(head.group(1), name, comment_above(lines, at, '--')) for at, head in heads if head]
+    words: List[Word] = []
+    for index, line in enumerate(lines):
+        head = WORD.match(line)
+        if head is not None:
+            words.append(Word(head.group(1), file, comment_above(lines, index, '--')))
+    return words
 
 
 def words_of(crate: str) -> List[Word]:
@@ -133,7 +139,7 @@ def words_of(crate: str) -> List[Word]:
     folder = CRATES / crate / 'specs'
     return [
         word
-        for path in files_of(crate, 'specs', '.antt')
+        for path in crate_files(crate, 'specs', '.antt')
         for word in words_in(path, str(path.relative_to(folder))[: -len('.antt')])
     ]
 
@@ -141,25 +147,26 @@ def words_of(crate: str) -> List[Word]:
 def contracts_in(path: Path) -> Iterator[Tuple[str, str]]:
     """Each public function of a file, and each method of an `impl` or `trait`, public or not, with
     the text of its contract, which may be empty. A function is named `name`, a method `Type::name`,
-    or `Trait::name` in a trait."""
+    or `Trait::name` in a trait. What is `pub(crate)` isn't public here. OSError, when the first is
+    asked for, if the file can't be read."""
     owner, lines = '', path.read_text(encoding='utf-8').splitlines()
-    for at, line in enumerate(lines):
+    for index, line in enumerate(lines):
         if line and not line[0].isspace():
             match = IMPL.match(line)
             owner = match.group(1) if match else ''
         head = FUNCTION.match(line)
-        if head is None or not (head.group(2) or owner):
-            continue
-        yield f'{owner}::{head.group(3)}' if owner else head.group(3), contract_at(
-            lines, at + 1, head.group(1)
-        )
+        if head is not None and (head.group(2) or owner):
+            indent, _, name = head.groups()
+            call = f'{owner}::{name}' if owner else name
+            yield call, contract_text(lines[index + 1 :], indent)
 
 
-def contract_at(lines: List[str], at: int, indent: str) -> str:
-    """The lines from the place `at` on that are the contract of a function with this indent: up to
-    the brace of its body, an empty line, or the file's end."""
+def contract_text(lines: List[str], indent: str) -> str:
+    """The contract of a function with this indent, from the lines after that of its name: those
+    before the brace of its body, an empty line, or the file's end. Further lines of the head, with
+    parameters, are among them."""
     clauses: List[str] = []
-    for line in lines[at:]:
+    for line in lines:
         if line.startswith((f'{indent}{{', f'{indent}}}')) or not line.strip():
             break
         clauses.append(line)
@@ -169,27 +176,27 @@ def contract_at(lines: List[str], at: int, indent: str) -> str:
 def citations() -> Dict[str, Dict[str, List[str]]]:
     """By crate and by its word, the calls of all crates whose contracts cite the word. A call of
     another crate has that crate's name before it. What a contract cites by a module's name, and not
-    by the word's own, isn't found."""
-    found: Dict[str, Dict[str, List[str]]] = {}
+    by the word's own, isn't found. All sources are read: OSError if one can't be."""
+    calls: Dict[str, Dict[str, List[str]]] = {}
     for crate in crate_names():
-        for path in files_of(crate, 'src', '.rt'):
-            homes = homes_of_words(crate, path.read_text(encoding='utf-8'))
+        for path in crate_files(crate, 'src', '.rt'):
+            word_crates = crates_of_words(crate, path.read_text(encoding='utf-8'))
             for call, contract in contracts_in(path):
-                for name in dict.fromkeys(IDENTIFIER.findall(contract)):
-                    if name in homes:
-                        calls = found.setdefault(homes[name], {}).setdefault(name, [])
-                        shown = call if homes[name] == crate else f'{crate} {call}'
-                        if shown not in calls:
-                            calls.append(shown)
-    return found
+                for word in dict.fromkeys(IDENTIFIER.findall(contract)):
+                    if word in word_crates:
+                        word_calls = calls.setdefault(word_crates[word], {}).setdefault(word, [])
+                        name = call if word_crates[word] == crate else f'{crate} {call}'
+                        if name not in word_calls:
+                            word_calls.append(name)
+    return calls
 
 
-def homes_of_words(crate: str, text: str) -> Dict[str, str]:
+def crates_of_words(crate: str, text: str) -> Dict[str, str]:
     """The crate of each word that a source file of a crate imports by its name, as `ghost use
     ..{word, word}`. Words that are imported in any other way are left out."""
-    homes: Dict[str, str] = {}
+    word_crates: Dict[str, str] = {}
     for match in re.finditer(r'ghost use (?:Rattle\.)?(\w+)[.:]+specs[\w.:]*\.\{([^}]*)\}', text):
-        home = crate if match.group(1) == 'crate' else match.group(1)
-        for name in match.group(2).split(','):
-            homes[name.strip()] = home
-    return homes
+        word_crate = crate if match.group(1) == 'crate' else match.group(1)
+        for word in match.group(2).split(','):
+            word_crates[word.strip()] = word_crate
+    return word_crates

@@ -7,17 +7,17 @@ from typing import Callable, Dict, List, Optional
 
 from .crates_page import architecture_faults
 from .layout import layout_faults
-from .pages import made_faults
+from .pages import made_page_faults
 from .python import (
     black_faults,
     flake8_faults,
     install_packages,
     missing_linters,
     mypy_faults,
-    unknown_names_in_tests,
-    unexplained_comments,
+    unexplained_comment_faults,
+    unknown_name_faults,
 )
-from .words import retired_words
+from .words import retired_word_faults
 
 ABOUT = """\
 Runs the linters over the repository: flake8, black and mypy over its Python; the widths and
@@ -34,21 +34,22 @@ LINTERS: Dict[str, Callable[[], Faults]] = {
     'flake8': flake8_faults,
     'black': black_faults,
     'mypy': mypy_faults,
-    'names in tests': unknown_names_in_tests,
-    'comments for linters': unexplained_comments,
+    'names in tests': unknown_name_faults,
+    'comments for linters': unexplained_comment_faults,
     'layout': layout_faults,
-    'words': retired_words,
-    'pages made from sources': made_faults,
+    'words': retired_word_faults,
+    'pages made from sources': made_page_faults,
     'crates in ARCHITECTURE': architecture_faults,
 }
 
 
-def summary_line(found: Dict[str, Faults]) -> str:
-    """The last line that is printed: how many linters passed, which failed, and which were skipped.
-    found has the faults by linter; None is a linter that isn't installed."""
-    failed = [name for name, faults in found.items() if faults]
-    skipped = [name for name, faults in found.items() if faults is None]
-    line = f'lint: {len(found) - len(failed) - len(skipped)} passed, {len(failed)} failed'
+def summary_line(faults_by_linter: Dict[str, Faults]) -> str:
+    """The last line that is printed: how many linters passed, which failed, and which were skipped
+    because they aren't installed."""
+    failed = [name for name, faults in faults_by_linter.items() if faults]
+    skipped = [name for name, faults in faults_by_linter.items() if faults is None]
+    passed_count = len(faults_by_linter) - len(failed) - len(skipped)
+    line = f'lint: {passed_count} passed, {len(failed)} failed'
     line += f' ({", ".join(failed)})' if failed else ''
     line += f', {len(skipped)} skipped'
     return f'{line} (not installed: {", ".join(skipped)})' if skipped else line
@@ -57,13 +58,13 @@ def summary_line(found: Dict[str, Faults]) -> str:
 def run_linters(linters: Dict[str, Callable[[], Faults]]) -> int:
     """Runs linters, by their names, prints what they find, and returns the status: 1 if one found a
     fault. A linter that isn't installed doesn't change the status. Nothing is printed before all
-    have run."""
-    found = {name: linter() for name, linter in linters.items()}
-    for name, faults in found.items():
+    have run, so nothing if one raises an exception."""
+    faults_by_linter = {name: linter() for name, linter in linters.items()}
+    for name, faults in faults_by_linter.items():
         for fault in faults or []:
             print(f'{name}: {fault}')
-    print(summary_line(found), flush=True)
-    return 1 if any(found.values()) else 0
+    print(summary_line(faults_by_linter), flush=True)
+    return 1 if any(faults_by_linter.values()) else 0
 
 
 def main(words: Optional[List[str]] = None) -> int:

@@ -6,7 +6,7 @@ import ast
 import re
 from typing import Iterator, List
 
-from .sources import CRATES, TOOLS, crate_sources, name_of, program_files, python_files
+from .sources import CRATES, TOOLS, crate_sources, path_from_top, program_files, python_files
 
 MOST_LINES = 400
 MOST_LINES_OF_FUNCTION = 40
@@ -18,8 +18,8 @@ FUNCTION = (ast.FunctionDef, ast.AsyncFunctionDef)
 
 
 def long_lines(text: str, columns: int) -> List[str]:
-    """The lines of the text of a crate's file that have more than so many columns. Lines that
-    MAY_BE_LONG finds are left out, unless they are comments."""
+    """The lines of the text of a crate's file that have more than so many columns. Those that match
+    MAY_BE_LONG are left out, unless they are comments."""
     return [
         line
         for line in text.splitlines()
@@ -27,12 +27,12 @@ def long_lines(text: str, columns: int) -> List[str]:
     ]
 
 
-def lines_in(node: ast.stmt) -> int:
-    """How many lines a function has."""
+def line_count(node: ast.stmt) -> int:
+    """How many lines a function or another statement has."""
     return (node.end_lineno or node.lineno) - node.lineno + 1
 
 
-def adds_option(node: ast.stmt) -> bool:
+def is_option_row(node: ast.stmt) -> bool:
     """Whether a statement adds an option to a parser, `parser.add_argument(..)`: it counts as a row
     of a table, not as code."""
     call = node.value if isinstance(node, ast.Expr) else None
@@ -40,46 +40,50 @@ def adds_option(node: ast.stmt) -> bool:
     return isinstance(function, ast.Attribute) and function.attr == 'add_argument'
 
 
-def long_functions(source: str) -> Iterator[str]:
+def long_function_faults(source: str) -> Iterator[str]:
     """A sentence for each function of a Python source that has more than MOST_LINES_OF_FUNCTION
     lines, not counting the statements of its body that add options. The lines of a nested function
-    count for both."""
+    count for both. SyntaxError if the source isn't Python."""
     for node in ast.walk(ast.parse(source)):
         if isinstance(node, FUNCTION):
-            lines = lines_in(node) - sum(lines_in(one) for one in node.body if adds_option(one))
+            option_rows = filter(is_option_row, node.body)
+            lines = line_count(node) - sum(map(line_count, option_rows))
             if lines > MOST_LINES_OF_FUNCTION:
                 yield f'{node.name} has {lines} lines: {MOST_LINES_OF_FUNCTION} at most'
 
 
-def wide_lines() -> Iterator[str]:
-    """A sentence for each line of crates and of Python that is too wide. A long text in Python is
-    no exception: it must be split by hand."""
+def wide_line_faults() -> Iterator[str]:
+    """A sentence for each line that is too wide: in crates those of long_lines(), which may have
+    PROOF_COLUMNS in proofs and laws; in Python every line above CODE_COLUMNS, also a long text.
+    UnicodeDecodeError if a file isn't UTF-8."""
     for path in crate_sources():
         # Laws are proved lemmas that crates above use.
         is_proof = bool({'proofs', 'Laws'} & set(path.relative_to(CRATES).parts[1:-1]))
         columns = PROOF_COLUMNS if is_proof else CODE_COLUMNS
         for line in long_lines(path.read_text('utf-8'), columns):
-            yield f'{name_of(path)}: longer than {columns} columns: {line.strip()}'
+            yield f'{path_from_top(path)}: longer than {columns} columns: {line.strip()}'
     for path in python_files():
         for number, line in enumerate(path.read_text('utf-8').splitlines(), 1):
             if len(line) > CODE_COLUMNS:
-                yield f'{name_of(path)}:{number}: longer than {CODE_COLUMNS} columns'
+                yield f'{path_from_top(path)}:{number}: longer than {CODE_COLUMNS} columns'
 
 
-def long_files() -> Iterator[str]:
-    """A sentence for each file of the crates and of tools/ that has more than MOST_LINES lines."""
+def long_file_faults() -> Iterator[str]:
+    """A sentence for each file of the crates, and each module of tools/, also of the tests, that
+    has more than MOST_LINES lines. UnicodeDecodeError if a file isn't UTF-8."""
     for path in [*crate_sources(), *TOOLS.rglob('*.py')]:
         lines = len(path.read_text('utf-8').splitlines())
         if lines > MOST_LINES:
-            yield f'{name_of(path)} has {lines} lines: {MOST_LINES} at most'
+            yield f'{path_from_top(path)} has {lines} lines: {MOST_LINES} at most'
 
 
 def layout_faults() -> List[str]:
-    """A sentence for each thing that is too long: a line, a function of Python (not of the tests),
-    a file."""
-    functions = (
-        f'{name_of(path)}: {fault}'
+    """A sentence for each line, function and file that is too long. Functions are those of Python
+    in tools/, but not of the tests. SyntaxError as long_function_faults(), UnicodeDecodeError if a
+    file isn't UTF-8."""
+    function_faults = (
+        f'{path_from_top(path)}: {fault}'
         for path in program_files()
-        for fault in long_functions(path.read_text('utf-8'))
+        for fault in long_function_faults(path.read_text('utf-8'))
     )
-    return [*wide_lines(), *functions, *long_files()]
+    return [*wide_line_faults(), *function_faults, *long_file_faults()]

@@ -9,7 +9,7 @@ import subprocess
 from pathlib import Path
 from typing import Dict, List, Optional
 
-from .sources import TOP, TOOLS, name_of, program_files, python_files, test_files
+from .sources import TOP, TOOLS, path_from_top, program_files, python_files, test_files
 
 # The packages of Debian that have them.
 PACKAGES = ('flake8', 'black', 'mypy')
@@ -19,75 +19,76 @@ UNEXPLAINED = re.compile(r'#\s*(?:type: ignore|noqa)(?!(?:\[[\w, -]+\]|: [A-Z]\d
 
 
 def missing_linters() -> List[str]:
-    """Which linters of PACKAGES aren't installed."""
+    """The linters of PACKAGES that aren't on PATH."""
     return [name for name in PACKAGES if shutil.which(name) is None]
 
 
 def install_packages(names: List[str]) -> None:
-    """Installs Debian's packages by apt-get, if this user is root and it is there. If not, or if it
-    fails, nothing happens, and nothing is raised."""
+    """Installs Debian's packages by apt-get, if this user is root and apt-get is there; else it
+    does nothing. Waits for it without limit. If apt-get fails, only its own errors are shown."""
     if names and os.geteuid() == 0 and shutil.which('apt-get'):
-        line = ['apt-get', 'install', '--yes', '--no-install-recommends', *names]
+        words = ['apt-get', 'install', '--yes', '--no-install-recommends', *names]
         environment = {**os.environ, 'DEBIAN_FRONTEND': 'noninteractive'}
-        subprocess.run(line, env=environment, stdout=subprocess.DEVNULL)
+        subprocess.run(words, env=environment, stdout=subprocess.DEVNULL)
 
 
-def faults_of_linter(words: List[str], files: List[Path]) -> Optional[List[str]]:
-    """Runs a linter over files. Returns the lines that it prints on both outputs if its status
-    isn't 0, or its status if it prints none; an empty list if its status is 0; None if it isn't
-    installed."""
+def run_linter(words: List[str], files: List[Path]) -> Optional[List[str]]:
+    """Runs a linter, its name with its options, on files of the repository, in the top folder. If
+    its status is 0, returns an empty list; else the lines that it prints on both outputs, or its
+    status if it prints none; None if it isn't installed. Waits for it without limit."""
     if shutil.which(words[0]) is None:
         return None
-    ran = subprocess.run(
-        [*words, *map(name_of, files)],
+    process = subprocess.run(
+        [*words, *map(path_from_top, files)],
         cwd=TOP,
         stdout=subprocess.PIPE,
         stderr=subprocess.STDOUT,
         text=True,
         env={**os.environ, 'MYPYPATH': str(TOOLS)},
     )
-    if ran.returncode == 0:
+    if process.returncode == 0:
         return []
-    return ran.stdout.strip().splitlines() or [f'{words[0]}: status {ran.returncode}']
+    return process.stdout.strip().splitlines() or [f'{words[0]}: status {process.returncode}']
 
 
 def flake8_faults() -> Optional[List[str]]:
     """What flake8 finds in all Python; None if it isn't installed."""
-    return faults_of_linter(['flake8'], python_files())
+    return run_linter(['flake8'], python_files())
 
 
 def black_faults() -> Optional[List[str]]:
     """The Python files that black would change; None if it isn't installed."""
-    return faults_of_linter(['black', '--check'], python_files())
+    return run_linter(['black', '--check'], python_files())
 
 
 def mypy_faults() -> Optional[List[str]]:
     """What mypy finds in all Python but the tests; None if it isn't installed. The tests aren't
-    typed: unknown_names_in_tests is for them."""
-    return faults_of_linter(['mypy'], program_files())
+    typed: see unknown_name_faults()."""
+    return run_linter(['mypy'], program_files())
 
 
-def unknown_names_in_tests() -> Optional[List[str]]:
+def unknown_name_faults() -> Optional[List[str]]:
     """What mypy finds in the tests of names, attributes and arguments that nothing has; None if it
-    isn't installed. Other faults are dropped, since the tests aren't typed. The tests of the proved
-    program run last of all: without this a name that was changed would be found late."""
+    isn't installed. Its other lines are dropped, since the tests aren't typed: also one that says
+    that mypy itself failed."""
+    # The tests of the proved program run last: without this a changed name would be found late.
     words = ['mypy', '--check-untyped-defs', '--implicit-reexport']
-    faults = faults_of_linter(words, test_files())
-    return None if faults is None else [it for it in faults if UNKNOWN_NAME.search(it)]
+    lines = run_linter(words, test_files())
+    return None if lines is None else [line for line in lines if UNKNOWN_NAME.search(line)]
 
 
-def unexplained_in(texts: Dict[str, str]) -> List[str]:
+def unexplained_comments_in(sources: Dict[str, str]) -> List[str]:
     """A sentence for each line with a comment that silences a linter without its code and its
-    reason, as `# type: ignore[code]  # reason`. texts has the sources by the names of their
-    files."""
+    reason, as `# type: ignore[code]  # reason`. `sources` has the texts of files by their names."""
     return [
-        f'{name}:{number}: {found[0]}: give the code, and the reason in a comment behind it'
-        for name, text in texts.items()
+        f'{name}:{number}: {comment[0]}: give the code, and the reason in a comment behind it'
+        for name, text in sources.items()
         for number, line in enumerate(text.splitlines(), 1)
-        if (found := UNEXPLAINED.search(line))
+        if (comment := UNEXPLAINED.search(line))
     ]
 
 
-def unexplained_comments() -> List[str]:
-    """The sentences of unexplained_in for all Python files, the tests too."""
-    return unexplained_in({name_of(path): path.read_text('utf-8') for path in python_files()})
+def unexplained_comment_faults() -> List[str]:
+    """The sentences of unexplained_comments_in() for all Python files, also the tests."""
+    sources = {path_from_top(path): path.read_text('utf-8') for path in python_files()}
+    return unexplained_comments_in(sources)

@@ -1,5 +1,9 @@
 """The words that are retired, with what to write, and the places that may have them."""
 
+from __future__ import annotations
+
+from typing import Dict, Tuple
+
 # What is retired, as patterns, with what to write.
 RETIRED = {
     r'wants? of memory': 'out of memory',
@@ -40,7 +44,4 @@ RETIRED_NAMES = {
     'anew': 'again',
 }
 # Where one of them may be: the file, a text of its line, and why.
-ALLOWED = {
-    ('docs/reference/9p-server.md', 'CONN tells no more: out of memory'): 'printed by the server',
-    ('crates/cs_serve/src/log.rt', 'tells no more'): 'printed by version 0.2.0; goes with the next',
-}
+ALLOWED: Dict[Tuple[str, str], str] = {}

@@ -10,12 +10,13 @@ TOOLS = TOP / 'tools'
 CRATES = TOP / 'crates'
 EXAMPLES = TOP / 'examples'
 # The folders of a crate that the prover reads.
-PARTS = ('src', 'specs', 'proofs')
+CRATE_FOLDERS = ('src', 'specs', 'proofs')
 
 
 def is_python(path: Path) -> bool:
-    """Whether a path is a module of Python, by its suffix, or a script: a file without a suffix
-    that names python in its first line, after `#!`."""
+    """Whether a path is a module of Python, by its suffix, or a script of Python: a file without a
+    suffix whose first line begins with `#!` and has `python`. OSError if such a file can't be
+    read."""
     if path.suffix == '.py':
         return True
     if path.suffix or not path.is_file():
@@ -28,8 +29,8 @@ def is_python(path: Path) -> bool:
 def python_files() -> List[Path]:
     """The modules of tools/ and of the examples, and the scripts in tools/ itself; sorted. The
     tests are among them."""
-    found = [*TOOLS.iterdir(), *TOOLS.rglob('*.py'), *EXAMPLES.rglob('*.py')]
-    return sorted({path for path in found if is_python(path)})
+    paths = {*TOOLS.iterdir(), *TOOLS.rglob('*.py'), *EXAMPLES.rglob('*.py')}
+    return sorted(filter(is_python, paths))
 
 
 def is_test(path: Path) -> bool:
@@ -48,13 +49,13 @@ def test_files() -> List[Path]:
 
 
 def crate_sources() -> Iterator[Path]:
-    """The files of all crates that the prover reads: .rt and .antt, in the folders PARTS."""
-    for part in PARTS:
-        for path in sorted(CRATES.glob(f'*/{part}/**/*')):
+    """The files of all crates that the prover reads: .rt and .antt, in their CRATE_FOLDERS."""
+    for folder in CRATE_FOLDERS:
+        for path in sorted(CRATES.glob(f'*/{folder}/**/*')):
             if path.suffix in ('.rt', '.antt'):
                 yield path
 
 
-def name_of(path: Path) -> str:
-    """The path of a file of the repository, from its top."""
+def path_from_top(path: Path) -> str:
+    """The path of a file of the repository, from its top; ValueError for another file."""
     return str(path.relative_to(TOP))

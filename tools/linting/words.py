@@ -11,17 +11,21 @@ from typing import Iterator, List, NamedTuple, Set, Tuple
 from inventory.pages import BEGIN, END
 
 from .retired import ALLOWED, RETIRED, RETIRED_NAMES
-from .sources import CRATES, EXAMPLES, TOP, name_of, program_files
+from .sources import CRATES, EXAMPLES, TOP, path_from_top, program_files
 
 # It has the retired words themselves.
 TABLES = 'tools/linting/retired.py'
 
-WORDS = {re.compile(rf'\b(?:{word})\b', re.IGNORECASE): better for word, better in RETIRED.items()}
-MADE = re.compile(f'{re.escape(BEGIN)}.*?{re.escape(END)}', re.DOTALL)
+# What finds each retired word, with what to write.
+PATTERNS = {
+    re.compile(rf'\b(?:{word})\b', re.IGNORECASE): better for word, better in RETIRED.items()
+}
+MADE_PART = re.compile(f'{re.escape(BEGIN)}.*?{re.escape(END)}', re.DOTALL)
 # The examples of these kinds print something, or are what was printed.
 EXAMPLES_PRINT = ('.py', '.report', '.sh', '.sql')
+# The place before the capital that begins a further word of a class name.
+CAPITAL_IN_NAME = re.compile(r'(?<=[a-z0-9])(?=[A-Z])')
 TEXT_OF_RATTLE = re.compile(r'"((?:[^"\\]|\\.)*)"', re.DOTALL)
-DOCUMENTED = (ast.Module, ast.ClassDef, ast.FunctionDef, ast.AsyncFunctionDef)
 
 
 class Line(NamedTuple):
@@ -32,33 +36,34 @@ class Line(NamedTuple):
     text: str
 
 
-def numbered_lines(path: Path, text: str, first: int = 1) -> Iterator[Line]:
-    """The lines of a text that begins in a file at the line with the number `first`. The file must
-    be of the repository."""
-    for number, line in enumerate(text.splitlines(), first):
-        yield Line(name_of(path), number, line)
+def numbered_lines(path: Path, text: str, first_number: int = 1) -> Iterator[Line]:
+    """The lines of a text that begins in a file at the line with this number, as str.splitlines()
+    ends them. ValueError if the file isn't of the repository."""
+    for number, line in enumerate(text.splitlines(), first_number):
+        yield Line(path_from_top(path), number, line)
 
 
-def without_made(text: str) -> str:
+def without_made_parts(page: str) -> str:
     """A page without the parts between BEGIN and END, which are made from the sources. Empty lines
     are in their place, so each other line keeps its number."""
-    return MADE.sub(lambda made: '\n' * made[0].count('\n'), text)
+    return MADE_PART.sub(lambda part: '\n' * part[0].count('\n'), page)
 
 
 def lines_of_pages() -> Iterator[Line]:
     """The lines of all pages, of the manual pages, and of the examples that print something or were
-    printed, without the parts made from the sources."""
+    printed, as without_made_parts() leaves them. OSError if README, CHANGELOG or SECURITY isn't
+    there."""
     pages = [TOP / name for name in ('README.md', 'CHANGELOG.md', 'SECURITY.md')]
     pages += sorted((TOP / 'docs').rglob('*.md')) + sorted((TOP / 'docs' / 'man').iterdir())
     pages += sorted((TOP / 'helpers').glob('*/README.md'))
     pages += sorted(path for path in EXAMPLES.rglob('*') if path.suffix in EXAMPLES_PRINT)
     for page in pages:
-        yield from numbered_lines(page, without_made(page.read_text('utf-8')))
+        yield from numbered_lines(page, without_made_parts(page.read_text('utf-8')))
 
 
 def texts_in_python(source: str) -> List[Tuple[int, str]]:
-    """The texts of a Python source, what it may print and its documentation, each after the number
-    of its first line. The fixed parts of an f-string are a text each."""
+    """All texts of a Python source, also its documentation, each after the number of its first
+    line. Each fixed part of an f-string is a text. SyntaxError if the source isn't Python."""
     return [
         (node.lineno, node.value)
         for node in ast.walk(ast.parse(source))
@@ -68,7 +73,8 @@ def texts_in_python(source: str) -> List[Tuple[int, str]]:
 
 def names_in_python(source: str) -> Iterator[Tuple[int, str]]:
     """The names that a Python source gives: to classes, functions, parameters, variables and
-    attributes, each after the number of its line. Names of imports aren't among them."""
+    attributes, each after the number of its line. Names of imports and of caught exceptions aren't
+    among them. SyntaxError if the source isn't Python."""
     for node in ast.walk(ast.parse(source)):
         if isinstance(node, (ast.ClassDef, ast.FunctionDef, ast.AsyncFunctionDef)):
             yield node.lineno, node.name
@@ -82,31 +88,31 @@ def names_in_python(source: str) -> Iterator[Tuple[int, str]]:
 
 def texts_in_rattle(source: str) -> List[Tuple[int, str]]:
     """The texts in double quotes of a Rattle source, each after the number of its first line.
-    Comment lines are left out."""
-    code = re.sub(r'^\s*//.*$', '', source, flags=re.MULTILINE)
+    Comment lines are left out, but not comments after code."""
+    code = re.sub(r'^[ \t]*//.*$', '', source, flags=re.MULTILINE)
     return [
-        (code.count('\n', 0, found.start()) + 1, found[1])
-        for found in TEXT_OF_RATTLE.finditer(code)
+        (code.count('\n', 0, text.start()) + 1, text[1]) for text in TEXT_OF_RATTLE.finditer(code)
     ]
 
 
 def may_print(path: Path) -> bool:
-    """Whether a file of a crate may print what a user sees: it is no test, and no part of a crate
-    of tests."""
-    names = path.relative_to(CRATES).parts
-    is_of_tests = names[0].endswith('_tests') or names[0].startswith('cs_test_')
-    return not is_of_tests and 'tests' not in names and path.stem != 'tests'
+    """Whether a file of a crate may print what a user sees: it is no test, and not of a crate of
+    tests. ValueError if it isn't below crates/."""
+    parts = path.relative_to(CRATES).parts
+    is_test_crate = parts[0].endswith('_tests') or parts[0].startswith('cs_test_')
+    return not is_test_crate and 'tests' not in parts and path.stem != 'tests'
 
 
 def programs_to_read() -> List[Path]:
     """The modules and commands of tools/ whose words are checked: all but the tests, and the table
     of retired words itself."""
-    return [path for path in program_files() if name_of(path) != TABLES]
+    return [path for path in program_files() if path_from_top(path) != TABLES]
 
 
 def lines_of_programs() -> Iterator[Line]:
-    """The lines of all texts and of the documentation of the commands, and of the texts of all
-    crates, but for tests."""
+    """The lines of all texts of the commands and modules of tools/, documentation too, and of the
+    texts of all crates, but for tests; comments aren't read. SyntaxError if a file of tools/ isn't
+    Python."""
     for path in programs_to_read():
         for number, text in texts_in_python(path.read_text('utf-8')):
             yield from numbered_lines(path, text, number)
@@ -116,11 +122,11 @@ def lines_of_programs() -> Iterator[Line]:
 
 
 def names_of_programs() -> Iterator[Line]:
-    """The names of names_in_python for all modules and commands of tools/, each as the text of a
-    line."""
+    """The names of names_in_python() for all modules and commands of tools/ but the tests, each as
+    the text of a line. SyntaxError if one isn't Python."""
     for path in programs_to_read():
         for number, name in names_in_python(path.read_text('utf-8')):
-            yield Line(name_of(path), number, name)
+            yield Line(path_from_top(path), number, name)
 
 
 def is_allowed(line: Line) -> bool:
@@ -129,45 +135,47 @@ def is_allowed(line: Line) -> bool:
     return any(line.file == file and text in line.text for file, text in ALLOWED)
 
 
-def retired_in(line: Line) -> List[str]:
-    """A sentence for each retired word of a line, with what to write. It doesn't ask ALLOWED."""
+def word_faults(line: Line) -> List[str]:
+    """A sentence for each retired word of a line, with what to write. ALLOWED isn't looked at."""
     return [
-        f'{line.file}:{line.number}: "{found[0]}": {better}'
-        for word, better in WORDS.items()
-        for found in word.finditer(line.text)
+        f'{line.file}:{line.number}: "{word[0]}": {better}'
+        for pattern, better in PATTERNS.items()
+        for word in pattern.finditer(line.text)
     ]
 
 
-def retired_in_name(line: Line) -> List[str]:
+def name_faults(line: Line) -> List[str]:
     """A sentence for each retired word of a name, which is the text of the line. A word must be
-    whole: between underscores, or at an end of the name."""
-    parts = f'_{line.text.strip("_").lower()}_'
+    whole: between underscores or, in the name of a class, from one capital to the next."""
+    words = f'_{CAPITAL_IN_NAME.sub("_", line.text).strip("_").lower()}_'
     return [
         f'{line.file}:{line.number}: {line.text}: "{word}": {better}'
         for word, better in RETIRED_NAMES.items()
-        if f'_{word}_' in parts
+        if f'_{word}_' in words
     ]
 
 
-def unused_allowances() -> List[str]:
-    """A sentence for each entry of ALLOWED whose text is in no line of its file any more."""
-    lines = [*lines_of_pages(), *lines_of_programs()]
-    found: Set[Tuple[str, str]] = {
+def unused_allowance_faults() -> List[str]:
+    """A sentence for each entry of ALLOWED whose text is in no line of its file any more.
+    SyntaxError as lines_of_programs()."""
+    used_allowances: Set[Tuple[str, str]] = {
         (line.file, text)
-        for line in lines
+        for line in (*lines_of_pages(), *lines_of_programs())
         for file, text in ALLOWED
         if file == line.file
         if text in line.text
     }
     return [
-        f'{file}: "{text}" is allowed, and no longer there' for file, text in set(ALLOWED) - found
+        f'{file}: "{text}" is allowed, and no longer there'
+        for file, text in set(ALLOWED) - used_allowances
     ]
 
 
-def retired_words() -> List[str]:
+def retired_word_faults() -> List[str]:
     """A sentence for each retired word in the pages, in what is printed, and in documentation and
-    names, unless it is allowed; and for each allowance that nothing needs."""
+    names, unless ALLOWED has it, which has no names; and for each entry of ALLOWED that nothing
+    needs. SyntaxError if a file of tools/ isn't Python."""
     lines = [line for line in (*lines_of_pages(), *lines_of_programs()) if not is_allowed(line)]
-    found = [sentence for line in lines for sentence in retired_in(line)]
-    names = [sentence for line in names_of_programs() for sentence in retired_in_name(line)]
-    return [*dict.fromkeys(found + names), *unused_allowances()]
+    faults = [fault for line in lines for fault in word_faults(line)]
+    faults += [fault for line in names_of_programs() for fault in name_faults(line)]
+    return [*dict.fromkeys(faults), *unused_allowance_faults()]

@@ -8,6 +8,7 @@ from typing import List
 
 NO_FID = 0xFFFF_FFFF
 NO_TAG = 0xFFFF
+VERSION = '9P2000'
 TVERSION, TATTACH, TWALK, TOPEN, TWRITE = 100, 104, 110, 112, 118
 RERROR = 107
 READ_WRITE = 2
@@ -17,15 +18,16 @@ class Refused(Exception):
     """The server answered with an Rerror: its text."""
 
 
-def text_field(value: str) -> bytes:
+def text_field(text: str) -> bytes:
     """A text as a message of 9P has it: its length in two bytes, then its bytes in UTF-8.
-    struct.error if these are more than 65,535."""
-    data = value.encode()
+    struct.error if there are more than 65,535 bytes."""
+    data = text.encode()
     return struct.pack('<H', len(data)) + data
 
 
 def message(kind: int, fields: bytes, tag: int = 1) -> bytes:
-    """A message of 9P: its size, kind and tag, then its fields."""
+    """The bytes of a message of 9P: its size, kind and tag, then its fields. By default it has the
+    tag of all requests but the first."""
     return struct.pack('<IBH', len(fields) + 7, kind, tag) + fields
 
 
@@ -35,55 +37,69 @@ class Client:
     it can."""
 
     def __init__(self, address: str) -> None:
-        """Connects to HOST:PORT, and proposes the version 9P2000: which one the server answers
-        isn't looked at. OSError if nobody listens there, Refused if the server answers with an
-        Rerror."""
+        """Connects to HOST:PORT, and agrees on VERSION with the server. OSError if nobody listens
+        there. Refused if the server answers with another version or an Rerror; the connection is
+        closed then."""
         host, port = address.rsplit(':', 1)
         self.stream = socket.create_connection((host, int(port)))
         self.replies = self.stream.makefile('rb')
-        self.ask(message(TVERSION, struct.pack('<I', 65_536) + text_field('9P2000'), NO_TAG))
+        try:
+            fields = struct.pack('<I', 65_536) + text_field(VERSION)
+            version_field = self.ask(message(TVERSION, fields, NO_TAG))[4:]
+            if version_field != text_field(VERSION):
+                raise Refused(f'the server speaks {version_field[2:]!r}, not {VERSION}')
+        except BaseException:
+            self.close()
+            raise
 
-    def wait_for_reply(self) -> None:
-        """Waits for the next reply, and drops it: only its kind counts. Refused if it is an Rerror,
-        OSError if the connection has ended."""
-        head = self.replies.read(7)
-        if len(head) < 7:
-            raise OSError('the server has ended the connection')
-        size, kind, _ = struct.unpack('<IBH', head)
-        fields = self.replies.read(size - 7)
+    def wait_for_reply(self) -> bytes:
+        """Waits for the next reply, and returns its fields, whatever its kind and tag. Refused if
+        it is an Rerror, OSError if the connection has ended, also if that is within the reply."""
+        size, kind, _ = struct.unpack('<IBH', self.read_whole(7))
+        fields = self.read_whole(size - 7)
         if kind == RERROR:
             raise Refused(fields[2:].decode(errors='replace'))
+        return fields
 
-    def ask(self, request: bytes) -> None:
-        """Sends a request, and waits for its reply. Refused if that is an Rerror, OSError if the
-        connection ends."""
+    def read_whole(self, count: int) -> bytes:
+        """Waits for so many bytes of the replies, and returns them. OSError if the connection ends
+        before that."""
+        data = self.replies.read(count)
+        if len(data) < count:
+            raise OSError('the server has ended the connection')
+        return data
+
+    def ask(self, request: bytes) -> bytes:
+        """Sends a request, waits for its reply, and returns the reply's fields. Refused if that is
+        an Rerror, OSError if the connection ends."""
         self.stream.sendall(request)
-        self.wait_for_reply()
+        return self.wait_for_reply()
 
     def ask_all(self, requests: List[bytes]) -> int:
-        """Sends all requests before it waits for their replies; returns how many were granted: an
-        Rerror is no error here. They must fit the buffers of both ends: the server may wait for its
-        replies to be read. OSError if the connection ends."""
+        """Sends all requests before it waits for their replies, and returns how many were granted:
+        an Rerror raises nothing here. The requests must fit the buffers of both ends, since the
+        server may wait for its replies to be read. OSError if the connection ends."""
         self.stream.sendall(b''.join(requests))
-        granted = 0
+        granted_count = 0
         for _ in requests:
             try:
                 self.wait_for_reply()
-                granted += 1
+                granted_count += 1
             except Refused:
                 pass
-        return granted
+        return granted_count
 
     def attach(self, fid: int, run: str) -> None:
-        """Attaches the user `ann` to a run, as STATE/RUN; the fid is the run's root directory then.
-        Refused if the server refuses it, as for a fid that is in use."""
+        """Attaches the user `ann` to a run, given as STATE/RUN; the fid is the run's root directory
+        then. Refused if the server refuses it, as for a fid that is in use; OSError if the
+        connection ends."""
         fields = struct.pack('<II', fid, NO_FID) + text_field('ann') + text_field(run)
         self.ask(message(TATTACH, fields))
 
     def open(self, fid: int, newfid: int, name: str) -> None:
-        """Opens for reading and writing the file of this name in the directory of fid: newfid is
-        the file afterwards. Refused if the server refuses the walk or the open; after a refused
-        open newfid is the file even so, but not open."""
+        """Opens the file of this name in the directory of `fid`, for reading and writing, as
+        `newfid`. Refused if the server refuses the walk or the open; after a refused open `newfid`
+        is the file, but isn't open. OSError if the connection ends."""
         self.ask(message(TWALK, struct.pack('<IIH', fid, newfid, 1) + text_field(name)))
         self.ask(message(TOPEN, struct.pack('<IB', newfid, READ_WRITE)))
 

@@ -1,8 +1,9 @@
 """Prints the rows of all benchmark programs that are built, and whether each is within its bound.
 
-What isn't built is named, and nothing is built here. The rows of `serve_bench`, of `memory` and of
-`states` (the time that `crashfs-check` takes for each) need the program `crashfs`, too. Servers and
-their clients use half of the processors each. The figures count only if nothing else runs.
+What isn't built is named, and nothing is built here. The rows of `serve_bench`, of `memory`, of
+`states` (the time that `crashfs-check` takes for each) and of `sets` (how fast `crashfs picks`
+finds allowed sets) need the program `crashfs`, too. Servers and their clients use half of the
+processors each. The figures count only if nothing else runs.
 Status 0: no row is past its bound, and no program failed.
 
 Two commands have options of their own: `measure disks` compares crashes of real file systems with
@@ -20,6 +21,7 @@ from . import disks, stores
 from .memory import add_memory_rows
 from .programs import Programs, Tally
 from .serving import add_serving_rows
+from .sets import add_set_rows
 from .states import add_state_rows
 
 TOP = Path(__file__).resolve().parents[2]
@@ -28,14 +30,20 @@ MEASURED: Dict[str, Callable[[Programs, Tally], None]] = {
     'serve_bench': add_serving_rows,
     'memory': add_memory_rows,
     'states': add_state_rows,
+    'sets': add_set_rows,
 }
 # The programs that they need; each other row needs the program of its name.
-NEEDED = {'serve_bench': ['serve_bench', 'crashfs'], 'memory': ['crashfs'], 'states': ['crashfs']}
+NEEDED = {
+    'serve_bench': ['serve_bench', 'crashfs'],
+    'memory': ['crashfs'],
+    'states': ['crashfs'],
+    'sets': ['crashfs'],
+}
 
 
-def parsed_words(given: Optional[List[str]]) -> argparse.Namespace:
-    """The words after `measure`, but for `disks` and `stores`, which parse their own; wrong ones
-    end the program with status 2. Only main() looks whether the names are of benchmarks."""
+def parse_words(words: List[str]) -> argparse.Namespace:
+    """The options of the words after `measure`, unless the first is `disks` or `stores`; wrong ones
+    end the program with status 2. Only main() checks that the names are of benchmarks."""
     parser = argparse.ArgumentParser(
         prog='measure', description=__doc__, formatter_class=argparse.RawDescriptionHelpFormatter
     )
@@ -43,42 +51,48 @@ def parsed_words(given: Optional[List[str]]) -> argparse.Namespace:
         '--top', type=Path, default=TOP, metavar='DIR', help='the repository (this one)'
     )
     parser.add_argument(
-        'names', nargs='*', metavar='NAME', help='a benchmark program, `memory` or `states` (all)'
+        'names',
+        nargs='*',
+        metavar='NAME',
+        help='a benchmark program, `memory`, `states` or `sets` (all)',
     )
-    return parser.parse_args(given)
+    return parser.parse_args(words)
 
 
-def measure(programs: Programs, name: str, tally: Tally) -> None:
-    """Prints the rows of one benchmark, or which programs that it needs aren't built. Its failures
-    are in the tally; the name must be of a benchmark."""
-    lacking = [it for it in NEEDED.get(name, [name]) if programs.built(it) is None]
-    if lacking:
-        tally.add_lacking(name, lacking)
-    elif name in MEASURED:
-        tally.begin(name)
+def measure_benchmark(programs: Programs, name: str, tally: Tally) -> None:
+    """Prints the rows of the benchmark of this name, or which programs that it needs aren't built.
+    Its failures are in the tally. OSError if the program of a benchmark that isn't in MEASURED
+    can't be started."""
+    needed = NEEDED.get(name, [name])
+    not_built = [program for program in needed if programs.path_if_built(program) is None]
+    if not_built:
+        tally.add_not_built(name, not_built)
+        return
+    tally.begin_benchmark(name)
+    if name in MEASURED:
         MEASURED[name](programs, tally)
     else:
-        tally.begin(name)
-        tally.run([str(programs.built(name)), 'time'])
+        tally.run_program([str(programs.path_if_built(name)), 'time'])
 
 
-def main(given: Optional[List[str]] = None) -> int:
-    """Runs `measure` with these words, or with those of this process, and returns its status: 1 if
-    a row is past its bound or a program failed, 2 if a name is unknown: nothing is measured then.
-    The words after `disks` or `stores` are for these commands, which return their own status."""
-    given = sys.argv[1:] if given is None else given
-    if given[:1] == ['disks']:
-        return disks.main(given[1:])
-    if given[:1] == ['stores']:
-        return stores.main(given[1:])
-    words = parsed_words(given)
-    programs = Programs(words.top)
-    known = [*programs.benchmarks(), 'memory', 'states']
-    unknown = [it for it in words.names if it not in known]
+def main(arguments: Optional[List[str]] = None) -> int:
+    """Runs `measure` with these words, or with those of its command line if they are None. Returns
+    the status: 1 if a row is past its bound or a program failed; 2 if a name is unknown, and
+    nothing is measured then. After `disks` or `stores` it is that of these commands. OSError if
+    there is no crates.txt, and as measure_benchmark()."""
+    words = sys.argv[1:] if arguments is None else arguments
+    if words[:1] == ['disks']:
+        return disks.main(words[1:])
+    if words[:1] == ['stores']:
+        return stores.main(words[1:])
+    options = parse_words(words)
+    programs = Programs(options.top)
+    known_names = [*programs.benchmark_names(), 'memory', 'states', 'sets']
+    unknown = [name for name in options.names if name not in known_names]
     if unknown:
-        print(f'measure: {unknown[0]} is none of {", ".join(known)}', file=sys.stderr)
+        print(f'measure: {unknown[0]} is none of {", ".join(known_names)}', file=sys.stderr)
         return 2
     tally = Tally()
-    for name in words.names or known:
-        measure(programs, name, tally)
-    return tally.print_end()
+    for name in options.names or known_names:
+        measure_benchmark(programs, name, tally)
+    return tally.print_summary()

@@ -11,11 +11,11 @@ from crashfs_tools.common.trace import Trace
 from crashfs_tools.disks.crashing import CrashMaker
 from crashfs_tools.disks.disk import Disk, digest_of, different_disks
 from crashfs_tools.disks.filesystems import FileSystem
-from crashfs_tools.disks.levers import Lever
-from crashfs_tools.reading import Reading, read
-from crashfs_tools.reading.classes import Classes
+from crashfs_tools.disks.flushes import FlushKind
+from crashfs_tools.reading import Reading, parse_trace
+from crashfs_tools.reading.classes import SetClasses
 from crashfs_tools.reading.lines import PROFILES
-from crashfs_tools.reading.order import order_in, profile_names
+from crashfs_tools.reading.order import order_under, profile_names
 from crashfs_tools.reading.states import States
 
 # The profile that each file system is compared with.
@@ -30,19 +30,21 @@ TreeAndCount = Tuple[str, int]
 
 @dataclass
 class SessionResult:
-    """A session on a file system: how many disks there were and how many differ; how many of these
-    are among the states that a profile allows, for each profile; and texts of those that the file
-    system's profile does not allow. states counts the different states by `blocks`, and operations
-    those that the session was drawn with. The fields are those of a line of results.jsonl; an old
-    line that lacks operations is of a session with OPERATIONS."""
+    """What was found of a session on a file system. The fields are those of a line of
+    results.jsonl; an old line that lacks `operations` is of a session with OPERATIONS."""
 
     filesystem: str
     seed: int
+    # How many disks there were, how many of them differ, and how many different states `blocks`
+    # allows.
     disks: int = 0
     different: int = 0
     states: int = 0
+    # For each profile, how many of the different disks are among the states that it allows; and
+    # texts of the disks that the file system's own profile doesn't allow.
     allowed: Dict[str, int] = field(default_factory=dict)
     outside: List[str] = field(default_factory=list)
+    # With how many operations the session was drawn.
     operations: int = OPERATIONS
 
     def fields(self) -> Dict[str, object]:
@@ -59,42 +61,44 @@ def allowed_trees(reading: Reading, profile: str) -> Set[TreeAndCount]:
     """Each tree that a profile allows a crash to leave, by its digest, with the number of lines
     that are acknowledged then. The second reading goes through all different states, so sessions
     must be short. ReadingFault if the trace's version doesn't have the profile."""
-    states, found = States(reading), set()
-    for places in Classes(reading, order_in(reading, profile)).different():
-        tree = entries_of(states.tree(places))
-        found.add((digest_of(tree), states.count_says(places)))
-    return found
+    states, trees = States(reading), set()
+    for place_set in SetClasses(reading, order_under(reading, profile)).different_sets():
+        tree = entries_of(states.tree(place_set))
+        trees.add((digest_of(tree), states.count_says(place_set)))
+    return trees
 
 
-def session_result(name: str, seed: int, trace: Trace, disks: List[Disk]) -> SessionResult:
+def session_result(filesystem: str, seed: int, trace: Trace, disks: List[Disk]) -> SessionResult:
     """The result of a session on the file system of this name, from the different disks that it
     left there. A profile allows a disk if it allows the disk's tree with one of the numbers of
-    acknowledged lines that the disk may have. Texts are kept only of disks that the file system's
-    own profile doesn't allow. KeyError if PROFILE_OF has no such name."""
-    reading = read(trace_text(trace).encode())
+    acknowledged lines that the disk may have. KeyError if PROFILE_OF has no such name."""
+    reading = parse_trace(trace_text(trace).encode())
     allowed = {profile: allowed_trees(reading, profile) for profile in profile_names(reading)}
-    result = SessionResult(name, seed, sum(len(disk.crashes) for disk in disks), len(disks))
+    crash_count = sum(len(disk.crashes) for disk in disks)
+    result = SessionResult(filesystem, seed, crash_count, len(disks))
     result.states = len(allowed['blocks'])
     for profile, trees in allowed.items():
-        outside = [disk for disk in disks if not is_among(disk, trees)]
+        outside = [disk for disk in disks if not is_disk_among(disk, trees)]
         result.allowed[profile] = len(disks) - len(outside)
-        if profile == PROFILE_OF[name]:
+        if profile == PROFILE_OF[filesystem]:
             result.outside = [disk_text(disk) for disk in outside]
     return result
 
 
-def is_among(disk: Disk, trees: Set[TreeAndCount]) -> bool:
-    """Whether the disk's tree, with a number of lines that may be acknowledged, is one of these."""
+def is_disk_among(disk: Disk, trees: Set[TreeAndCount]) -> bool:
+    """Whether a disk's tree is one of `trees`, with one of the numbers of acknowledged lines that
+    the disk may have."""
     return any((disk.digest, count) in trees for count in disk.line_counts)
 
 
 def disk_text(disk: Disk) -> str:
     """The first crash that left a disk, and each path on it but the root, with its content. The
-    line is that of the last operation that was made; `the start` if none was."""
+    crash is given by the line of the last operation before it, or `the start` if there is none, and
+    by its kind of flush."""
     crash = disk.crashes[0]
     paths = ', '.join(f'{path} {entry_text(disk, path)}' for path in disk.tree if path != '/')
-    line = f'line {crash.moment.line}' if crash.moment.done else 'the start'
-    return f'{line}, {crash.lever.value}: {paths}'
+    line = f'line {crash.moment.line}' if crash.moment.operation_count else 'the start'
+    return f'{line}, {crash.flush_kind.value}: {paths}'
 
 
 def entry_text(disk: Disk, path: str) -> str:
@@ -110,21 +114,24 @@ def entry_text(disk: Disk, path: str) -> str:
 
 
 class SessionMaker:
-    """Makes sessions on one file system, and compares their disks. folder is for images. It is used
-    in a worker: see `become_worker` of the disks."""
+    """Makes sessions on one file system, with its images in a folder, and compares their disks. It
+    is used in a worker process: see become_worker()."""
 
     def __init__(self, filesystem: FileSystem, folder: str) -> None:
         self.filesystem = filesystem
         self.folder = folder
 
     def compare_session(self, seed: int, trace: Trace) -> SessionResult:
-        """Crashes a session at each of its moments by all levers, and compares the disks with the
-        allowed sets. The seed is that from which the trace was made: the result only names it.
-        Refused if an image can't be made or mounted; the images are removed in any case."""
+        """Crashes a session at each of its moments by all kinds of flushes, and compares the disks
+        with the allowed sets. The seed is the one from which the trace was drawn: the result only
+        names it. Refused if an image can't be made or mounted; the images are removed in any
+        case."""
         maker = CrashMaker(self.filesystem, trace, self.folder)
         try:
             disks = different_disks(
-                crash for moment in maker.moments() for crash in maker.crashes(moment, tuple(Lever))
+                crash
+                for moment in maker.crash_moments()
+                for crash in maker.crashes(moment, tuple(FlushKind))
             )
         finally:
             maker.remove_images()
@@ -133,14 +140,15 @@ class SessionMaker:
 
 def table_lines(results: List[SessionResult]) -> Iterator[str]:
     """The lines of a table of sums in Markdown: a row for each file system that has results, in the
-    order of PROFILE_OF. The last columns have how many of the different disks each profile
-    allows."""
+    order of PROFILE_OF. The last columns have how many of the different disks each profile allows.
+    KeyError if a result lacks one of PROFILES."""
     columns = ['File system', 'Sessions', 'Disks', 'Different', *(f'by `{it}`' for it in PROFILES)]
     yield f'| {" | ".join(columns)} |'
     yield f'|{"---|" * len(columns)}'
-    for name in PROFILE_OF:
-        rows = [one for one in results if one.filesystem == name]
-        if rows:
-            counts = [len(rows), sum(one.disks for one in rows), sum(one.different for one in rows)]
-            counts += [sum(one.allowed[profile] for one in rows) for profile in PROFILES]
-            yield f'| {name} | {" | ".join(f"{count:,}" for count in counts)} |'
+    for filesystem in PROFILE_OF:
+        sessions = [result for result in results if result.filesystem == filesystem]
+        if sessions:
+            counts = [len(sessions), sum(session.disks for session in sessions)]
+            counts.append(sum(session.different for session in sessions))
+            counts += [sum(session.allowed[it] for session in sessions) for it in PROFILES]
+            yield f'| {filesystem} | {" | ".join(f"{count:,}" for count in counts)} |'

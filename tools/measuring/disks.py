@@ -17,11 +17,12 @@ import sys
 from dataclasses import replace
 from functools import partial
 from pathlib import Path
-from typing import Iterator, List, Optional, Set, Tuple
+from typing import Iterator, List, Optional, Tuple
 
+from crashfs_tools.checker.command_line import parse_positive
 from crashfs_tools.common.command import Refused
 from crashfs_tools.common.guard import Guard
-from crashfs_tools.disks.filesystems import missing_requirement, filesystems_of
+from crashfs_tools.disks.filesystems import missing_requirement, filesystems_by_names
 from crashfs_tools.disks.pool import become_worker
 from crashfs_tools.disks.workers import DiskWorkers
 
@@ -33,7 +34,7 @@ from .disk_sessions import (
     table_lines,
     trace_text,
 )
-from .random_sessions import session
+from .random_sessions import draw_session
 
 MEMORY = '/dev/shm'
 RESULTS = 'results.jsonl'
@@ -42,9 +43,9 @@ RESULTS = 'results.jsonl'
 Task = Tuple[str, int]
 
 
-def parsed_words(given: List[str]) -> argparse.Namespace:
-    """The words after `measure disks`; wrong ones end the program with status 2. Only refusal()
-    looks whether the file systems are known."""
+def parse_words(words: List[str]) -> argparse.Namespace:
+    """The options of the words after `measure disks`; wrong ones, and counts below 1, end the
+    program with status 2. Only refusal_text() checks that the file systems are known."""
     parser = argparse.ArgumentParser(
         prog='measure disks',
         description=__doc__,
@@ -52,110 +53,126 @@ def parsed_words(given: List[str]) -> argparse.Namespace:
     )
     parser.add_argument('--on', default=','.join(PROFILE_OF), metavar='LIST', help='file systems')
     parser.add_argument('--first', type=int, default=1, metavar='SEED', help='the first seed (1)')
-    parser.add_argument('--sessions', type=int, default=300, metavar='N', help='how many (300)')
     parser.add_argument(
-        '--operations', type=int, default=OPERATIONS, metavar='N', help=f'of each ({OPERATIONS})'
+        '--sessions', type=parse_positive, default=300, metavar='N', help='how many (300)'
     )
     parser.add_argument(
-        '--jobs', type=int, default=os.cpu_count() or 1, metavar='N', help='at once'
+        '--operations',
+        type=parse_positive,
+        default=OPERATIONS,
+        metavar='N',
+        help=f'of each ({OPERATIONS})',
+    )
+    parser.add_argument(
+        '--jobs', type=parse_positive, default=os.cpu_count() or 1, metavar='N', help='at once'
     )
     parser.add_argument('dir', type=Path, metavar='DIR', help='where results are kept')
-    return parser.parse_args(given)
+    return parser.parse_args(words)
 
 
 class Measurement:
     """The sessions that are asked for, and the file of results, to which each new one is added. So
-    a run that was stopped is continued by the same words."""
+    a run that was stopped is continued by the same command line."""
 
-    def __init__(self, words: argparse.Namespace) -> None:
-        """Makes the folder DIR if it isn't there; reads no results yet."""
-        self.words = words
-        self.names = words.on.split(',')
-        self.path = words.dir / RESULTS
-        words.dir.mkdir(parents=True, exist_ok=True)
+    def __init__(self, options: argparse.Namespace) -> None:
+        """Makes the folder DIR if it isn't there; reads no results yet. OSError if it can't be
+        made, or is a file."""
+        self.options = options
+        self.filesystems = options.on.split(',')
+        self.results_path = options.dir / RESULTS
+        options.dir.mkdir(parents=True, exist_ok=True)
 
-    def results(self) -> List[SessionResult]:
-        """The results in the file of sessions that are asked for, with as many operations, in the
-        file's order; none if there is no file. ValueError if a line isn't whole."""
-        wanted = set(self.tasks())
-        lines = self.path.read_text('utf-8').splitlines() if self.path.exists() else []
-        found = [SessionResult(**json.loads(line)) for line in lines]
-        asked = [one for one in found if one.operations == self.words.operations]
-        return [one for one in asked if (one.filesystem, one.seed) in wanted]
+    def read_results(self) -> List[SessionResult]:
+        """The results in the file of the sessions that are asked for, in the file's order; none if
+        there is no file. Sessions with another number of operations are left out. ValueError if a
+        line isn't whole, as after a run that was killed; TypeError if one has other fields."""
+        tasks, path = set(self.tasks()), self.results_path
+        lines = path.read_text('utf-8').splitlines() if path.exists() else []
+        return [
+            result
+            for result in (SessionResult(**json.loads(line)) for line in lines)
+            if result.operations == self.options.operations
+            and (result.filesystem, result.seed) in tasks
+        ]
 
     def tasks(self) -> Iterator[Task]:
-        """Each seed that is asked for, on each file system that is: all file systems of a seed
-        follow each other."""
-        first, count = self.words.first, self.words.sessions
-        return ((name, seed) for seed in range(first, first + count) for name in self.names)
+        """A task for each seed and each file system that the options name, seed by seed."""
+        first_seed = self.options.first
+        seeds = range(first_seed, first_seed + self.options.sessions)
+        return ((name, seed) for seed in seeds for name in self.filesystems)
 
-    def missing(self) -> List[Task]:
-        """The tasks that are asked for and whose results the file doesn't have, in the order of
-        tasks()."""
-        done: Set[Task] = {(one.filesystem, one.seed) for one in self.results()}
-        return [task for task in self.tasks() if task not in done]
+    def tasks_left(self) -> List[Task]:
+        """The tasks whose results the file doesn't have, in the order of tasks(). Errors as
+        read_results()."""
+        done_tasks = {(result.filesystem, result.seed) for result in self.read_results()}
+        return [task for task in self.tasks() if task not in done_tasks]
 
-    def make(self, folder: str) -> None:
-        """Makes the sessions that have no result, several at once, and keeps each result as it
-        comes. Images are made in the folder. Refused if one can't be made or mounted, or a process
-        was killed; the results that were kept stay."""
-        tasks = self.missing()
-        makers = {one.name: SessionMaker(one, folder) for one in filesystems_of(self.names)}
+    def make_sessions(self, folder: str) -> None:
+        """Makes the sessions of tasks_left(), several at once, saves each result as it comes, and
+        shows on standard error how many are made. Images are made in the folder. Errors as
+        DiskWorkers.results(), and Refused if an image can't be made or mounted; the results that
+        were saved stay."""
+        tasks = self.tasks_left()
+        makers = {
+            it.name: SessionMaker(it, folder) for it in filesystems_by_names(self.filesystems)
+        }
 
-        def result_of(task: Task) -> SessionResult:
+        def make_session(task: Task) -> SessionResult:
             name, seed = task
-            count = self.words.operations
-            result = makers[name].compare_session(seed, session(seed, count))
+            count = self.options.operations
+            result = makers[name].compare_session(seed, draw_session(seed, count))
             return replace(result, operations=count)
 
-        begin = partial(become_worker, os.getpid())
-        with DiskWorkers(self.words.jobs, begin, result_of) as workers:
+        begin_worker = partial(become_worker, os.getpid())
+        with DiskWorkers(self.options.jobs, begin_worker, make_session) as workers:
             for count, result in enumerate(workers.results(tasks), 1):
-                self.keep(result)
+                self.save_result(result)
                 print(f'\r{count} of {len(tasks)} sessions', end='', file=sys.stderr, flush=True)
         print(file=sys.stderr)
 
-    def keep(self, result: SessionResult) -> None:
+    def save_result(self, result: SessionResult) -> None:
         """Adds a result to the file. If it has a disk outside the file system's profile, it also
-        writes the session's trace to DIR, as FILESYSTEM-SEED-OPERATIONS.trace."""
-        with self.path.open('a', encoding='utf-8') as file:
+        writes the session's trace to DIR, as FILESYSTEM-SEED-OPERATIONS.trace, over one that is
+        there. OSError if either can't be written: the file may have a part of the line."""
+        with self.results_path.open('a', encoding='utf-8') as file:
             file.write(json.dumps(result.fields()) + '\n')
         if result.outside:
-            trace = session(result.seed, result.operations)
+            trace = draw_session(result.seed, result.operations)
             name = f'{result.filesystem}-{result.seed}-{result.operations}.trace'
-            (self.words.dir / name).write_text(trace_text(trace), 'utf-8')
+            (self.options.dir / name).write_text(trace_text(trace), 'utf-8')
 
 
-def refusal(names: List[str]) -> Optional[str]:
+def refusal_text(filesystems: List[str]) -> Optional[str]:
     """Why the file systems of these names can't be measured here; None if they can. One that
     crashfs-check knows but PROFILE_OF doesn't have can't be, either."""
-    unknown = [name for name in names if name not in PROFILE_OF]
+    unknown = [name for name in filesystems if name not in PROFILE_OF]
     if unknown:
         return f'{unknown[0]} is none of {", ".join(PROFILE_OF)}'
-    return missing_requirement(filesystems_of(names))
+    return missing_requirement(filesystems_by_names(filesystems))
 
 
-def main(given: List[str]) -> int:
+def main(words: List[str]) -> int:
     """Runs `measure disks` with these words, and returns its status: 1 if a disk is outside its
-    file system's profile, 2 if the sessions can't be made here: no table is printed then. If the
-    file has all results, it needs neither images nor a guard."""
-    run = Measurement(parsed_words(given))
-    fault = refusal(run.names)
-    if fault is not None:
-        print(f'measure disks: {fault}', file=sys.stderr)
+    file system's profile; 2 if the sessions can't be made here, and no table is printed then. The
+    file systems must be usable even if the file has all results. Errors of Measurement are raised,
+    except Refused."""
+    run = Measurement(parse_words(words))
+    refusal = refusal_text(run.filesystems)
+    if refusal is not None:
+        print(f'measure disks: {refusal}', file=sys.stderr)
         return 2
-    if run.missing():
+    if run.tasks_left():
         with Guard('measure-disks', MEMORY if os.path.isdir(MEMORY) else None) as guard:
             try:
-                run.make(guard.directory)
+                run.make_sessions(guard.directory)
             except Refused as refused:
                 print(f'measure disks: {refused}', file=sys.stderr)
                 return 2
-    results = run.results()
-    print(f'Kernel {platform.release()}, {run.words.operations} operations a session\n')
+    results = run.read_results()
+    print(f'Kernel {platform.release()}, {run.options.operations} operations a session\n')
     print('\n'.join(table_lines(results)))
-    outside = [(one, text) for one in results for text in one.outside]
-    for one, text in outside:
-        profile = PROFILE_OF[one.filesystem]
-        print(f'\noutside {profile}: {one.filesystem}, session {one.seed}, {text}')
-    return 1 if outside else 0
+    for result in results:
+        for text in result.outside:
+            profile = PROFILE_OF[result.filesystem]
+            print(f'\noutside {profile}: {result.filesystem}, session {result.seed}, {text}')
+    return 1 if any(result.outside for result in results) else 0

@@ -7,11 +7,12 @@ Each is measured on a new server. What that has in memory when it begins to list
 from __future__ import annotations
 
 import subprocess
+from contextlib import ExitStack, closing
 from typing import Callable, List, Tuple
 
 from .client import Client, Refused, write_request
 from .programs import Programs, Tally
-from .servers import free_address, listening, resident_bytes, serve_words
+from .servers import free_address, resident_bytes, running_server, serve_words
 
 CONNECTIONS = 64
 RUNS = 4_096
@@ -22,100 +23,115 @@ BATCH = 8
 WRITES = 70_000
 # An idle connection may take so many bytes.
 IDLE_BYTES = 200_000
-# The connections that have filled a server, which stay open until its memory is read, and how many
-# things they filled it with.
-Filled = Tuple[List[Client], int]
 
 
-def fill_with_connections(address: str, connections: int) -> Filled:
-    """Opens so many connections, attaches all of them to the same run, and leaves them idle.
-    Refused if the server refuses an attach, OSError if it ends a connection."""
-    clients = [Client(address) for _ in range(connections)]
-    for client in clients:
+def open_clients(address: str, count: int, opened: ExitStack) -> List[Client]:
+    """Opens so many connections, each of which `opened` closes at its end, also if a later one
+    can't be opened. Errors as in Client."""
+    return [opened.enter_context(closing(Client(address))) for _ in range(count)]
+
+
+def fill_with_connections(address: str, connections: int, opened: ExitStack) -> int:
+    """Opens so many connections, which `opened` closes, attaches all of them to the same run, and
+    leaves them idle. Returns how many there are. Refused if the server refuses an attach, OSError
+    if it ends a connection."""
+    for client in open_clients(address, connections, opened):
         client.attach(0, '0/x')
-    return clients, len(clients)
+    return connections
 
 
-def fill_with_runs(address: str, runs: int, connections: int) -> Filled:
-    """Attaches a user to each of so many runs of one state, by so many connections in turn. Refused
-    if the server refuses an attach, OSError if it ends a connection."""
-    clients = [Client(address) for _ in range(connections)]
+def fill_with_runs(address: str, runs: int, connections: int, opened: ExitStack) -> int:
+    """Attaches a user to each of so many runs of one state, by so many connections in turn, which
+    `opened` closes. Returns how many runs there are. Errors as fill_with_connections()."""
+    clients = open_clients(address, connections, opened)
     for run in range(runs):
         clients[run % connections].attach(run // connections, f'0/r{run}')
-    return clients, runs
+    return runs
 
 
-def fill_with_writes(address: str, most: int) -> Filled:
-    """Writes blocks to a file of a run until the server refuses one, which means that its journal
-    is full, or until it has granted `most`. The count is of granted writes. They are sent in
-    batches, so it may be greater than `most` by less than BATCH."""
-    client = Client(address)
+def fill_with_writes(address: str, enough: int, opened: ExitStack) -> int:
+    """Writes blocks to a file of a run, by a connection that `opened` closes, until the server
+    refuses one, since its journal is full, or has granted `enough`. Returns how many it granted: up
+    to BATCH - 1 more, as they are sent in batches. Refused if the server refuses the attach, the
+    open or the first write, OSError if it ends the connection."""
+    (client,) = open_clients(address, 1, opened)
     client.attach(0, '0/x')
     client.open(0, 1, 'f')
     requests = [write_request(1, b'w' * BLOCK)] * BATCH
-    written = 0
-    while written < most:
-        granted = client.ask_all(requests)
-        written += granted
-        if granted < len(requests):
+    granted_count = 0
+    while granted_count < enough:
+        granted_of_batch = client.ask_all(requests)
+        granted_count += granted_of_batch
+        if granted_of_batch < len(requests):
             break
-    return [client], written
+    if not granted_count:
+        raise Refused('no write was granted')
+    return granted_count
 
 
-def growth_of_new_server(
-    programs: Programs, fill: Callable[[str], Filled], connections: int
+def measure_new_server(
+    programs: Programs, fill: Callable[[str, ExitStack], int], connections: int
 ) -> Tuple[int, int]:
-    """Starts a server that takes so many connections, has `fill` fill it, which gets the server's
-    address, and kills it. Returns by how many bytes it grew, and how many things filled it. OSError
-    if it doesn't listen; what `fill` raises is raised."""
+    """Starts a server that takes so many connections, calls `fill` with its address, and kills it.
+    Returns as measure_growth(). OSError if the server doesn't listen; errors of `fill` are
+    raised."""
     address = free_address()
-    with listening(serve_words(programs, address, connections)) as server:
-        return growth_of(server, lambda: fill(address))
+    with running_server(serve_words(programs, address, connections)) as server:
+        return measure_growth(server, lambda opened: fill(address, opened))
 
 
-def growth_of(server: subprocess.Popen[str], fill: Callable[[], Filled]) -> Tuple[int, int]:
-    """By how many bytes a server grows while it is filled, and how many things fill it. The
-    connections are closed after that, but not if `fill` raises."""
-    before = resident_bytes(server)
-    clients, count = fill()
-    more = resident_bytes(server) - before
-    for client in clients:
-        client.close()
-    return more, count
+def measure_growth(
+    server: subprocess.Popen[str], fill: Callable[[ExitStack], int]
+) -> Tuple[int, int]:
+    """By how many bytes a server grows while `fill` fills it, and the count that `fill` returns.
+    The growth is below 0 if the system takes pages away meanwhile. The connections that `fill` adds
+    to its stack are closed after that, also if it raises an error. OSError if the server has
+    ended."""
+    bytes_before = resident_bytes(server)
+    with ExitStack() as opened:
+        count = fill(opened)
+        growth = resident_bytes(server) - bytes_before
+    return growth, count
 
 
 def add_connection_rows(programs: Programs, tally: Tally) -> None:
-    """Measures and prints the rows of idle connections: what all take together, and what each
-    takes, which has a bound. Refused or OSError if the server fails."""
-    more, count = growth_of_new_server(
-        programs, lambda at: fill_with_connections(at, CONNECTIONS), CONNECTIONS
+    """Measures and prints the rows of idle connections: the memory of all together, and of each,
+    which has a bound. Refused or OSError if the server fails."""
+    growth, count = measure_new_server(
+        programs,
+        lambda address, opened: fill_with_connections(address, CONNECTIONS, opened),
+        CONNECTIONS,
     )
-    tally.add_figure(f'{count} idle connections', more / 1e6, 'MB')
-    tally.add_figure('each', more / count, 'bytes', IDLE_BYTES)
+    tally.add_figure(f'{count} idle connections', growth / 1e6, 'MB')
+    tally.add_figure('each', growth / count, 'bytes', IDLE_BYTES)
 
 
 def add_run_rows(programs: Programs, tally: Tally) -> None:
-    """Measures and prints the rows of as many runs as a server allows: what all take together, and
-    each. They have no bound. Refused or OSError if the server fails."""
-    more, count = growth_of_new_server(
-        programs, lambda at: fill_with_runs(at, RUNS, CONNECTIONS), CONNECTIONS
+    """Measures and prints the rows of as many runs as a server allows: the memory of all together,
+    and of each. They have no bound. Refused or OSError if the server fails."""
+    growth, count = measure_new_server(
+        programs,
+        lambda address, opened: fill_with_runs(address, RUNS, CONNECTIONS, opened),
+        CONNECTIONS,
     )
-    what = f'{count} runs with a user each, by {CONNECTIONS} connections'
-    tally.add_figure(what, more / 1e6, 'MB')
-    tally.add_figure('each, with its part of the connections', more / count, 'bytes')
+    label = f'{count} runs with a user each, by {CONNECTIONS} connections'
+    tally.add_figure(label, growth / 1e6, 'MB')
+    tally.add_figure('each, with its part of the connections', growth / count, 'bytes')
 
 
 def add_journal_rows(programs: Programs, tally: Tally) -> None:
-    """Measures and prints the rows of a full journal: its size, and what each write takes in
-    addition to its bytes. They have no bound. Refused or OSError if the server fails."""
-    more, count = growth_of_new_server(programs, lambda at: fill_with_writes(at, WRITES), 1)
-    tally.add_figure(f'a full journal, with {count} writes of 4 kB', more / 1e6, 'MB')
-    tally.add_figure('each write, beside its bytes', more / count - BLOCK, 'bytes')
+    """Measures and prints the rows of a full journal: its memory, and that of each write without
+    the bytes that it writes. They have no bound. Refused or OSError if the server fails."""
+    growth, count = measure_new_server(
+        programs, lambda address, opened: fill_with_writes(address, WRITES, opened), 1
+    )
+    tally.add_figure(f'a full journal, with {count} writes of 4 kB', growth / 1e6, 'MB')
+    tally.add_figure('each write, beside its bytes', growth / count - BLOCK, 'bytes')
 
 
 def add_memory_rows(programs: Programs, tally: Tally) -> None:
-    """Measures and prints all rows of memory. What can't be measured is a failure, and the next is
-    measured. The program `crashfs` must be built."""
+    """Measures and prints all rows of memory. If a server fails, that is a failure of the tally,
+    and the next rows are measured. The program `crashfs` must be built."""
     for add_rows in (add_connection_rows, add_run_rows, add_journal_rows):
         try:
             add_rows(programs, tally)

@@ -18,18 +18,18 @@ class Programs:
 
     top: Path
 
-    def built(self, name: str) -> Optional[Path]:
-        """The path of a crate's program; None if it isn't built. It may be older than its
+    def path_if_built(self, name: str) -> Optional[Path]:
+        """The path of a crate's program; None if it isn't built. The program may be older than its
         sources."""
         program = self.top / 'crates' / name / 'out' / name
         return program if os.access(program, os.X_OK) else None
 
-    def benchmarks(self) -> List[str]:
+    def benchmark_names(self) -> List[str]:
         """The names of the benchmark programs, built or not, in the order of crates.txt: crates
-        that end in `_bench` and are no library."""
+        that end in `_bench` and are no library. OSError if there is no crates.txt."""
         lines = (self.top / 'crates.txt').read_text().splitlines()
-        names = [head[0] for head in (line.partition(':')[0].split() for line in lines) if head]
-        return [name for name in names if name.endswith('_bench') and self.is_program(name)]
+        crates = [words[0] for words in (line.partition(':')[0].split() for line in lines) if words]
+        return [name for name in crates if name.endswith('_bench') and self.is_program(name)]
 
     def is_program(self, name: str) -> bool:
         """Whether a crate is a program, and no library."""
@@ -38,56 +38,59 @@ class Programs:
 
 @dataclass
 class Tally:
-    """Prints rows, and keeps what the end says of them: how many are within their bounds, which are
-    past them, and which benchmarks lack a program or failed. name is the benchmark whose rows are
+    """Prints rows, and counts for the last line how many are within their bounds, which are past
+    them, and which benchmarks lack a program or failed. `benchmark` is the one whose rows are
     printed now."""
 
-    within: int = 0
-    past: List[str] = field(default_factory=list)
-    lacking: List[str] = field(default_factory=list)
+    within_count: int = 0
+    past_rows: List[str] = field(default_factory=list)
+    not_built: List[str] = field(default_factory=list)
     failed: List[str] = field(default_factory=list)
-    name: str = ''
+    benchmark: str = ''
 
-    def begin(self, name: str) -> None:
+    def begin_benchmark(self, name: str) -> None:
         """Prints the head of a benchmark. The rows and failures that are added next are this
         benchmark's."""
-        self.name = name
+        self.benchmark = name
         print(f'== {name}', flush=True)
 
-    def add_lacking(self, name: str, needed: Sequence[str]) -> None:
+    def add_not_built(self, name: str, programs: Sequence[str]) -> None:
         """Prints that a benchmark can't be run since these programs aren't built. The status
         doesn't depend on it."""
-        self.lacking.append(name)
-        print(f'== {name}: not built: {", ".join(needed)}', flush=True)
+        self.not_built.append(name)
+        print(f'== {name}: not built: {", ".join(programs)}', flush=True)
 
     def add_failure(self, why: str) -> None:
         """Prints that the benchmark whose rows are printed now has failed, and why: the status of
-        print_end() is 1 then. A benchmark that fails twice is named twice there."""
-        self.failed.append(self.name)
-        print(f'{self.name} failed: {why}', flush=True)
+        print_summary() is 1 then. A benchmark that fails twice is named twice there."""
+        self.failed.append(self.benchmark)
+        print(f'{self.benchmark} failed: {why}', flush=True)
 
     def add_line(self, line: str) -> None:
-        """Prints a line. A line that says that its figure is within or past a bound is counted so;
-        others aren't counted."""
+        """Prints a line. If it says that its figure is within or past a bound, it is counted as
+        such a row; other lines aren't counted."""
         print(line, flush=True)
-        found = VERDICT.search(line)
-        if found and found[1] == 'past':
-            self.past.append(f'{self.name}: {line}')
-        elif found:
-            self.within += 1
+        verdict = VERDICT.search(line)
+        if verdict and verdict[1] == 'past':
+            self.past_rows.append(f'{self.benchmark}: {line}')
+        elif verdict:
+            self.within_count += 1
 
-    def add_figure(self, what: str, figure: float, unit: str, most: Optional[float] = None) -> None:
-        """Prints a figure with its unit in the form of the programs' rows. With a bound `most`, it
+    def add_figure(
+        self, label: str, figure: float, unit: str, most: Optional[float] = None
+    ) -> None:
+        """Prints a figure with its unit in the form of the programs' rows. With a bound `most` it
         also says whether the figure is within, and the row is counted."""
-        held = ''
+        verdict = ''
         if most is not None:
-            held = f', {"within" if figure <= most else "past"} (at most {most:g})'
-        self.add_line(f'{what}: {figure:.3f} {unit}{held}')
+            verdict = f', {"within" if figure <= most else "past"} (at most {most:g})'
+        self.add_line(f'{label}: {figure:.3f} {unit}{verdict}')
 
-    def run(self, words: List[str], cpus: Optional[Sequence[int]] = None) -> None:
-        """Runs a program on these processors, or on all, to its end, and adds each line that it
-        prints. A status that isn't 0 is a failure; OSError if it can't be started."""
-        child = start_program(words, cpus)
+    def run_program(self, words: List[str], processors: Optional[Sequence[int]] = None) -> None:
+        """Runs a program on these processors, or on all, to its end, however long it takes, and
+        adds each line that it prints. A status that isn't 0 is a failure. Errors as
+        start_program()."""
+        child = start_program(words, processors)
         assert child.stdout is not None
         with child.stdout:
             for line in child.stdout:
@@ -96,27 +99,34 @@ class Tally:
         if status != 0:
             self.add_failure(f'status {status}')
 
-    def print_end(self) -> int:
+    def print_summary(self) -> int:
         """Prints the rows that are past their bounds, and a line with all counts; returns the
         command's status: 1 if a row is past its bound or a benchmark failed, else 0. What isn't
         built doesn't count."""
-        for row in self.past:
+        for row in self.past_rows:
             print(f'past: {row}')
-        lacking = f'; not built: {", ".join(self.lacking)}' if self.lacking else ''
+        not_built = f'; not built: {", ".join(self.not_built)}' if self.not_built else ''
         failed = f'; failed: {", ".join(self.failed)}' if self.failed else ''
-        print(f'{self.within} rows within, {len(self.past)} past{lacking}{failed}')
-        return 1 if self.past or self.failed else 0
+        print(f'{self.within_count} rows within, {len(self.past_rows)} past{not_built}{failed}')
+        return 1 if self.past_rows or self.failed else 0
 
 
-def start_program(words: List[str], cpus: Optional[Sequence[int]] = None) -> subprocess.Popen[str]:
+def start_program(
+    words: List[str], processors: Optional[Sequence[int]] = None
+) -> subprocess.Popen[str]:
     """Starts a program on these processors, or on all if none are named. Its standard output is a
-    pipe to be read, its standard input is empty, and standard error is this process's. OSError if
-    it can't be started."""
+    pipe, its standard input is empty, and standard error is this process's. OSError if it can't be
+    started, SubprocessError if it may not use these processors. The caller closes the pipe and
+    waits for the program."""
 
-    def place() -> None:
-        if cpus:
-            os.sched_setaffinity(0, cpus)
+    def set_processors() -> None:
+        if processors:
+            os.sched_setaffinity(0, processors)
 
     return subprocess.Popen(
-        words, stdin=subprocess.DEVNULL, stdout=subprocess.PIPE, text=True, preexec_fn=place
+        words,
+        stdin=subprocess.DEVNULL,
+        stdout=subprocess.PIPE,
+        text=True,
+        preexec_fn=set_processors,
     )

@@ -27,7 +27,7 @@ from crashfs_tools.common.trace import (
     Unlink,
     Write,
 )
-from crashfs_tools.common.trace_read import tree_of
+from crashfs_tools.common.trace_read import tree_without_start
 
 ROOT = 'root', 'root'
 FILE_MODE, DIRECTORY_MODE = 0o644, 0o755
@@ -55,15 +55,17 @@ KINDS = {
 SYNCS = (Fsync, Fdatasync, FsyncRange, Sync)
 
 
-def session(seed: int, operations: int) -> Trace:
-    """The session of a seed, with so many operations. After each sync a line is acknowledged, and
-    one at the end; these lines aren't counted. A seed gives the same session each time: results and
-    pages name sessions by it."""
-    return DrawnSession(seed).with_operations(operations)
+def draw_session(seed: int, operation_count: int) -> Trace:
+    """The session of a seed, with so many operations, 0 or more. After each sync a line is
+    acknowledged, and one at the end; these lines aren't counted. A seed gives the same session each
+    time: results and pages name sessions by it."""
+    session = DrawnSession(seed)
+    session.draw_operations(operation_count)
+    return session.trace
 
 
 class DrawnSession:
-    """A session that is drawn: its start tree at first, then operation by operation. tree is what
+    """A session that is drawn: its start tree at first, then operation by operation. `tree` is what
     the operations so far leave. Each method that draws uses up random numbers, so the order of
     calls decides what a seed gives."""
 
@@ -71,49 +73,49 @@ class DrawnSession:
         """Draws the start tree: /d and /e, perhaps /d/f and the link /e/c, and two files."""
         self.random = random.Random(seed)
         self.trace = Trace(Header(*ROOT, DIRECTORY_MODE), version=4)
-        for path in ('/d', '/e', *(['/d/f'] if self.chance(3) else [])):
+        for path in ('/d', '/e', *(['/d/f'] if self.is_drawn(one_in=3) else [])):
             self.trace.start.append(Start(path, *ROOT, DIRECTORY_MODE, None))
         for path in self.random.sample(['/a', '/b', '/d/a', '/d/b', '/e/a'], 2):
             data = self.random.choice([b'old', b'x' * 5000])
             self.trace.start.append(Start(path, *ROOT, FILE_MODE, data))
-        if self.chance(3):
+        if self.is_drawn(one_in=3):
             self.trace.start.append(StartSymlink('/e/c', *ROOT, 'a'))
-        self.tree = tree_of(self.trace)
+        self.tree = tree_without_start(self.trace)
         for line in self.trace.start:
             self.tree.add_start(line)
 
-    def chance(self, times: int) -> bool:
-        """Draws what is true once in so many times."""
-        return self.random.randrange(times) == 0
+    def is_drawn(self, one_in: int) -> bool:
+        """Draws whether something is done, which is true once in so many times."""
+        return self.random.randrange(one_in) == 0
 
-    def with_operations(self, operations: int) -> Trace:
-        """Draws so many operations, and returns the whole session; to be called once. A draw that
-        the tree doesn't allow, or that only renames a file to another name of its own, isn't
-        counted and is drawn again."""
-        kinds = list(KINDS)
-        while operations:
-            kind = self.random.choices(kinds, list(KINDS.values()))[0]
-            operation = getattr(self, kind)()
-            if operation is None or self.tree.fault(operation) or self.does_nothing(operation):
-                continue
+    def draw_operations(self, count: int) -> None:
+        """Adds so many drawn operations, 0 or more, to the trace, with acknowledged lines as
+        draw_session() says. A draw that the tree doesn't allow, or that only renames a file to
+        another name of its own, is dropped and drawn again."""
+        for _ in range(count):
+            operation = None
+            while operation is None or not self.is_useful(operation):
+                kind = self.random.choices(list(KINDS), list(KINDS.values()))[0]
+                operation = getattr(self, f'draw_{kind}')()
             self.tree.apply(operation)
             self.trace.operations.append(operation)
             if isinstance(operation, SYNCS):
                 self.trace.operations.append(Say(f'{len(self.trace.operations)}'))
-            operations -= 1
         self.trace.operations.append(Say('end'))
-        return self.trace
 
-    def does_nothing(self, operation: Operation) -> bool:
-        """Whether an operation is a rename to another name of the same file, which changes nothing.
-        The rename must be one that the tree allows."""
-        return isinstance(operation, Rename) and self.tree.files[
-            operation.source
-        ] == self.tree.files.get(operation.target)
+    def is_useful(self, operation: Operation) -> bool:
+        """Whether the tree allows an operation, and it is no rename to another name of the same
+        file, which changes nothing."""
+        if self.tree.fault(operation):
+            return False
+        if not isinstance(operation, Rename):
+            return True
+        files = self.tree.files
+        return files[operation.source] != files.get(operation.target)
 
-    # What operations are drawn of
+    # Paths and sizes of the tree
 
-    def paths(self, kind: str) -> List[str]:
+    def paths_of(self, kind: str) -> List[str]:
         """The paths of all entries of a kind, which is `dir`, `file` or `link`. The root isn't
         among them."""
         return [
@@ -123,93 +125,95 @@ class DrawnSession:
             and kind == ('dir' if entry.is_directory else 'file' if entry.is_file else 'link')
         ]
 
-    def one_of(self, paths: List[str]) -> Optional[str]:
-        """Draws one of some paths; None if there are none."""
+    def draw_path(self, *kinds: str) -> Optional[str]:
+        """Draws the path of an entry of these kinds, as paths_of() has them; None if there is no
+        such entry."""
+        paths = [path for kind in kinds for path in self.paths_of(kind)]
         return self.random.choice(paths) if paths else None
 
-    def file(self) -> Optional[str]:
-        """Draws the path of a file; None if there is none."""
-        return self.one_of(self.paths('file'))
+    def draw_new_path(self, names: str) -> str:
+        """Draws a path for a new entry: one of these names, in the root or another directory.
+        Something may have the path already."""
+        directory = self.random.choice(['', *self.paths_of('dir')])
+        return f'{directory}/{self.random.choice(names)}'
 
-    def place(self, names: str) -> str:
-        """Draws a path: one of these names, in the root or another directory. Something may have
-        the path already."""
-        above = self.random.choice(['', *self.paths('dir')])
-        return f'{above}/{self.random.choice(names)}'
-
-    def size(self, path: str) -> int:
-        """How many bytes the file at a path has. There must be a file."""
+    def file_size(self, path: str) -> int:
+        """How many bytes the file at a path has. There must be a file, which is never sparse
+        here."""
         data = self.tree.entries[path].data
         assert data is not None and not isinstance(data, SparseBytes)
         return len(data)
 
-    # A method for each kind, which draws an operation; None if there is nothing that it could be of
+    # A method for each kind, which draws an operation; None if the tree has nothing for it
 
-    def creat(self) -> Operation:
-        return Creat(self.place(NAMES), *ROOT, FILE_MODE)
+    def draw_creat(self) -> Operation:
+        return Creat(self.draw_new_path(NAMES), *ROOT, FILE_MODE)
 
-    def mkdir(self) -> Operation:
-        return Mkdir(self.place(DIRECTORIES), *ROOT, DIRECTORY_MODE)
+    def draw_mkdir(self) -> Operation:
+        return Mkdir(self.draw_new_path(DIRECTORIES), *ROOT, DIRECTORY_MODE)
 
-    def symlink(self) -> Operation:
-        return Symlink(self.place(NAMES), *ROOT, self.random.choice(['a', '../b', 'd/none']))
+    def draw_symlink(self) -> Operation:
+        """Draws a new symbolic link; there may be nothing at its target."""
+        return Symlink(
+            self.draw_new_path(NAMES), *ROOT, self.random.choice(['a', '../b', 'd/none'])
+        )
 
-    def write(self, is_append: bool = False) -> Optional[Operation]:
+    def draw_write(self, is_append: bool = False) -> Optional[Operation]:
         """Draws a write to a file: at 0, 2 or 4096, which may be past its end, or with is_append at
         its end. None if there is no file."""
-        path = self.file()
+        path = self.draw_path('file')
         if path is None:
             return None
-        offset = self.size(path) if is_append else self.random.choice([0, 0, 2, 4096])
+        offset = self.file_size(path) if is_append else self.random.choice([0, 0, 2, 4096])
         letter = self.random.choice(b'ABCDEFG')
         return Write(path, offset, bytes([letter]) * self.random.choice([2, 3, 4096, 5000]))
 
-    def append(self) -> Optional[Operation]:
-        return self.write(is_append=True)
+    def draw_append(self) -> Optional[Operation]:
+        return self.draw_write(is_append=True)
 
-    def truncate(self) -> Optional[Operation]:
+    def draw_truncate(self) -> Optional[Operation]:
         """Draws a truncate of a file to its present length, or to a shorter or longer one; None if
         there is no file."""
-        path = self.file()
+        path = self.draw_path('file')
         length = self.random.choice([0, 1, 2, 4096, 6000])
         return Truncate(path, length) if path else None
 
-    def rename(self) -> Optional[Operation]:
-        path = self.one_of(self.paths('file') + self.paths('link'))
-        return Rename(path, self.place(NAMES)) if path else None
+    def draw_rename(self) -> Optional[Operation]:
+        path = self.draw_path('file', 'link')
+        return Rename(path, self.draw_new_path(NAMES)) if path else None
 
-    def rename_directory(self) -> Optional[Operation]:
-        path = self.one_of(self.paths('dir'))
-        return Rename(path, self.place(DIRECTORIES)) if path else None
+    def draw_rename_directory(self) -> Optional[Operation]:
+        path = self.draw_path('dir')
+        return Rename(path, self.draw_new_path(DIRECTORIES)) if path else None
 
-    def link(self) -> Optional[Operation]:
-        path = self.file()
-        return Link(path, self.place(NAMES)) if path else None
+    def draw_link(self) -> Optional[Operation]:
+        path = self.draw_path('file')
+        return Link(path, self.draw_new_path(NAMES)) if path else None
 
-    def unlink(self) -> Optional[Operation]:
-        path = self.one_of(self.paths('file') + self.paths('link'))
+    def draw_unlink(self) -> Optional[Operation]:
+        path = self.draw_path('file', 'link')
         return Unlink(path) if path else None
 
-    def rmdir(self) -> Optional[Operation]:
-        path = self.one_of(self.paths('dir'))
+    def draw_rmdir(self) -> Optional[Operation]:
+        path = self.draw_path('dir')
         return Rmdir(path) if path else None
 
-    def fsync(self) -> Optional[Operation]:
-        path = self.file()
+    def draw_fsync(self) -> Optional[Operation]:
+        path = self.draw_path('file')
         return Fsync(path) if path else None
 
-    def fdatasync(self) -> Optional[Operation]:
-        path = self.file()
+    def draw_fdatasync(self) -> Optional[Operation]:
+        path = self.draw_path('file')
         return Fdatasync(path) if path else None
 
-    def fsync_range(self) -> Optional[Operation]:
+    def draw_fsync_range(self) -> Optional[Operation]:
         """Draws a sync of the first or the second page of a file, which may be past its end; None
         if there is no file."""
-        path = self.file()
+        path = self.draw_path('file')
         return FsyncRange(path, 4096 * self.random.randrange(2), 4096) if path else None
 
-    def fsync_directory(self) -> Operation:
-        return Fsync(self.random.choice(['/', *self.paths('dir')]))
+    def draw_fsync_directory(self) -> Operation:
+        return Fsync(self.random.choice(['/', *self.paths_of('dir')]))
 
-    def sync(self) -> Operation:
+    def draw_sync(self) -> Operation:
         return Sync()

@@ -14,18 +14,19 @@ from .programs import Programs, start_program
 
 
 def processor_halves() -> Tuple[List[int], List[int]]:
-    """The processors for servers, then those for clients: half of those that this process may use
-    each. Of an odd number the clients have one more; a single one is for both."""
-    cpus = sorted(os.sched_getaffinity(0))
-    half = len(cpus) // 2
-    return cpus[:half] or cpus, cpus[half:]
+    """The processors for servers, then those for clients: each have half of those that this process
+    may use. Of an odd number the clients have one more; a single one is for both."""
+    processors = sorted(os.sched_getaffinity(0))
+    half = len(processors) // 2
+    return processors[:half] or processors, processors[half:]
 
 
 def free_address() -> str:
-    """HOST:PORT on this machine, where nobody listens. The next 253 calls, and other processes, use
-    other hosts of 127.0.0.0/8: so nobody else takes the port before a server does."""
-    process = os.getpid()
-    host = f'127.{next(_HOSTS)}.{process >> 8 & 255}.{process & 255}'
+    """HOST:PORT on this machine, at which nobody listens. The next 253 calls, and processes whose
+    ids have other low 16 bits, use other hosts of 127.0.0.0/8: so nobody else takes the port before
+    a server does."""
+    process_id = os.getpid()
+    host = f'127.{next(_HOSTS)}.{process_id >> 8 & 255}.{process_id & 255}'
     with socket.socket() as listener:
         listener.bind((host, 0))
         return f'{host}:{listener.getsockname()[1]}'
@@ -35,16 +36,20 @@ _HOSTS = itertools.cycle(range(1, 255))
 
 
 @contextmanager
-def listening(words: List[str]) -> Iterator[subprocess.Popen[str]]:
-    """Starts a server, and waits for its line `listening ..`: within this it runs, and at the end
-    it is killed. OSError if it can't be started, or its first line is another one or never comes
-    because it ended; it is killed then too."""
+def running_server(words: List[str]) -> Iterator[subprocess.Popen[str]]:
+    """A server, given by its command line, which runs on the processors for servers until the
+    `with` ends, and is killed then. The `with` begins when the server has printed the line
+    `listening ..`, however long that takes. OSError if the server can't be started, or ends or
+    prints another line first. What it prints later isn't read: the server waits once the pipe is
+    full."""
     server = start_program(words, processor_halves()[0])
     assert server.stdout is not None
     try:
         line = server.stdout.readline()
         if not line.startswith('listening '):
-            raise OSError(f'{words[0]} does not listen: {line!r}, status {server.poll()}')
+            # It may close the pipe a moment before it ends.
+            status = server.poll() if line else server.wait()
+            raise OSError(f'{words[0]} does not listen: {line!r}, status {status}')
         yield server
     finally:
         server.kill()
@@ -53,11 +58,11 @@ def listening(words: List[str]) -> Iterator[subprocess.Popen[str]]:
 
 
 def serve_words(programs: Programs, address: str, connections: int) -> List[str]:
-    """The words of `crashfs serve` that serve the only state of a small trace, by one worker, to so
-    many connections at once. The program must be built."""
+    """The command line of `crashfs serve` for the only state of a small trace, with one worker, for
+    so many connections at once. The program must be built: if not, the first word is `None`."""
     examples: Path = programs.top / 'examples'
     return [
-        str(programs.built('crashfs')),
+        str(programs.path_if_built('crashfs')),
         'serve',
         '--users',
         str(examples / 'users'),
@@ -74,8 +79,8 @@ def serve_words(programs: Programs, address: str, connections: int) -> List[str]
 
 
 def resident_bytes(server: subprocess.Popen[str]) -> int:
-    """How many bytes a server has in memory: VmRSS of proc(5). If it has ended: 0, or OSError if it
-    was waited for, too."""
+    """How many bytes a server has in memory: VmRSS of proc(5). 0 if it has ended; OSError if it was
+    also waited for."""
     for line in Path(f'/proc/{server.pid}/status').read_text().splitlines():
         if line.startswith('VmRSS:'):
             return int(line.split()[1]) * 1024

@@ -5,7 +5,7 @@ from __future__ import annotations
 from contextlib import ExitStack
 
 from .programs import Programs, Tally
-from .servers import free_address, listening, processor_halves, serve_words
+from .servers import free_address, processor_halves, running_server, serve_words
 
 # How many clients, and whether each has a run of its own or all are on one.
 SETTINGS = [(8, 'own'), (8, 'one'), (64, 'own')]
@@ -15,18 +15,18 @@ KEEPING = ['forgets', 'blocks', 'large']
 
 def add_serving_rows(programs: Programs, tally: Tally) -> None:
     """Starts all four servers for each setting, and prints the rows that `serve_bench` prints of
-    them. If a server doesn't listen, or a program can't be started, that is a failure, and the next
-    setting is measured. Both programs must be built."""
+    them. If a server doesn't listen, or a program can't be started, that is a failure of the tally,
+    and the next setting is measured. Both programs must be built."""
     for clients, runs in SETTINGS:
-        place = 'each on a run of its own' if runs == 'own' else 'all on one run'
-        tally.add_line(f'-- {clients} clients, {place}')
-        bench = str(programs.built('serve_bench'))
+        runs_text = 'each on a run of its own' if runs == 'own' else 'all on one run'
+        tally.add_line(f'-- {clients} clients, {runs_text}')
+        bench = str(programs.path_if_built('serve_bench'))
         addresses = [free_address() for _ in range(len(KEEPING) + 1)]
         try:
             with ExitStack() as servers:
-                servers.enter_context(listening(serve_words(programs, addresses[0], clients)))
+                servers.enter_context(running_server(serve_words(programs, addresses[0], clients)))
                 for keeping, address in zip(KEEPING, addresses[1:]):
-                    servers.enter_context(listening([bench, address, str(clients), keeping]))
-                tally.run([bench, *addresses, str(clients), runs], processor_halves()[1])
+                    servers.enter_context(running_server([bench, address, str(clients), keeping]))
+                tally.run_program([bench, *addresses, str(clients), runs], processor_halves()[1])
         except OSError as error:
             tally.add_failure(str(error))

@@ -28,105 +28,120 @@ MOST, MOST_MILLISECONDS, RUNS = 1.5, 1.0, 3
 
 
 class Times(NamedTuple):
-    """What a command took that tried states: how many there were and how many it tried, the
-    processor time of it and its children, and the time that passed, in seconds."""
+    """The times of a command that tried states: how many states there were and how many it tried,
+    the processor time of it and its children, and the time that passed."""
 
-    states: int
-    tried: int
-    processor: float
-    wall: float
+    state_count: int
+    tried_count: int
+    processor_seconds: float
+    wall_seconds: float
 
 
-def times_of(
-    words: List[str], tried: int = 0, environment: Optional[Dict[str, str]] = None
+def measure_times(
+    words: List[str], tried_count: int = 0, environment: Optional[Dict[str, str]] = None
 ) -> Times:
-    """Runs a command that tries states, and returns its times. How many states there are, and how
-    many it tried, is what it prints; if it prints neither, both are `tried`. OSError if its status
-    isn't 0, or if it prints no numbers and `tried` is 0."""
+    """Runs a command that tries states, and returns its times. It prints how many states there are
+    and how many it tried; if it prints neither, both are `tried_count`. Waits without limit.
+    OSError if it can't be started, if its status isn't 0, or if it prints no numbers and
+    `tried_count` is 0."""
     began = time.monotonic()
     with subprocess.Popen(
         words, stdout=subprocess.PIPE, stdin=subprocess.DEVNULL, text=True, env=environment
     ) as child:
         assert child.stdout is not None
         printed = child.stdout.read()
-        _, status, used = os.wait4(child.pid, 0)
+        _, status, usage = os.wait4(child.pid, 0)
         child.returncode = os.waitstatus_to_exitcode(status)
-    wall = time.monotonic() - began
-    found = TRIED.search(printed)
-    if child.returncode != 0 or not (tried or found):
+    wall_seconds = time.monotonic() - began
+    printed_counts = TRIED.search(printed)
+    if child.returncode != 0 or not (tried_count or printed_counts):
         raise OSError(f'{words[0]} ended with status {child.returncode}: {printed[-200:]}')
-    counts = [int(count.replace(',', '')) for count in found.groups()] if found else [tried, tried]
-    return Times(counts[0], counts[1], used.ru_utime + used.ru_stime, wall)
+    counts = [tried_count, tried_count]
+    if printed_counts:
+        counts = [int(count.replace(',', '')) for count in printed_counts.groups()]
+    return Times(counts[0], counts[1], usage.ru_utime + usage.ru_stime, wall_seconds)
 
 
 class Checks:
-    """Checks of SQLite's example. folder is for compiled modules: these are there before anything
-    is measured, as they are after a user's first check."""
+    """Checks of SQLite's example. `folder` is for the modules that Python compiles: these are there
+    before anything is measured, as they are after a user's first check."""
 
     def __init__(self, programs: Programs, folder: str) -> None:
         """Runs a first check, which isn't measured, so that Python compiles the modules. The
         program `crashfs` must be built. OSError if the check fails."""
-        self.program = str(programs.built('crashfs'))
+        self.program = str(programs.path_if_built('crashfs'))
         self.environment = {**os.environ, 'PYTHONPYCACHEPREFIX': folder}
         self.environment.pop('PYTHONDONTWRITEBYTECODE', None)
-        self.times('--prefixes')
+        self.measure_check('--prefixes')
 
-    def times(self, *options: str) -> Times:
+    def measure_check(self, *options: str) -> Times:
         """The times of one check with these options. It tries prefixes and holes (`--families`), or
         only prefixes if `--prefixes` is among the options, so that figures can be compared with
-        those of earlier versions. `-S` leaves out what this machine's Python loads by itself.
-        OSError if a state fails, or the check does."""
-        families = [] if '--prefixes' in options else ['--families']
+        those of earlier versions. OSError if a state fails, or the check does."""
+        # -S leaves out what this machine's Python loads by itself.
         program = [sys.executable, '-S', str(CHECK), '--crashfs', self.program]
+        families = [] if '--prefixes' in options else ['--families']
         words = [*program, *families, *options, str(TRACE), '--', '/bin/true']
-        return times_of(words, environment=self.environment)
+        return measure_times(words, environment=self.environment)
 
     def least_times(self, *options: str) -> Times:
         """The least processor time and the least wall time of RUNS checks with these options: they
-        may be of different checks. The counts are those of the first. OSError as times()."""
-        found = [self.times(*options) for _ in range(RUNS)]
-        return found[0]._replace(
-            processor=min(one.processor for one in found), wall=min(one.wall for one in found)
+        may be of different checks. The counts are those of the first. OSError as
+        measure_check()."""
+        all_times = [self.measure_check(*options) for _ in range(RUNS)]
+        return all_times[0]._replace(
+            processor_seconds=min(times.processor_seconds for times in all_times),
+            wall_seconds=min(times.wall_seconds for times in all_times),
         )
 
 
-def c_program_times(folder: str, count: int) -> Times:
+def measure_c_program(folder: str, state_count: int) -> Times:
     """The times of the C program for so many states. It is compiled in the folder, and works there.
-    CalledProcessError if it can't be compiled, OSError if it fails."""
+    CalledProcessError if it can't be compiled, OSError if there is no cc, or if the program
+    fails."""
     program = os.path.join(folder, 'states')
     subprocess.run(['cc', '-O2', '-o', program, str(SOURCE)], check=True)
-    return times_of([program, folder, str(count), '/bin/true', *SIZES], count)
+    return measure_times([program, folder, str(state_count), '/bin/true', *SIZES], state_count)
 
 
 def add_state_rows(programs: Programs, tally: Tally) -> None:
-    """Measures and prints the rows of states; if a program is missing or fails, that is a failure,
-    and no row is printed. A state's own time is that by which a check of more states takes longer,
-    so that a check's beginning and end aren't counted."""
+    """Measures and prints the rows of states. If a program is missing or fails, that is a failure
+    of the tally, and no row is printed. A state's time is that by which a check of more states
+    takes longer, so that a check's beginning and end aren't counted."""
     if shutil.which('cc') is None:
         tally.add_failure('there is no cc')
         return
     try:
         with tempfile.TemporaryDirectory() as folder:
             checks = Checks(programs, folder)
-            whole, few = checks.least_times(), checks.least_times('--prefixes')
-            one, low = checks.times('--jobs', '1'), c_program_times(folder, whole.tried)
+            check, short_check = checks.least_times(), checks.least_times('--prefixes')
+            one_job_check = checks.measure_check('--jobs', '1')
+            c_program = measure_c_program(folder, check.tried_count)
     except (OSError, subprocess.CalledProcessError) as error:
         tally.add_failure(str(error))
         return
-    each = (whole.processor - few.processor) / (whole.tried - few.tried)
-    lowest = low.processor / low.tried
-    for jobs, check in ((len(os.sched_getaffinity(0)), whole), (1, one)):
-        tally.add_line(
-            f'{check.states} states, {check.tried} of them tried, by {jobs} jobs: '
-            f'{check.wall:.3f} s, {check.states / check.wall:.0f} states and '
-            f'{check.tried / check.wall:.0f} trials a second'
-        )
-    tally.add_line(f'the C program by one: {low.tried / low.wall:.0f} a second')
+    tally.add_line(rate_line(check, len(os.sched_getaffinity(0))))
+    tally.add_line(rate_line(one_job_check, 1))
+    c_program_rate = c_program.tried_count / c_program.wall_seconds
+    tally.add_line(f'the C program by one: {c_program_rate:.0f} a second')
+    more_seconds = check.processor_seconds - short_check.processor_seconds
+    state_seconds = more_seconds / (check.tried_count - short_check.tried_count)
+    c_program_seconds = c_program.processor_seconds / c_program.tried_count
     tally.add_line(
-        f'processor time of a state: {each * 1e3:.3f} ms; of the C program '
-        f'{lowest * 1e3:.3f} ms'
+        f'processor time of a state: {state_seconds * 1e3:.3f} ms; of the C program '
+        f'{c_program_seconds * 1e3:.3f} ms'
     )
-    tally.add_figure('a state beside the C program', each / lowest, 'times', MOST)
-    tally.add_figure(
-        'a state by all jobs', whole.wall / whole.states * 1e3, 'ms', MOST_MILLISECONDS
+    ratio = state_seconds / c_program_seconds
+    tally.add_figure('a state beside the C program', ratio, 'times', MOST)
+    milliseconds = check.wall_seconds / check.state_count * 1e3
+    tally.add_figure('a state by all jobs', milliseconds, 'ms', MOST_MILLISECONDS)
+
+
+def rate_line(check: Times, jobs: int) -> str:
+    """The line that says how long a check with so many jobs took, and how many states it had and
+    tried in a second."""
+    return (
+        f'{check.state_count} states, {check.tried_count} of them tried, by {jobs} jobs: '
+        f'{check.wall_seconds:.3f} s, {check.state_count / check.wall_seconds:.0f} states and '
+        f'{check.tried_count / check.wall_seconds:.0f} trials a second'
     )

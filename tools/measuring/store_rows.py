@@ -26,67 +26,71 @@ Row = Dict[str, Any]
 
 class ResultsFile:
     """The file docs/results.json, or another of its form: a row on each line, in the order of
-    stores.json."""
+    stores.json. Each call reads it again."""
 
     def __init__(self, path: Path = RESULTS) -> None:
         self.path = path
 
-    def rows(self) -> List[Row]:
-        """The rows of the file, in its order; an empty list if there is no file."""
+    def read_rows(self) -> List[Row]:
+        """The rows of the file, in its order; an empty list if there is no file. ValueError if it
+        is no JSON, OSError if it can't be read."""
         if not self.path.exists():
             return []
         rows: List[Row] = json.loads(self.path.read_text('utf-8'))
         return rows
 
-    def put(self, row: Row) -> None:
+    def put_row(self, row: Row) -> None:
         """Puts a row into the file, in the place of the one with its key. Rows are in the order of
         stores.json; those that it doesn't have are kept, and come last. The file is written in
-        place: an error meanwhile may leave a part of it."""
-        rows = {one['key']: one for one in self.rows()}
+        place: an error meanwhile may leave a part of it. A row that another process puts at the
+        same time may be lost. Errors as read_rows(), before anything is written."""
+        rows = {old_row['key']: old_row for old_row in self.read_rows()}
         rows[row['key']] = row
-        order = {key: place for place, key in enumerate(keys())}
-        ordered = sorted(rows.values(), key=lambda one: order.get(one['key'], len(order)))
-        lines = ',\n'.join(json.dumps(one, ensure_ascii=False) for one in ordered)
+        key_order = {key: number for number, key in enumerate(session_keys())}
+        keys = sorted(rows, key=lambda key: key_order.get(key, len(key_order)))
+        lines = ',\n'.join(json.dumps(rows[key], ensure_ascii=False) for key in keys)
         self.path.write_text(f'[\n{lines}\n]\n', 'utf-8')
 
 
-def keys() -> List[str]:
-    """The keys FOLDER/SESSION of all sessions of stores.json, in its order."""
-    known = json.loads((STORES / 'stores.json').read_text('utf-8'))
-    return [f'{store["folder"]}/{name}' for store in known for name in store['sessions']]
+def session_keys() -> List[str]:
+    """The keys FOLDER/SESSION of all sessions of stores.json, in its order. OSError if there is no
+    such file."""
+    stores = json.loads((STORES / 'stores.json').read_text('utf-8'))
+    return [f'{store["folder"]}/{name}' for store in stores for name in store['sessions']]
 
 
-def row_of(about: Dict[str, Any], key: str, json_path: str, report: str) -> Row:
-    """The row of a session, but for its version, which is empty: from the store's object of
-    stores.json, the session's key, the file that its check wrote for --json, and the text of the
-    report. Different states that fail are counted, not the sets that leave them. ValueError if the
-    report is empty."""
-    first, *lines = [line for line in report.splitlines() if not line.startswith('unproved: ')]
+def row_of_check(store: Dict[str, Any], key: str, json_path: str, report: str) -> Row:
+    """The row of a session, except its version: from the store's object of stores.json, the file
+    that the check wrote for --json, and the text of its report. States that fail are counted, not
+    the sets that leave them; states without an answer count only as tried. ValueError if the report
+    is empty, Refused as read_json(), KeyError if the store has no session with this key."""
+    first_line, *lines = [line for line in report.splitlines() if not line.startswith('unproved: ')]
     windows = read_json(json_path).windows
-    outcomes = [one for window in windows for one in window.outcomes.values()]
-    failing = [one for one in outcomes if one.result == BAD]
-    row: Row = {'key': key, 'store': about['store'], 'version': ''}
-    row['session'] = about['sessions'][key.partition('/')[2]]
+    outcomes = [outcome for window in windows for outcome in window.outcomes.values()]
+    failing = [outcome for outcome in outcomes if outcome.result == BAD]
+    row: Row = {'key': key, 'store': store['store'], 'version': ''}
+    row['session'] = store['sessions'][key.partition('/')[2]]
     row['micro_operations'] = sum(len(window.plan.operations) for window in windows)
-    row['sets'], row['is_whole'] = sets_of(windows), ALL_STATES.search(first) is not None
+    row['sets'], row['is_whole'] = set_count(windows), ALL_STATES.search(first_line) is not None
     row['tried'], row['failing'] = len(outcomes), len(failing)
-    row['causes'] = Counter(one.word for one in failing)
-    row['profiles'] = profiles_of(windows)
-    row['disks'] = disks_of(json.loads(Path(json_path).read_text('utf-8')))
-    row['report'] = [first, *(first_entry(lines) if failing else [])][:REPORT_LINES]
+    row['causes'] = Counter(outcome.cause_kind for outcome in failing)
+    row['profiles'] = failing_by_profile(windows)
+    row['disks'] = disk_counts(json.loads(Path(json_path).read_text('utf-8')))
+    row['report'] = [first_line, *(first_entry_lines(lines) if failing else [])][:REPORT_LINES]
     return row
 
 
-def sets_of(windows: List[Results]) -> Optional[int]:
-    """How many sets the rules allow. None if they were not counted, or if the session was checked
-    in several windows: the sets of windows can't be added."""
-    every = [window.plan.all_states for window in windows]
-    return every[0].sets if len(every) == 1 and every[0] else None
+def set_count(windows: List[Results]) -> Optional[int]:
+    """How many sets the rules allow, from the results of all windows of a check. None if they were
+    not counted, or too many, or if there are several windows: their sets can't be added."""
+    all_states = windows[0].plan.all_states if len(windows) == 1 else None
+    return all_states.sets if all_states else None
 
 
-def profiles_of(windows: List[Results]) -> Dict[str, int]:
+def failing_by_profile(windows: List[Results]) -> Dict[str, int]:
     """How many failing states each profile of the trace allows, by its name; 0 for one that allows
-    none. A state counts for each profile that allows it."""
+    none. A state counts for each profile that allows it; of equal states only the one that was
+    tried counts."""
     counts: Counts[str] = Counter()
     for window in windows:
         counts.update({name: 0 for name in window.plan.profiles.names})
@@ -97,27 +101,27 @@ def profiles_of(windows: List[Results]) -> Dict[str, int]:
     return dict(counts)
 
 
-def disks_of(fields: Dict[str, Any]) -> Dict[str, Any]:
-    """What a check's JSON says of disks, by file system: how many different trees crashes left
-    (trees), in how many of these the recovery fails (failing), and how many of the failing ones no
-    crash state has (outside). Empty if the check was made without --disks."""
-    found = fields.get('disks')
-    if not found:
+def disk_counts(report: Dict[str, Any]) -> Dict[str, Any]:
+    """What a check's report in JSON says of disks, by file system: how many different trees crashes
+    left (trees), in how many of these the recovery fails (failing), and how many of the failing
+    ones no crash state has (outside). Empty if the check was made without --disks."""
+    disks = report.get('disks')
+    if not disks:
         return {}
     outside: Counts[str] = Counter()
-    for one in found['further']:
-        if one['where'] == 'outside the model':
-            outside.update(one['crashes'].keys())
+    for disk in disks['further']:
+        if disk['where'] == 'outside the model':
+            outside.update(disk['crashes'].keys())
     return {
-        name: {'trees': it['different'], 'failing': it['failing'], 'outside': outside[name]}
-        for name, it in found['filesystems'].items()
+        name: {'trees': counts['different'], 'failing': counts['failing'], 'outside': outside[name]}
+        for name, counts in disks['filesystems'].items()
     }
 
 
-def first_entry(lines: List[str]) -> Iterator[str]:
+def first_entry_lines(lines: List[str]) -> Iterator[str]:
     """The lines of a report's first entry, from the report's lines after its first: the cause, and
     what follows with an indent of 4 or more. Nothing if there are no lines."""
-    for place, line in enumerate(lines):
-        if place and not line.startswith('    '):
+    for number, line in enumerate(lines):
+        if number and not line.startswith('    '):
             return
         yield line

@@ -18,15 +18,15 @@ import tempfile
 from pathlib import Path
 from typing import Any, Dict, List, NamedTuple
 
-from crashfs_tools.common.guard import Stopped, stop_by_exception
+from crashfs_tools.common.guard import Stopped, raise_on_stop_signals
 
-from .store_rows import STORES, TOP, ResultsFile, disks_of, row_of
+from .store_rows import STORES, TOP, ResultsFile, disk_counts, row_of_check
 
 TOOLS = TOP / 'tools'
 # Sessions of at most so many operations are made again on disks.
 MOST_OPERATIONS = 200
 # Further options of each check, which tests set.
-MORE: List[str] = []
+MORE_OPTIONS: List[str] = []
 
 
 class NoResult(Exception):
@@ -39,7 +39,7 @@ class Session(NamedTuple):
 
     folder: str
     name: str
-    about: Dict[str, Any]
+    store: Dict[str, Any]
 
     @property
     def key(self) -> str:
@@ -58,14 +58,15 @@ class Session(NamedTuple):
 
     def missing_packages(self) -> List[str]:
         """The Debian packages that its scripts need and that aren't installed: that of the store,
-        and those in `needs`."""
-        needed = (self.about['package'], *self.about.get('needs', []))
-        return [package for package in needed if not version_of(package)]
+        and those in `needs`. OSError if there is no dpkg-query."""
+        needed = (self.store['package'], *self.store.get('needs', []))
+        return [package for package in needed if not installed_version(package)]
 
 
-def parsed_words(given: List[str]) -> argparse.Namespace:
-    """The words after `measure stores`; wrong ones, and a name that no session and no folder has,
-    end the program with status 2."""
+def parse_words(words: List[str]) -> argparse.Namespace:
+    """The options of the words after `measure stores`; wrong ones, and a name that no session and
+    no folder has, end the program with status 2. What is only passed on to checks isn't looked at.
+    OSError if there is no stores.json."""
     parser = argparse.ArgumentParser(
         prog='measure stores',
         description=__doc__,
@@ -76,130 +77,140 @@ def parsed_words(given: List[str]) -> argparse.Namespace:
     parser.add_argument('--jobs', type=int, default=4, metavar='N', help='at once (4)')
     parser.add_argument('--time-limit', metavar='S', help='seconds for the states of each')
     parser.add_argument('names', nargs='*', metavar='NAME', help='FOLDER or FOLDER/SESSION (all)')
-    parsed = parser.parse_args(given)
-    for name in parsed.names:
-        if not sessions([name]):
+    options = parser.parse_args(words)
+    for name in options.names:
+        if not find_sessions([name]):
             parser.error(f'{name} is no session of {STORES / "stores.json"}')
-    return parsed
+    return options
 
 
-def sessions(names: List[str]) -> List[Session]:
+def find_sessions(names: List[str]) -> List[Session]:
     """The sessions of stores.json whose folder or key is among the names, in the order of the file;
-    all if there are no names. A name that nothing has is ignored."""
-    known = json.loads((STORES / 'stores.json').read_text('utf-8'))
-    found = [Session(store['folder'], name, store) for store in known for name in store['sessions']]
-    return [one for one in found if not names or one.folder in names or one.key in names]
+    all if there are no names. A name that no session has is ignored. OSError if there is no such
+    file."""
+    stores = json.loads((STORES / 'stores.json').read_text('utf-8'))
+    sessions = [
+        Session(store['folder'], name, store) for store in stores for name in store['sessions']
+    ]
+    if not names:
+        return sessions
+    return [session for session in sessions if {session.folder, session.key} & set(names)]
 
 
-def version_of(package: str) -> str:
-    """The version of an installed Debian package, without what Debian adds: `1.23` for `1:1.23-4`
-    or `1.23+dfsg1-4`. Empty if it is not installed; OSError if there is no dpkg-query."""
-    words = ['dpkg-query', '-W', '-f', '${Status} ${Version}', package]
-    ran = subprocess.run(words, stdout=subprocess.PIPE, stderr=subprocess.DEVNULL, check=False)
-    status, _, version = ran.stdout.decode().rpartition(' ')
-    upstream = re.split('[-+]', version.rpartition(':')[2])[0]
-    return upstream if status == 'install ok installed' else ''
+def installed_version(package: str) -> str:
+    """The version of a Debian package, without what Debian adds: `1.23` for `1:1.23-4` or
+    `1.23+dfsg1-4`. If it is installed for several architectures, the first version that dpkg-query
+    prints. Empty if it isn't installed; OSError if there is no dpkg-query."""
+    words = ['dpkg-query', '-W', '-f', '${Status} ${Version}\n', package]
+    process = subprocess.run(words, stdout=subprocess.PIPE, stderr=subprocess.DEVNULL, check=False)
+    for line in process.stdout.decode().splitlines():
+        status, _, version = line.rpartition(' ')
+        if status == 'install ok installed':
+            return re.split('[-+]', version.rpartition(':')[2])[0]
+    return ''
 
 
-class Check:
-    """Checks a session once. words are those of the command line. folder is for the session's trace
-    and report, and empty at first."""
+class SessionCheck:
+    """Checks a session once, with the options of parse_words(). `folder` must be empty at first:
+    the session's trace and report are made there, and stay. Nothing is done before make_row()."""
 
-    def __init__(self, session: Session, words: argparse.Namespace, folder: Path) -> None:
-        """Nothing is made or checked until row() is called."""
+    def __init__(self, session: Session, options: argparse.Namespace, folder: Path) -> None:
         self.session = session
-        self.words = words
+        self.options = options
         self.trace = folder / f'{session.name}.trace'
         self.json = folder / 'report.json'
 
-    def row(self) -> Dict[str, Any]:
+    def make_row(self) -> Dict[str, Any]:
         """Makes the session's trace, checks it, and returns its row, with the version of its
-        package. With a time limit the disks have a second check, and what the row says of disks is
-        from that. NoResult if a package is missing, or there is no trace or no report."""
+        package. Waits for the scripts without limit, and ignores their status. NoResult if a
+        package is missing, or if there is no trace or no report. OSError if dpkg-query or a script
+        isn't there; errors as row_of_check()."""
         missing = self.session.missing_packages()
         if missing:
             raise NoResult(f'not installed: {", ".join(missing)}')
-        output_of([str(STORES / 'build.sh'), str(self.session.path)])
+        run_command([str(STORES / 'build.sh'), str(self.session.path)])
         self.make_trace()
-        limit, disks = self.limit_words(), self.disk_words()
-        report = self.report_of(*limit, *([] if limit else disks))
-        row = row_of(self.session.about, self.session.key, str(self.json), report)
+        limit, disks = self.limit_options(), self.disk_options()
+        report = self.run_check(*limit, *([] if limit else disks))
+        row = row_of_check(self.session.store, self.session.key, str(self.json), report)
         if limit and disks:
-            self.report_of('--prefixes', *disks)
-            row['disks'] = disks_of(json.loads(self.json.read_text('utf-8')))
-        return {**row, 'version': version_of(self.session.about['package'])}
+            # A check that the limit ends tries no disks: they have a second check.
+            self.run_check('--prefixes', *disks)
+            row['disks'] = disk_counts(json.loads(self.json.read_text('utf-8')))
+        return {**row, 'version': installed_version(self.session.store['package'])}
 
     def make_trace(self) -> None:
         """Puts the trace into the folder: a copy of the committed one, or, if there is none or
-        --record is given, one that record.sh makes. NoResult if record.sh makes none."""
-        if self.session.trace.exists() and not self.words.record:
+        --record is given, one that record.sh makes, however long that takes. NoResult if record.sh
+        makes none, OSError if it can't be started."""
+        if self.session.trace.exists() and not self.options.record:
             self.trace.write_bytes(self.session.trace.read_bytes())
             return
-        output_of([str(self.session.path / 'record.sh'), self.session.name, str(self.trace)])
+        run_command([str(self.session.path / 'record.sh'), self.session.name, str(self.trace)])
         if not self.trace.exists():
             raise NoResult('record.sh made no trace')
 
-    def report_of(self, *options: str) -> str:
-        """Checks the session with some more options, and returns the text of the report. The file
-        of --json has the last check only. NoResult if the check wrote no such file, whatever its
-        status is."""
-        words = [str(TOOLS / 'crashfs-check'), '--jobs', str(self.words.jobs), *MORE]
+    def run_check(self, *options: str) -> str:
+        """Checks the session with these options and those of all checks, and returns the text of
+        the report. The file of --json is replaced. NoResult if the check wrote no such file,
+        whatever its status is. OSError if crashfs-check can't be started."""
+        words = [str(TOOLS / 'crashfs-check'), '--jobs', str(self.options.jobs), *MORE_OPTIONS]
         words += ['--json', str(self.json), '--timeout', '60', *options, str(self.trace), '--']
         self.json.unlink(missing_ok=True)
-        report = output_of([*words, str(self.session.path / 'check.sh'), self.session.name])
+        report = run_command([*words, str(self.session.path / 'check.sh'), self.session.name])
         if not self.json.exists():
             raise NoResult('crashfs-check made no report')
         return report
 
-    def limit_words(self) -> List[str]:
-        """The option of the time limit; nothing if there is none. A check that the limit ends tries
-        no disks: these have a check of their own, in which only the prefixes are tried besides
-        them."""
-        return ['--time-limit', self.words.time_limit] if self.words.time_limit else []
+    def limit_options(self) -> List[str]:
+        """The option of a check with a time limit, with its value; empty if no limit is given."""
+        return ['--time-limit', self.options.time_limit] if self.options.time_limit else []
 
-    def disk_words(self) -> List[str]:
-        """The option of the disks; nothing if they aren't asked for, or the session is too long to
-        be made again for each crash."""
-        is_asked = self.words.disks and self.has_few_operations()
-        return ['--disks', self.words.disks] if is_asked else []
+    def disk_options(self) -> List[str]:
+        """The option of a check on disks, with its value; empty if none are given, or if the
+        session is too long to be made again for each crash. OSError as has_few_operations()."""
+        may_try_disks = self.options.disks and self.has_few_operations()
+        return ['--disks', self.options.disks] if may_try_disks else []
 
     def has_few_operations(self) -> bool:
-        """Whether the trace has so few operations that the session is made again on disks;
-        acknowledged lines count as operations."""
+        """Whether the trace has MOST_OPERATIONS operations at most; acknowledged lines count as
+        operations. OSError if make_trace() wasn't called."""
         text = self.trace.read_bytes()
         return text.count(b'\n{"op":') <= MOST_OPERATIONS
 
 
-def output_of(words: List[str]) -> str:
-    """Runs a command to its end, and returns what it printed on standard output. Its status doesn't
-    matter, since callers look for the files that it makes. OSError if it can't be started."""
-    ran = subprocess.run(words, stdin=subprocess.DEVNULL, stdout=subprocess.PIPE, check=False)
-    return ran.stdout.decode('utf-8', 'replace')
+def run_command(words: List[str]) -> str:
+    """Runs a command to its end, however long it takes, and returns what it printed on standard
+    output. Its status doesn't matter, since callers look for the files that it makes. OSError if it
+    can't be started."""
+    process = subprocess.run(words, stdin=subprocess.DEVNULL, stdout=subprocess.PIPE, check=False)
+    return process.stdout.decode('utf-8', 'replace')
 
 
-def make_row(session: Session, words: argparse.Namespace) -> bool:
+def save_row(session: Session, options: argparse.Namespace) -> bool:
     """Makes the row of a session, puts it into docs/results.json, and prints the first line of its
-    report; returns whether there is a row. If there is none, it prints why, and the file keeps the
-    session's earlier row."""
+    report; returns whether there is a row. If there is none (NoResult), it prints why. Then the
+    file keeps the session's earlier row, as it does after any other error, which is raised."""
     try:
         with tempfile.TemporaryDirectory(prefix='measure-stores-') as folder:
-            row = Check(session, words, Path(folder)).row()
+            row = SessionCheck(session, options, Path(folder)).make_row()
     except NoResult as why:
         print(f'{session.key}: no result: {why}', file=sys.stderr, flush=True)
         return False
-    ResultsFile().put(row)
+    ResultsFile().put_row(row)
     print(f'{session.key}: {row["report"][0]}', flush=True)
     return True
 
 
-def main(given: List[str]) -> int:
-    """Runs `measure stores` with these words, and returns its status: 1 if a session has no row.
-    After a stop it is that of the signal, and the rows that were made before stay."""
-    words = parsed_words(given)
-    stop_by_exception()
+def main(words: List[str]) -> int:
+    """Runs `measure stores` with these words, and returns its status: 1 if a session has no row, or
+    that of the signal after a stop. Errors of save_row() are raised, and end the command. The rows
+    that were made before a stop or an error stay."""
+    options = parse_words(words)
+    raise_on_stop_signals()
     try:
-        found = [make_row(session, words) for session in sessions(words.names)]
+        have_rows = [save_row(session, options) for session in find_sessions(options.names)]
     except Stopped as stop:
         print(f'measure stores: stopped by {stop}', file=sys.stderr)
         return stop.status
-    return 0 if all(found) else 1
+    return 0 if all(have_rows) else 1

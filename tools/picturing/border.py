@@ -40,23 +40,23 @@ BOXES: Sequence[Box] = (
 
 
 def draw_box(picture: Picture, box: Box) -> None:
-    """Adds a part as a box below what is there, with an arrow to the next box if it passes
-    something on. The picture's y is then where the next box begins."""
+    """Adds a box below what is there, with an arrow to the next box if it passes something. Moves
+    the picture's y to the place where the next box begins."""
     top, middle = picture.y, LEFT + WIDE / 2
     picture.add(rectangle(LEFT, top, WIDE, HIGH, 'box'))
-    at = top + (17 if box.about else 25)
-    picture.add(text_element(middle, at, box.name, 'title middle'))
+    name_bottom = top + (17 if box.about else 25)
+    picture.add(text_element(middle, name_bottom, box.name, 'title middle'))
     if box.about:
         picture.add(text_element(middle, top + 34, box.about, 'grey middle'))
     if box.passes:
-        steps = f'M{middle:g} {top + HIGH}v{GAP}m-4 -6l4 6l4 -6'
-        picture.add(path_element(steps, 'arrow'))
+        arrow = f'M{middle:g} {top + HIGH}v{GAP}m-4 -6l4 6l4 -6'
+        picture.add(path_element(arrow, 'arrow'))
         picture.add(text_element(middle + 10, top + HIGH + 20, box.passes))
     picture.y += HIGH + (GAP if box.passes else 0)
 
 
 def border_picture() -> str:
-    """The picture of the tools, as SVG. It depends on no check: its words are all in this
+    """The picture of the tools, as SVG. It depends on no check: all its words are in this
     module."""
     picture = Picture('The tools, and the border of what is proved', ALTERNATIVE)
     picture.y = MARGIN + 4

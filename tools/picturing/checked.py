@@ -27,22 +27,22 @@ class CheckedExample(NamedTuple):
 
 def check_example(trace: str, command: Sequence[str]) -> CheckedExample:
     """Checks a trace of one window by the second reading, so that pictures don't depend on a built
-    program. The files are those of the example of the report's first entry. ValueError if no state
-    fails. Refused or SystemExit if crashfs-check would refuse these words; what ended the check
-    early is raised, too."""
+    program. The command runs in all states, as crashfs-check would run it. ValueError if no state
+    fails, OSError if the trace can't be read, and what Check.run() or read_options()
+    raises otherwise, such as Refused or SystemExit."""
     words = ['--unproved', '--html', os.devnull, trace, '--', *command]
     options = read_options(words)
-    program = Crashfs.program_or_reading(None, unproved=True)
+    program = Crashfs.find_or_second_reading(None, is_unproved=True)
     with Guard('crashfs-picture') as guard:
         checked_trace = CheckedTrace(options, program, guard)
         check = Check(checked_trace)
-        report, _, end = check.run()
-        if end is not None:
-            raise end
+        report, _, exception = check.run()
+        if exception is not None:
+            raise exception
         planned = next(iter(checked_trace.all_planned()))
-        assert check.last is not None
+        assert check.last_window is not None
         if not report.groups():
             raise ValueError(f'no state of {trace} fails')
         state = report.groups()[0].example.number
         files = Trials(checked_trace.workplace, planned).tree(state)
-    return CheckedExample(check.last.findings, report, files)
+    return CheckedExample(check.last_window.findings, report, files)

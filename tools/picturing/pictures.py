@@ -30,17 +30,18 @@ VERDICT = (
 
 def pictures() -> Dict[Path, str]:
     """The text of each picture, by its file; nothing is written. It runs two checks, which need
-    python3 and sqlite3, and raises what check_example raises."""
+    python3 and sqlite3. Raises what check_example() raises, and what the functions that draw raise
+    if an example isn't as their words say."""
     sqlite, tutorial = EXAMPLES / 'sqlite', EXAMPLES / 'tutorial'
-    full = check_example(str(sqlite / 'full.trace'), [str(sqlite / 'recover.sh')])
+    sqlite_check = check_example(str(sqlite / 'full.trace'), [str(sqlite / 'recover.sh')])
     recovery = [str(tutorial / 'check.py'), str(tutorial / 'kv.py'), *PUTS]
-    toy = check_example(str(tutorial / 'first.trace'), recovery)
-    modelled = ModelledSession(toy, tutorial / 'first.trace')
+    tutorial_check = check_example(str(tutorial / 'first.trace'), recovery)
+    session = ModelledSession(tutorial_check, tutorial / 'first.trace')
     return {
-        IMAGES / 'sqlite-full.svg': states_picture(full),
-        IMAGES / 'failing-state.svg': timeline_picture(toy, COMPACTION, VERDICT),
-        IMAGES / 'model.svg': sets_picture(modelled),
-        IMAGES / 'needs.svg': arrows_picture(modelled),
+        IMAGES / 'sqlite-full.svg': states_picture(sqlite_check),
+        IMAGES / 'failing-state.svg': timeline_picture(tutorial_check, COMPACTION, VERDICT),
+        IMAGES / 'model.svg': sets_picture(session),
+        IMAGES / 'needs.svg': arrows_picture(session),
         IMAGES / 'tools.svg': border_picture(),
         IMAGES / 'windows.svg': windows_picture(),
     }

@@ -10,9 +10,9 @@ from typing import Iterator, Optional, Set, Tuple
 from crashfs_tools.checker.states.place_sets import places_of
 from crashfs_tools.common.trace_lines import SYNCS, TraceLine
 from crashfs_tools.reading.every import every_set
-from crashfs_tools.reading.order import Order, marks_of_same_thing
+from crashfs_tools.reading.order import Order, changed_marks
 from crashfs_tools.reading.states import States
-from crashfs_tools.reading.trace import read
+from crashfs_tools.reading.trace import parse_trace
 
 from .checked import CheckedExample
 
@@ -32,27 +32,28 @@ class ModelledSession:
     crash may leave of them, by the second reading. A set is an int with a bit for each place."""
 
     def __init__(self, checked: CheckedExample, trace: Path) -> None:
-        """Reads the trace, which must be that of the check, and goes through all its sets: so it
-        must be a short one."""
-        self.reading = read(trace.read_bytes())
+        """Reads the trace, which must be that of the check, and short, since all its sets are
+        listed. `sets` has them in the order of every_set(), and failing_sets those of
+        find_failing_sets(). OSError if the trace can't be read."""
+        self.reading = parse_trace(trace.read_bytes())
         self.order = Order(self.reading)
         self.operations = checked.findings.plan.operations
         self.lines = checked.report.head.lines
         self.sets = list(every_set(self.order))
-        self.failing = self.failing_sets(checked)
+        self.failing_sets = self.find_failing_sets(checked)
 
-    def failing_sets(self, checked: CheckedExample) -> Set[int]:
+    def find_failing_sets(self, checked: CheckedExample) -> Set[int]:
         """The sets that leave a state in which the check's command failed: also those that the
         check didn't try, since it tries only the first set that leaves a state. States with equal
         digests and as many acknowledged lines are equal."""
         plan, states = checked.findings.plan, States(self.reading)
 
-        def left_by(places: int) -> Tuple[object, int]:
-            return states.digest(places), states.count_says(places)
+        def tree_and_says(kept_set: int) -> Tuple[object, int]:
+            return states.digest(kept_set), states.count_says(kept_set)
 
         numbers = (state.number for group in checked.report.groups() for state in group.states)
-        failing = {left_by(plan.kept[number]) for number in numbers}
-        return {places for places in self.sets if left_by(places) in failing}
+        failing = {tree_and_says(plan.kept[number]) for number in numbers}
+        return {kept_set for kept_set in self.sets if tree_and_says(kept_set) in failing}
 
     def rows(self) -> Iterator[Row]:
         """The rows of a picture, in the order of the session: each micro-operation, and each line
@@ -60,34 +61,38 @@ class ModelledSession:
         for number, line in self.lines.items():
             if line.word in SYNCS:
                 yield Row(line, None, line.text)
-            for place, one in enumerate(self.operations):
-                if one.line == number:
-                    yield Row(line, place, row_words(one.kind, line))
+            for place, operation in enumerate(self.operations):
+                if operation.line == number:
+                    yield Row(line, place, row_words(operation.kind, line))
 
     def direct_needs(self) -> Iterator[Tuple[int, int, str]]:
-        """Each place with an earlier one that it needs, and the rule by which it does. A need that
-        follows from two others, through a place between them, is left out."""
-        for later, needs in enumerate(self.order.needs):
-            for earlier in places_of(needs):
-                if not any(self.order.needs[it] >> earlier & 1 for it in places_of(needs)):
+        """Each place with an earlier one that it needs, and the rule of this need; sorted by the
+        later place, then by the earlier one. A need that follows from two others, through a place
+        between them, is left out."""
+        needs = self.order.needs
+        for later, needed_set in enumerate(needs):
+            for earlier in places_of(needed_set):
+                if not any(needs[between] >> earlier & 1 for between in places_of(needed_set)):
                     yield later, earlier, self.rule_of_need(later, earlier)
 
     def rule_of_need(self, later: int, earlier: int) -> str:
-        """The rule by which a place needs an earlier one, which it must need: P5 if a sync between
-        them covers the earlier one, else the first that fits of the rules for a trace of version 3
-        with the profile `blocks` and no link."""
-        one, two = self.reading.operations[earlier], self.reading.operations[later]
-        if self.order.synced[later] >> earlier & 1:
+        """The rule by which a place needs an earlier one; it must need that. The first of these: P5
+        if a sync between them covers the earlier one, P9 if that is an acknowledged line, P2 or P7
+        if both change one name, directory or rights, P1 if they change the same other thing, P3.
+        This is so in traces of version 3 with the profile `blocks` and no link."""
+        operations = self.reading.operations
+        if self.order.synced_sets[later] >> earlier & 1:
             return 'P5'
         if self.operations[earlier].kind == 'say':
             return 'P9'
-        shared = set(marks_of_same_thing(one)) & set(marks_of_same_thing(two))
-        return {'entry': 'P2', 'directory': 'P2', 'rights': 'P7'}.get(
-            next((str(mark[0]) for mark in shared), 'parent'), 'P1' if shared else 'P3'
-        )
+        shared = set(changed_marks(operations[earlier])) & set(changed_marks(operations[later]))
+        if not shared:
+            return 'P3'
+        thing = str(next(iter(shared))[0])
+        return {'entry': 'P2', 'directory': 'P2', 'rights': 'P7'}.get(thing, 'P1')
 
 
 def row_words(kind: str, line: TraceLine) -> str:
-    """The words of a micro-operation's row: its kind, and the text that its line acknowledges or
-    the path that the line names."""
+    """The words of a micro-operation's row: its kind, then the text that its line acknowledges or
+    the path of the line, without its first slash."""
     return f'{kind} {line.details if kind == "say" else line.path.lstrip("/")}'

@@ -9,7 +9,7 @@ from .svg import LINE, MARGIN, WIDTH, Picture, rectangle, text_element
 
 # Where the numbers of lines end, and where words and cells begin.
 NUMBER, WORDS, SETS = MARGIN + 18, MARGIN + 26, 240
-# So many letters of the text below fit a line.
+# So many characters of the text below fit a line.
 COLUMNS = 62
 STYLE = '.none { fill: var(--edge); opacity: .45 }\n'
 
@@ -21,8 +21,8 @@ def column_width(session: ModelledSession) -> float:
 
 def draw_row(picture: Picture, session: ModelledSession, row: Row, *, has_number: bool) -> None:
     """Adds the row of a micro-operation, with a cell for each set: faint if the set lacks it, else
-    in the colour of whether recovery fails with the set. The row of a line that syncs has a rule
-    across all columns instead. The number of the trace's line is shown only if has_number."""
+    red or green, if recovery fails with the set or doesn't. The row of a line that syncs has a rule
+    across all columns instead. has_number says whether the row shows the number of its line."""
     picture.add_line(row.words, f'code {"sync" if row.place is None else "ink"}', WORDS)
     if has_number:
         picture.add(text_element(NUMBER, picture.y, str(row.line.number), 'code end grey'))
@@ -30,24 +30,25 @@ def draw_row(picture: Picture, session: ModelledSession, row: Row, *, has_number
         picture.add(rectangle(SETS, picture.y - 5, WIDTH - MARGIN - SETS, 1, 'sync'))
         return
     width = column_width(session)
-    for column, places in enumerate(session.sets):
-        kept = 'bad' if places in session.failing else 'good'
-        classes = kept if places >> row.place & 1 else 'none'
+    for column, kept_set in enumerate(session.sets):
+        colour = 'bad' if kept_set in session.failing_sets else 'good'
+        classes = colour if kept_set >> row.place & 1 else 'none'
         x = SETS + column * width
         picture.add(rectangle(x, picture.y - 12, width - 1, LINE - 4, classes))
 
 
-def alternative_text(session: ModelledSession, rows: int) -> str:
-    """What the picture of sets, with so many rows, says to those who can't see it. The last
-    sentence is true only of the tutorial's session."""
-    lines = {one.line for one in session.operations}
+def alternative_text(session: ModelledSession, row_count: int) -> str:
+    """The alternative text of the picture of sets, which has so many rows. Its last sentence is
+    true only of the tutorial's session."""
+    operation_count = len(session.operations)
+    lines = {operation.line for operation in session.operations}
     return (
-        f'A table of {rows} rows and {len(session.sets)} columns. The rows are the '
-        f'{len(session.operations)} micro-operations of {len(lines)} lines of a session, and its '
-        f'{rows - len(session.operations)} syncs. Each column is a set of micro-operations that a '
+        f'A table of {row_count} rows and {len(session.sets)} columns. The rows are the '
+        f'{operation_count} micro-operations of {len(lines)} lines of a session, and its '
+        f'{row_count - operation_count} syncs. Each column is a set of micro-operations that a '
         'crash may leave on the disk: if it has a row below a sync, it has all that the sync '
-        f'covers. In {len(session.failing)} columns recovery fails: these have the last row, but '
-        'not the rename of line 13.'
+        f'covers. In {len(session.failing_sets)} columns recovery fails: these have the last row, '
+        'but not the rename of line 13.'
     )
 
 
@@ -58,10 +59,10 @@ def sets_picture(session: ModelledSession) -> str:
     picture = Picture('What a crash may leave of a session', alternative_text(session, len(rows)))
     picture.add_line('Line, micro-operations', 'title')
     picture.add(text_element(SETS, picture.y, f'{len(session.sets)} sets, a column each', 'title'))
-    before = 0
+    previous_number = 0
     for row in rows:
-        draw_row(picture, session, row, has_number=row.line.number != before)
-        before = row.line.number
+        draw_row(picture, session, row, has_number=row.line.number != previous_number)
+        previous_number = row.line.number
     picture.y += 6
     for words in textwrap.wrap(
         'A coloured cell: the crash left this micro-operation on the disk. A set that has one '

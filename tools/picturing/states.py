@@ -13,7 +13,7 @@ from .svg import LINE, MARGIN, WIDTH, Picture, rectangle, text_element
 
 # The side of a state's square, with the gap after it.
 CELL = 5
-# So many letters of a text fit a line.
+# So many characters of a text fit a line.
 COLUMNS = 60
 # The sign of a state's result in a drawing: its colour, and what the key says of it.
 RESULTS = {'g': ('good', 'recovery found all rows'), 'b': ('bad', 'an acknowledged row is lost')}
@@ -27,30 +27,30 @@ def rows_of_holes(drawing: Drawing) -> List[str]:
     """The signs of prefixes and of states with one hole, as rows: the prefixes first, then for each
     micro-operation the states that lack it. A column is how many micro-operations had begun; a
     blank means that there is no such state."""
-    ends = range(len(drawing['prefixes']))
+    lengths = range(len(drawing['prefixes']))
     holes: List[str] = drawing['holes']
-    lacking = [
-        ''.join(holes[end][lost] if lost < len(holes[end]) else ' ' for end in ends)
-        for lost in range(max(ends))
+    rows = [
+        ''.join(holes[length][lost] if lost < len(holes[length]) else ' ' for length in lengths)
+        for lost in range(max(lengths))
     ]
-    return [drawing['prefixes'], *lacking]
+    return [drawing['prefixes'], *rows]
 
 
 def runs_of(row: str, sign: str) -> List[range]:
     """The columns at which a row has the sign, as the fewest ranges, from the left; empty if it has
     none."""
-    found: List[range] = []
-    for column in (at for at, one in enumerate(row) if one == sign):
-        if found and found[-1].stop == column:
-            found[-1] = range(found[-1].start, column + 1)
+    runs: List[range] = []
+    for column in (column for column, other in enumerate(row) if other == sign):
+        if runs and runs[-1].stop == column:
+            runs[-1] = range(runs[-1].start, column + 1)
         else:
-            found.append(range(column, column + 1))
-    return found
+            runs.append(range(column, column + 1))
+    return runs
 
 
 def paths_of_results(rows: List[str], y: float) -> List[str]:
-    """For each sign of RESULTS a path whose dashes are the states with it, in rows that begin at
-    the height y. States with other signs, as those that weren't tried, are not drawn."""
+    """For each sign of RESULTS a path, as SVG, whose dashes are the states with that sign, in rows
+    that begin at the height y. States with other signs, which weren't tried, are not drawn."""
     return [
         f'<path class="cells {RESULTS[sign][0]}" d="{path_steps(rows, sign, y)}"/>'
         for sign in RESULTS
@@ -59,8 +59,8 @@ def paths_of_results(rows: List[str], y: float) -> List[str]:
 
 def path_steps(rows: List[str], sign: str, y: float) -> str:
     """The steps of a path along the states with the sign, in rows that begin at the height y; empty
-    if there are none. The dashes of STYLE cut it into squares, so each run ends before its last
-    gap."""
+    if there are none. STYLE's dashes divide the path into squares with gaps, so each run of states
+    ends before its last gap."""
     return ''.join(
         f'M{MARGIN + run.start * CELL:g} {y + (number + 0.5) * CELL:g}h{len(run) * CELL - 1}'
         for number, row in enumerate(rows)
@@ -69,11 +69,11 @@ def path_steps(rows: List[str], sign: str, y: float) -> str:
 
 
 def acknowledged_columns(checked: CheckedExample) -> Dict[int, str]:
-    """The text of each acknowledged line, by the first column of rows_of_holes in which it had been
-    printed."""
+    """The text of each acknowledged line, by the first column of rows_of_holes() in which it had
+    been printed."""
     lines = checked.report.head.lines
-    operations = enumerate(checked.findings.plan.operations)
-    return {at + 1: lines[one.line].details for at, one in operations if one.kind == 'say'}
+    operations = enumerate(checked.findings.plan.operations, 1)
+    return {column: lines[one.line].details for column, one in operations if one.kind == 'say'}
 
 
 def draw_holes(picture: Picture, checked: CheckedExample, drawing: Drawing) -> None:
@@ -91,8 +91,8 @@ def draw_holes(picture: Picture, checked: CheckedExample, drawing: Drawing) -> N
 
 
 def draw_picks(picture: Picture, drawing: Drawing) -> None:
-    """Adds the states with other losses below what is there, those that lack the fewest
-    micro-operations first, and a line that says how many there are."""
+    """Adds a line below what is there that counts the states with other losses, and below it these
+    states, those that lack the fewest micro-operations first."""
     picture.add_line(
         f'and {len(drawing["picks"]):,} states with other losses, \u2193 more in each row:'
     )
@@ -103,19 +103,20 @@ def draw_picks(picture: Picture, drawing: Drawing) -> None:
 
 def rows_by_loss(drawing: Drawing) -> List[str]:
     """The signs of the states with other losses, as rows. States that lack equally many
-    micro-operations follow each other and begin a row; they fill several if they don't fit the
-    picture's width."""
-    most = (WIDTH - 2 * MARGIN) // CELL
+    micro-operations begin a row, and fill several if one isn't wide enough. Rows are in the order
+    of the drawing's picks, in which states that lack the fewest come first."""
+    width = (WIDTH - 2 * MARGIN) // CELL
     signs: Dict[int, str] = {}
-    for _, sign, lacks in drawing['picks']:
-        signs[lacks] = signs.get(lacks, '') + sign
-    return [row[at : at + most] for row in signs.values() for at in range(0, len(row), most)]
+    for _, sign, lost_count in drawing['picks']:
+        signs[lost_count] = signs.get(lost_count, '') + sign
+    return [
+        row[begin : begin + width] for row in signs.values() for begin in range(0, len(row), width)
+    ]
 
 
 def draw_key(picture: Picture) -> None:
-    """Adds what rows, columns and colours mean, in the corner that has no states: the last rows of
-    draw_holes, which end at the present y, have states only at the right. y is afterwards what it
-    was."""
+    """Adds what rows, columns and colours mean, in the corner that has no states: it must follow
+    draw_holes(), whose last rows have states only at the right. y stays."""
     bottom, picture.y = picture.y, picture.y - 5 * LINE - 8
     for sign, (colour, words) in RESULTS.items():
         picture.add(rectangle(MARGIN, picture.y + 9, 11, 11, colour))
@@ -127,25 +128,27 @@ def draw_key(picture: Picture) -> None:
 
 
 def alternative_text(checked: CheckedExample, drawing: Drawing) -> str:
-    """What the picture of states says to those who can't see it: how many there are, and which
-    fail. The report's first entry must have a lost line."""
-    group = checked.report.groups()[0]
-    assert group.lost is not None
-    failing = sum(one.count for one in checked.report.groups())
+    """The alternative text of the picture of states: how many there are, and which fail. The
+    report's first entry must have a lost line."""
+    groups = checked.report.groups()
+    lost_line = groups[0].lost_line
+    assert lost_line is not None
+    failing = sum(group.count for group in groups)
     signs = ''.join([*rows_of_holes(drawing), *rows_by_loss(drawing)]).replace(' ', '')
     return (
         f'{len(signs):,} squares, each a crash state; equal states are drawn more than once. Each '
         'column is a moment of the crash, each row the step that it lost; below are states with '
         'other losses. Red: an acknowledged row is lost. After each of the '
         f'{len(acknowledged_columns(checked))} acknowledged rows begins a row of red squares, the '
-        f'states without {group.lost.text}. {signs.count("b"):,} squares are red, of {failing} '
-        'different states.'
+        f'states without {lost_line.text}. {signs.count("b"):,} squares are red, of '
+        f'{failing} different states.'
     )
 
 
 def states_picture(checked: CheckedExample) -> str:
-    """The picture of a check's states, as SVG: the report's first line above it, and the cause and
-    the details of the first entry below. There must be such an entry, with a lost line."""
+    """The picture of a check's states, as SVG, with the report's summary above the states, and the
+    cause and the details of the first entry below. IndexError if there is no entry, AssertionError
+    if it has no lost line."""
     drawing = drawing_of(checked.findings)
     title = f'The crash states of {checked.report.head.trace}'
     picture = Picture(title, alternative_text(checked, drawing))

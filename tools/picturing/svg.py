@@ -32,27 +32,30 @@ FONTS = """text { font: 14px sans-serif; fill: var(--ink) }
 def common_style() -> str:
     """The style of all pictures, as CSS: the fonts, and a class for each colour, which fills texts
     and areas in light and dark pages."""
-    sets = [''.join(f'--{name}: {pair[at]}; ' for name, pair in COLOURS.items()) for at in (0, 1)]
+    light = ''.join(f'--{name}: {pair[0]}; ' for name, pair in COLOURS.items())
+    dark = ''.join(f'--{name}: {pair[1]}; ' for name, pair in COLOURS.items())
     classes = ''.join(f'.{name} {{ fill: var(--{name}) }}\n' for name in COLOURS)
-    dark = f'@media (prefers-color-scheme: dark) {{ svg {{ {sets[1]}}} }}'
-    return f'svg {{ {sets[0]}}}\n{dark}\n{FONTS}{classes}'
+    if_dark = f'@media (prefers-color-scheme: dark) {{ svg {{ {dark}}} }}'
+    return f'svg {{ {light}}}\n{if_dark}\n{FONTS}{classes}'
 
 
 def text_element(x: float, y: float, words: str, classes: str = '') -> str:
-    """A line of text as an element. It begins at x, is centred there with the class `middle`, or
-    ends there with the class `end`; y is the bottom of its letters. classes name its font and
-    colour; without any it has the usual ones."""
-    named = f' class="{classes}"' if classes else ''
-    return f'<text x="{x:g}" y="{y:g}"{named}>{escape(words)}</text>'
+    """A line of text as an element. It begins at x, or with the class `middle` it is centred there,
+    or with the class `end` it ends there; y is the bottom of its letters. Other classes name its
+    font and colour; the default is those of `text`."""
+    attribute = f' class="{classes}"' if classes else ''
+    return f'<text x="{x:g}" y="{y:g}"{attribute}>{escape(words)}</text>'
 
 
 def rectangle(x: float, y: float, width: float, height: float, classes: str) -> str:
-    """A rectangle from its corner at the top left; classes name its colour."""
+    """A rectangle as an element, of which (x, y) is the top left corner; classes name its
+    colour."""
     return f'<rect x="{x:g}" y="{y:g}" width="{width:g}" height="{height:g}" class="{classes}"/>'
 
 
 def path_element(steps: str, classes: str) -> str:
-    """A line along the steps of a path, in SVG's notation; classes name its colour."""
+    """A line along a path as an element; steps are in SVG's notation, and classes name its
+    colour."""
     return f'<path d="{steps}" class="{classes}"/>'
 
 
@@ -72,13 +75,14 @@ class Picture:
 
     def add_line(self, words: str, classes: str = '', x: float = MARGIN) -> None:
         """Adds a line of text below what is there, and moves y to its bottom. It isn't wrapped; x
-        is as in text_element."""
+        and classes are as in text_element()."""
         self.y += LINE
         self.parts.append(text_element(x, self.y, words, classes))
 
     def svg_file(self, more_style: str = '') -> str:
-        """The text of the whole file, of the width WIDTH and as high as y. Its background makes it
-        legible on a page of any colour. more_style has the classes of this picture only."""
+        """The text of the whole file: a picture of the width WIDTH, and as high as y, on a
+        background that makes it legible on a page of any colour. more_style has the classes of this
+        picture only."""
         height = self.y + MARGIN + 4
         paper = (
             f'<rect x=".5" y=".5" width="{WIDTH - 1}" height="{height - 1:g}" rx="6" '

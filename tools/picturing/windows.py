@@ -20,15 +20,15 @@ LARGEST = 24
 ROWS, TABLE_ROW = 14, 5
 # The side of a micro-operation's square, with the gap after it.
 CELL = 8
-# So many letters of a text fit a line.
+# So many characters of a text fit a line.
 COLUMNS = 62
 HEADER = '{"trace":3,"profile":"blocks","block":4096,"owner":"u","group":"u","mode":"755"}\n'
 RIGHTS = '"owner":"u","group":"u","mode":"644"'
 
 
 class Window(NamedTuple):
-    """A window of the session: the first of its places, the first after them, and those of its
-    micro-operations that make a file. The last of these in the first window is never synced."""
+    """A window of the session: its places, from `begin` to before `end`, and the places at which
+    its micro-operations make a file. The last of these in the first window is never synced."""
 
     begin: int
     end: int
@@ -48,55 +48,61 @@ def session_text() -> str:
     return ''.join(lines)
 
 
-def windows_of_session() -> List[Window]:
-    """The windows into which a check divides the session of session_text, in their order. No state
-    is tried."""
-    found = []
+def plan_windows() -> List[Window]:
+    """The windows into which a check divides the session of session_text(), in their order. No
+    state is tried."""
+    windows = []
     with tempfile.TemporaryDirectory() as folder, Guard('crashfs-picture') as guard:
         trace = Path(folder, 'session.trace')
         trace.write_text(session_text(), 'utf-8')
         options = Options(str(trace), quick=True, window=LARGEST)
-        checked = CheckedTrace(options, Crashfs.program_or_reading(None, unproved=True), guard)
+        checked = CheckedTrace(
+            options, Crashfs.find_or_second_reading(None, is_unproved=True), guard
+        )
         for planned in checked.all_planned():
             plan, begin = planned.plan, planned.offsets.operations
-            creat = [at for at, one in enumerate(plan.operations) if one.kind == 'create_dir_entry']
-            found.append(Window(begin, begin + len(plan.operations), [begin + at for at in creat]))
-    return found
+            operations = enumerate(plan.operations, begin)
+            creates = [place for place, one in operations if one.kind == 'create_dir_entry']
+            windows.append(Window(begin, begin + len(plan.operations), creates))
+    return windows
 
 
 def draw_window(picture: Picture, number: int, window: Window) -> None:
-    """Adds a window with its number, as a bar below what is there. The bar is as wide as the part
-    of the session in the window: windows may overlap."""
+    """Adds a window with its number, as a bar below what is there. The bar is as wide as the
+    window's part of the session: bars of windows may overlap."""
     left, right = (MARGIN + place * CELL for place in (window.begin, window.end))
     picture.y += LINE + 3
     picture.add(rectangle(left, picture.y - 13, right - left - 1, 17, 'good'))
     picture.add(text_element(left + 5, picture.y, f'window {number}'))
 
 
-def alternative_text(windows: List[Window], places: int, unsynced: int) -> str:
-    """What the picture of windows says to those who can't see it: of a session of so many places,
-    of which the one with the number `unsynced` is never synced."""
+def alternative_text(windows: List[Window], place_count: int, unsynced: int) -> str:
+    """The alternative text of the picture of windows, for a session of so many places. `unsynced`
+    is the place that is never synced."""
     parts = '; '.join(
-        f'window {number} has {one.begin} to {one.end - 1}' for number, one in enumerate(windows, 1)
+        f'window {number} has {window.begin} to {window.end - 1}'
+        for number, window in enumerate(windows, 1)
     )
     return (
-        f'A session of {places} micro-operations, as a row of squares. Number {unsynced} is never '
-        f'synced; a sync soon makes each of the others durable. {parts}. Window 2 begins at number '
-        f'{unsynced}, so its loss is tried with all that follows in that window.'
+        f'A session of {place_count} micro-operations, as a row of squares. Number {unsynced} is '
+        f'never synced; a sync soon makes each of the others durable. {parts}. Window 2 begins at '
+        f'number {unsynced}, so its loss is tried with all that follows in that window.'
     )
 
 
 def windows_picture() -> str:
-    """The picture of the windows of the session of session_text, as SVG. ValueError if the second
-    window doesn't begin at the file that is never synced, as the picture's words say."""
-    windows = windows_of_session()
-    places, unsynced = windows[-1].end, windows[0].creates[-1]
+    """The picture of the windows of the session of session_text(), as SVG. ValueError if the second
+    window doesn't begin at the file that is never synced, as the picture's words say; IndexError if
+    there is only one window."""
+    windows = plan_windows()
+    place_count, unsynced = windows[-1].end, windows[0].creates[-1]
     if windows[1].begin != unsynced:
         raise ValueError('the second window must begin at what is never synced')
-    picture = Picture('The windows of a long session', alternative_text(windows, places, unsynced))
+    alternative = alternative_text(windows, place_count, unsynced)
+    picture = Picture('The windows of a long session', alternative)
     picture.add_line('Micro-operations of a session, and windows', 'title')
     picture.y += LINE + 2
-    for place in range(places):
+    for place in range(place_count):
         colour = 'bad' if place == unsynced else 'sync'
         picture.add(rectangle(MARGIN + place * CELL, picture.y - 12, CELL - 1, 14, colour))
     for number, window in enumerate(windows, 1):

@@ -41,7 +41,7 @@ License: none-given
  No licence has been given yet.
 """
 # Lintian takes these for faults; each is meant.
-OVERRIDES = """\
+LINTIAN_OVERRIDES = """\
 # One program for every Linux, in the package as in the tarball.
 crashfs: statically-linked-binary [usr/bin/crashfs]
 # "env -S python3 -S" starts python3 with an option.
@@ -57,25 +57,25 @@ SCRIPTS = {
 
 
 def folders_of(items: Items) -> List[str]:
-    """The folders that the paths of items go through, without the top; sorted, so that each comes
-    after the one that it is in."""
-    found: Set[str] = set()
+    """All folders above the items, except the top itself; sorted, so that each comes after the
+    folder that it is in."""
+    folders: Set[str] = set()
     for path in items:
-        found.update(str(folder) for folder in Path(path).parents if str(folder) != '.')
-    return sorted(found)
+        folders.update(str(folder) for folder in Path(path).parents if str(folder) != '.')
+    return sorted(folders)
 
 
 def member_header(path: str, kind: bytes, mode: int, seconds: int) -> tarfile.TarInfo:
-    """The header of a tar member that belongs to root, with a type, as tarfile.DIRTYPE, and a time
-    in seconds since 1970. Its size and the target of a link are still to be set."""
+    """The header of a tar member that belongs to root. `kind` is a type of tarfile, such as
+    DIRTYPE, and `seconds` a time since 1970. The size and the target of a link aren't set."""
     info = tarfile.TarInfo(path)
     info.type, info.mode, info.mtime = kind, mode, seconds
     info.uname = info.gname = 'root'
     return info
 
 
-def add_all(archive: tarfile.TarFile, top: str, items: Items, seconds: int) -> None:
-    """Adds items to an archive, all below a folder `top`: first this folder and those of the items,
+def add_items(archive: tarfile.TarFile, top: str, items: Items, seconds: int) -> None:
+    """Adds items to an archive, below a folder `top`: first this folder and those of the items,
     then the items in their order. All members have the same time."""
     for folder in ['', *folders_of(items)]:
         name = f'{top}/{folder}'.rstrip('/')
@@ -88,18 +88,19 @@ def add_all(archive: tarfile.TarFile, top: str, items: Items, seconds: int) -> N
 
 
 def write_tarball(path: Path, items: Items, seconds: int) -> None:
-    """Writes a tar.gz, which replaces a file that is there. All is below a folder of the archive's
-    own name: the path must end in `.tar.gz`. The same items and seconds give the same bytes."""
-    plain = io.BytesIO()
-    with tarfile.open(fileobj=plain, mode='w', format=tarfile.GNU_FORMAT) as archive:
-        add_all(archive, path.name[: -len('.tar.gz')], items, seconds)
-    path.write_bytes(gzip.compress(plain.getvalue(), 9, mtime=seconds))
+    """Writes a tar.gz, in the place of a file that is there. All items are below a folder of the
+    archive's own name: the path must end in `.tar.gz`. The same items and seconds give the same
+    bytes. After an OSError a part of the file may be there."""
+    tar = io.BytesIO()
+    with tarfile.open(fileobj=tar, mode='w', format=tarfile.GNU_FORMAT) as archive:
+        add_items(archive, path.name[: -len('.tar.gz')], items, seconds)
+    path.write_bytes(gzip.compress(tar.getvalue(), 9, mtime=seconds))
 
 
 def write_below(folder: Path, items: Items, seconds: int) -> None:
-    """Writes items below a folder of the disk, each with that time, and makes the folders that they
-    need, whose times aren't set. A file that is there is replaced; OSError if a link is there
-    already."""
+    """Writes items below a folder of the disk, each with this time, and makes the folders that they
+    need, whose times aren't set. A file replaces one that is there. OSError if anything is in the
+    place of a link, or a folder in that of a file; the items before that stay."""
     for name, item in items.items():
         path = folder / name
         path.parent.mkdir(parents=True, exist_ok=True)
@@ -111,7 +112,7 @@ def write_below(folder: Path, items: Items, seconds: int) -> None:
         os.utime(path, (seconds, seconds), follow_symlinks=False)
 
 
-def control_of(version: str, items: Items) -> str:
+def control_text(version: str, items: Items) -> str:
     """The text of the package's control file. The installed size is in units of 1,024 bytes, each
     file's rounded up (Debian policy 5.6.20); links and folders count nothing."""
     size = sum((len(item.content) + 1023) // 1024 for item in items.values())
@@ -124,21 +125,22 @@ def control_of(version: str, items: Items) -> str:
 
 
 def write_package(path: Path, version: str, items: Items, seconds: int) -> None:
-    """Writes a Debian package by dpkg-deb: the items, which go below /usr, what Debian wants
-    besides, and the scripts. CalledProcessError if dpkg-deb fails, OSError if it isn't
-    installed."""
-    with tempfile.TemporaryDirectory(prefix='crashfs-release-') as room:
-        root = Path(room) / 'root'
-        files = for_debian(items, version, seconds)
+    """Writes a Debian package by dpkg-deb, in the place of a file that is there. It has the items
+    below /usr, the files of with_debian_files(), and SCRIPTS. It is made in a temporary folder,
+    which is removed. CalledProcessError if dpkg-deb fails, OSError if it isn't installed or a file
+    can't be written."""
+    with tempfile.TemporaryDirectory(prefix='crashfs-release-') as temporary:
+        root = Path(temporary) / 'root'
+        files = with_debian_files(items, version, seconds)
         write_below(root / 'usr', files, seconds)
-        sums = checksums_below(root)
+        checksums = checksums_below(root)
         (root / 'DEBIAN').mkdir()
-        (root / 'DEBIAN' / 'control').write_text(control_of(version, files))
-        (root / 'DEBIAN' / 'md5sums').write_text(sums)
+        (root / 'DEBIAN' / 'control').write_text(control_text(version, files))
+        (root / 'DEBIAN' / 'md5sums').write_text(checksums)
         for name, text in SCRIPTS.items():
             (root / 'DEBIAN' / name).write_text(text)
             (root / 'DEBIAN' / name).chmod(0o755)
-        for folder in [root, *(it for it in root.rglob('*') if it.is_dir())]:
+        for folder in [root, *(path for path in root.rglob('*') if path.is_dir())]:
             folder.chmod(0o755)
         # What xz writes depends on whether it has threads.
         environment = {**os.environ, 'SOURCE_DATE_EPOCH': str(seconds), 'DPKG_DEB_THREADS_MAX': '1'}
@@ -153,16 +155,16 @@ def write_package(path: Path, version: str, items: Items, seconds: int) -> None:
 def checksums_below(root: Path) -> str:
     """The text of a package's file md5sums: a line for each file below a folder, sorted by path;
     links have none."""
-    files = sorted(it for it in root.rglob('*') if it.is_file() and not it.is_symlink())
-    lines = (
-        f'{hashlib.md5(it.read_bytes()).hexdigest()}  {it.relative_to(root)}\n' for it in files
+    files = sorted(path for path in root.rglob('*') if path.is_file() and not path.is_symlink())
+    return ''.join(
+        f'{hashlib.md5(path.read_bytes()).hexdigest()}  {path.relative_to(root)}\n'
+        for path in files
     )
-    return ''.join(lines)
 
 
-def for_debian(items: Items, version: str, seconds: int) -> Items:
-    """The items with three more files: the copyright and the changelog, which Debian's policy wants
-    (12.5, 12.7), and lintian's overrides. The given items stay as they are."""
+def with_debian_files(items: Items, version: str, seconds: int) -> Items:
+    """A copy of the items with three more files: the copyright, with the year of `seconds`, and the
+    changelog, which Debian's policy requires (12.5, 12.7), and lintian's overrides."""
     year = datetime.fromtimestamp(seconds, timezone.utc).year
     changelog = (
         f'crashfs ({version}) unstable; urgency=medium\n\n'
@@ -173,5 +175,5 @@ def for_debian(items: Items, version: str, seconds: int) -> Items:
         **items,
         f'{DOCUMENTS}/copyright': Item(COPYRIGHT.format(year=year).encode()),
         f'{DOCUMENTS}/changelog.gz': Item(gzip.compress(changelog.encode(), 9, mtime=0)),
-        'share/lintian/overrides/crashfs': Item(OVERRIDES.encode()),
+        'share/lintian/overrides/crashfs': Item(LINTIAN_OVERRIDES.encode()),
     }

@@ -12,10 +12,10 @@ from pathlib import Path
 from typing import List, Optional
 
 from crashfs_tools import VERSION
-from gating.verdict import counts_of_gate
+from gating.verdict import counts_of_passed_gate
 
 from .archives import write_package, write_tarball
-from .layout import TOP, items_with
+from .layout import TOP, release_items
 from .linking import LinkFault, kit_version, link_statically, linker_version
 from .statements import (
     BUILT,
@@ -43,7 +43,7 @@ and 0 failed; any other is refused.
 
 Exit status 0: all is written. 1: something is missing, a program failed, or the log is refused. 2:
 the command line."""
-OBJECTS = TOP / 'crates' / 'crashfs' / 'out' / 'crashfs.o'
+OBJECT_FILE = TOP / 'crates' / 'crashfs' / 'out' / 'crashfs.o'
 
 
 def git_output(*words: str) -> str:
@@ -55,22 +55,21 @@ def git_output(*words: str) -> str:
 
 def commit_of_tree() -> str:
     """The commit that is checked out, with `-dirty` if a file that git knows differs from it; new
-    files don't count."""
-    return git_output('rev-parse', 'HEAD') + (
-        '-dirty' if git_output('status', '--porcelain', '-uno') else ''
-    )
+    files don't count. Errors as git_output()."""
+    is_dirty = bool(git_output('status', '--porcelain', '-uno'))
+    return git_output('rev-parse', 'HEAD') + ('-dirty' if is_dirty else '')
 
 
-def provenance_of(log: Optional[Path], objects: str) -> Provenance:
-    """Of which commit and kit a release is, and what its gate counted; without a log it says
-    NOT_RUN. `objects` says where the object file is from. ValueError if the log is not of a gate of
-    both that passed, or SOURCE_DATE_EPOCH is no number; OSError or CalledProcessError if git, rt or
-    gcc is missing or fails."""
+def read_provenance(log: Optional[Path], object_origin: str) -> Provenance:
+    """The provenance of a release from the tree and the tools as they are: the gate's counts are
+    from the log, or NOT_RUN without one; the time is SOURCE_DATE_EPOCH, else that of the commit.
+    ValueError if the log isn't of a gate of this commit and kit that passed, or SOURCE_DATE_EPOCH
+    is no number; OSError or CalledProcessError if git, rt or gcc is missing or fails."""
     commit, kit = commit_of_tree(), kit_version()
     seconds = int(os.environ.get('SOURCE_DATE_EPOCH') or git_output('log', '-1', '--format=%ct'))
     gate = NOT_RUN
     if log is not None:
-        gate = counts_of_gate(log.read_text(errors='replace'), commit, kit)
+        gate = counts_of_passed_gate(log.read_text(errors='replace'), commit, kit)
     c_library = ' '.join(platform.libc_ver())
     return Provenance(
         version=VERSION,
@@ -78,41 +77,42 @@ def provenance_of(log: Optional[Path], objects: str) -> Provenance:
         kit=kit,
         seconds=seconds,
         gate=gate,
-        objects=objects,
+        object_origin=object_origin,
         linker=linker_version(),
         c_library=c_library,
     )
 
 
-def linked_program(objects: Path) -> bytes:
-    """The bytes of the static program that an object file is linked to; raises what link_statically
-    raises. No file stays."""
-    with tempfile.TemporaryDirectory(prefix='crashfs-release-') as room:
-        program = Path(room) / 'crashfs'
-        link_statically(objects, program)
+def link_program(object_file: Path) -> bytes:
+    """Links an object file statically, and returns the bytes of the program; no file stays. Raises
+    what link_statically() raises."""
+    with tempfile.TemporaryDirectory(prefix='crashfs-release-') as temporary:
+        program = Path(temporary) / 'crashfs'
+        link_statically(object_file, program)
         return program.read_bytes()
 
 
-def write_release(provenance: Provenance, objects: Path, into: Path) -> None:
+def write_release(provenance: Provenance, object_file: Path, folder: Path) -> None:
     """Links an object file, and writes the five files of a release into a folder, which is made if
-    it isn't there; files of these names are replaced. If it can't be linked, nothing is written.
-    After another error some of the files may be there."""
-    program = linked_program(objects)
-    items = items_with(program, built_module(provenance).encode())
-    into.mkdir(parents=True, exist_ok=True)
-    tarball = into / f'crashfs-{provenance.version}-linux-x86_64.tar.gz'
-    package = into / f'crashfs_{provenance.version}_amd64.deb'
+    it isn't there; files of these names are replaced, SHA256SUMS last. LinkFault or OSError before
+    anything is written if it can't be linked. After another OSError or a CalledProcessError some of
+    the files may be there."""
+    program = link_program(object_file)
+    items = release_items(program, built_module(provenance).encode())
+    folder.mkdir(parents=True, exist_ok=True)
+    tarball = folder / f'crashfs-{provenance.version}-linux-x86_64.tar.gz'
+    package = folder / f'crashfs_{provenance.version}_amd64.deb'
     write_tarball(tarball, items, provenance.seconds)
     write_package(package, provenance.version, items, provenance.seconds)
-    listing = into / f'crashfs-{provenance.version}.spdx.json'
-    listing.write_text(spdx_document(provenance, (TOP / 'crates.txt').read_text()))
-    attested = into / 'ATTESTATION'
-    attested.write_text(attestation_text(provenance, objects.read_bytes(), program))
-    (into / 'SHA256SUMS').write_text(checksum_lines([tarball, package, listing, attested]))
+    spdx = folder / f'crashfs-{provenance.version}.spdx.json'
+    spdx.write_text(spdx_document(provenance, (TOP / 'crates.txt').read_text()))
+    attestation = folder / 'ATTESTATION'
+    attestation.write_text(attestation_text(provenance, object_file.read_bytes(), program))
+    (folder / 'SHA256SUMS').write_text(checksum_lines([tarball, package, spdx, attestation]))
 
 
 def make_parser() -> argparse.ArgumentParser:
-    """The parser of the command line. It doesn't look whether the files that are named exist."""
+    """The parser of the command line. It doesn't check whether the files that are named exist."""
     parser = argparse.ArgumentParser(
         prog='release', description=ABOUT, formatter_class=argparse.RawDescriptionHelpFormatter
     )
@@ -140,14 +140,15 @@ def make_parser() -> argparse.ArgumentParser:
 
 def main(words: Optional[List[str]] = None) -> int:
     """Runs release with these words, or those of its command line, and returns its status: 1, with
-    a line that says why, if something is missing, fails or is refused. The log of the gate is read
-    before anything is built. A wrong word ends the program (SystemExit)."""
-    given = make_parser().parse_args(words)
+    a line that says why, and what the linker printed, if something is missing, fails or is refused.
+    The log of the gate is read before anything is built. The build is waited for without limit. A
+    wrong word ends the program (SystemExit)."""
+    values = make_parser().parse_args(words)
     try:
-        provenance = provenance_of(given.gate, GIVEN if given.objects else BUILT)
-        if given.objects is None:
+        provenance = read_provenance(values.gate, GIVEN if values.objects else BUILT)
+        if values.objects is None:
             subprocess.run([TOP / 'tools' / 'build'], check=True)
-        write_release(provenance, given.objects or OBJECTS, given.into)
+        write_release(provenance, values.objects or OBJECT_FILE, values.into)
     except (LinkFault, ValueError, OSError, subprocess.CalledProcessError) as fault:
         print(f'release: {fault}', file=sys.stderr)
         return 1

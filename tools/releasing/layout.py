@@ -32,25 +32,27 @@ class Item:
 Items = Dict[str, Item]
 
 
-def tracked_files(folder: str) -> List[str]:
-    """The paths, from the top, of the files that git knows below a path, or that match a pattern;
-    sorted. Empty if there are none; CalledProcessError if git fails."""
+def tracked_files(pattern: str) -> List[str]:
+    """The sorted paths, from the top, of the files that git tracks and that match its pattern, such
+    as a folder that they are in. Some may be gone from the disk. Empty if none matches;
+    CalledProcessError if git fails, OSError if it isn't installed."""
     ran = subprocess.run(
-        ['git', 'ls-files', '-z', '--', folder], cwd=TOP, stdout=subprocess.PIPE, check=True
+        ['git', 'ls-files', '-z', '--', pattern], cwd=TOP, stdout=subprocess.PIPE, check=True
     )
     return sorted(name for name in ran.stdout.decode().split('\0') if name)
 
 
 def item_of_file(path: str) -> Item:
-    """A file of the repository as it is now, committed or not; it is a program if its owner may
-    execute it. OSError if it isn't there."""
-    whole = TOP / path
-    return Item(whole.read_bytes(), bool(whole.stat().st_mode & 0o100))
+    """The item of a file of the repository as it is now, committed or not, by its path from the
+    top. It is a program if its owner may execute it. OSError if the file isn't there."""
+    file = TOP / path
+    return Item(file.read_bytes(), bool(file.stat().st_mode & 0o100))
 
 
 def tool_items() -> Items:
     """The commands of Python with their package, by their paths in a release; bin/ has a link to
-    each command. Files that git doesn't know are left out."""
+    each command. Files of the package that git doesn't track are left out. OSError if a tracked
+    file isn't there; errors as tracked_files()."""
     items = {
         f'{LIBRARY}/{path[len("tools/"):]}': item_of_file(path)
         for path in tracked_files('tools/crashfs_tools')
@@ -63,7 +65,7 @@ def tool_items() -> Items:
 
 def document_items() -> Items:
     """Pages, pictures, data and examples, by their paths in a release: in the same folders as here,
-    so that links between them work."""
+    so that links between them work. Errors as tool_items()."""
     data = [
         *tracked_files('docs/images'),
         *tracked_files('docs/results.json'),
@@ -74,8 +76,9 @@ def document_items() -> Items:
 
 
 def manual_items() -> Items:
-    """The manual pages, compressed as Debian wants them, by their paths in a release. The section
-    is the suffix of a page's file. The same text gives the same bytes: no time is in them."""
+    """The manual pages, compressed as Debian requires it, by their paths in a release. The suffix
+    of a page's file is its section. The same text gives the same bytes: they have no time. Errors
+    as tool_items()."""
     items: Items = {}
     for path in tracked_files('docs/man'):
         section = path.rsplit('.', 1)[1]
@@ -85,8 +88,9 @@ def manual_items() -> Items:
 
 
 def completion_items() -> Items:
-    """Completions of the commands, by their paths in a release: where bash, zsh and fish look for
-    them. KeyError if tools/completions has a file of another shell."""
+    """The completions of the commands, by their paths in a release: in the folders in which bash,
+    zsh and fish look for them. KeyError if tools/completions has a file of another shell; errors as
+    tool_items()."""
     places = {
         'bash': 'share/bash-completion/completions/{0}',
         'zsh': 'share/zsh/vendor-completions/_{0}',
@@ -99,9 +103,9 @@ def completion_items() -> Items:
     return items
 
 
-def items_with(program: bytes, built: bytes) -> Items:
-    """All files of a release by path, sorted, with the bytes of the program and of the module
-    `built`. Nothing is written."""
+def release_items(program: bytes, built: bytes) -> Items:
+    """All files of a release, sorted by their paths there, with the bytes of the program and of the
+    module `built`. Nothing is written. Errors as tool_items() and completion_items()."""
     items = {**tool_items(), **document_items(), **manual_items(), **completion_items()}
     items['bin/crashfs'] = Item(program, is_program=True)
     items[f'{LIBRARY}/crashfs_tools/built.py'] = Item(built)

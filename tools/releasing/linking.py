@@ -16,20 +16,22 @@ class LinkFault(Exception):
 
 
 def kit_folder() -> Path:
-    """The toolchain's folder: that of the page which `rt doc` names, or, if there is no such page,
-    the one above the folder that has `rt` itself, links followed. LinkFault if there is no `rt` on
-    PATH."""
+    """The toolchain's folder: that of the page which `rt doc` names in its first line, whatever its
+    status. If there is no such page, the folder above that of `rt` itself, with its links resolved.
+    LinkFault if there is no `rt` on PATH."""
     command = shutil.which('rt')
     if command is None:
         raise LinkFault('rt: not found on PATH')
     ran = subprocess.run([command, 'doc'], stdout=subprocess.PIPE, text=True)
     page = Path(ran.stdout.strip().splitlines()[0]) if ran.stdout.strip() else None
-    return page.parent if page and page.is_file() else Path(os.path.realpath(command)).parent.parent
+    if page is not None and page.is_file():
+        return page.parent
+    return Path(os.path.realpath(command)).parent.parent
 
 
 def kit_version() -> str:
     """The first line that `rt version` prints: the kit, and the checksum of its logic. OSError if
-    there is no `rt`, CalledProcessError if it fails."""
+    there is no `rt`, CalledProcessError if it fails, IndexError if it prints nothing."""
     ran = subprocess.run(['rt', 'version'], stdout=subprocess.PIPE, text=True, check=True)
     return ran.stdout.strip().splitlines()[0]
 
@@ -41,16 +43,16 @@ def linker_version() -> str:
     return f'gcc {ran.stdout.strip()}'
 
 
-def link_statically(made: Path, program: Path) -> None:
-    """Links an object file and the toolchain's two C libraries into a program that needs no other.
-    It is stripped and has no build id: the same object gives the same bytes. gcc's warnings are
-    printed, but for the known one. LinkFault if gcc fails or there is no `rt`, OSError if there is
-    no gcc."""
+def link_statically(object_file: Path, program: Path) -> None:
+    """Links an object file and the toolchain's two C libraries into a static program, without
+    symbols or a build id: the same object file gives the same bytes. Prints gcc's warnings on
+    standard output, except the known one and the lines that name a warning's function. LinkFault if
+    gcc fails or there is no `rt`, OSError if there is no gcc."""
     kit = kit_folder()
     libraries = [str(kit / 'c' / name) for name in ('libos_c.a', 'liblibc_c.a')]
-    words = ['gcc', '-static', '-s', '-Wl,--build-id=none', '-o', str(program), str(made)]
+    options = ['-static', '-s', '-Wl,--build-id=none', '-o', str(program)]
     ran = subprocess.run(
-        [*words, *libraries, '-lm', '-lpthread'],
+        ['gcc', *options, str(object_file), *libraries, '-lm', '-lpthread'],
         stdout=subprocess.PIPE,
         stderr=subprocess.STDOUT,
         text=True,

@@ -19,15 +19,14 @@ GIVEN = 'given by --objects; nothing here says that it was proved'
 @dataclass(frozen=True)
 class Provenance:
     """Of what a release is made, and by what: its time in seconds since 1970, the counts of its
-    gate, in `objects` where the object file is from, and the linker and the C library with their
-    versions."""
+    gate, where its object file is from, and the linker and the C library with their versions."""
 
     version: str
     commit: str
     kit: str
     seconds: int
     gate: str = NOT_RUN
-    objects: str = BUILT
+    object_origin: str = BUILT
     linker: str = ''
     c_library: str = ''
 
@@ -39,39 +38,43 @@ class Provenance:
 
 
 def sha256_of(path: Path) -> str:
-    """The SHA-256 of a file, in hexadecimal digits."""
+    """The SHA-256 of a file's bytes, in hexadecimal digits; OSError if it can't be read."""
     return hashlib.sha256(path.read_bytes()).hexdigest()
 
 
 def checksum_lines(paths: List[Path]) -> str:
-    """The lines that `sha256sum --check` reads, for files of one folder."""
+    """The lines that `sha256sum --check` reads, for files that are all in one folder: it must be
+    run there. They are sorted by path. OSError if a file can't be read."""
     return ''.join(f'{sha256_of(path)}  {path.name}\n' for path in sorted(paths))
 
 
-def built_module(made: Provenance) -> str:
+def built_module(provenance: Provenance) -> str:
     """The text of the module `built`, from which `--version` takes the commit and the kit: only a
     release has it."""
     return (
-        '"""Of what this release was made."""\n\n' f'COMMIT = {made.commit!r}\nKIT = {made.kit!r}\n'
+        '"""Of what this release was made."""\n\n'
+        f'COMMIT = {provenance.commit!r}\nKIT = {provenance.kit!r}\n'
     )
 
 
-def attestation_text(made: Provenance, objects: bytes, program: bytes) -> str:
-    """The text of ATTESTATION: what was proved, by what, what the gate counted, and the checksums
-    of the object file and of the program, whose bytes are given. Each line is a name and its
+def attestation_text(provenance: Provenance, object_bytes: bytes, program: bytes) -> str:
+    """The text of ATTESTATION: of which commit and kit the release is, what the gate counted, and
+    the checksums of the bytes of the object file and of the program. Each line is a name and its
     value."""
     return (
-        f'version: {made.version}\ncommit: {made.commit}\nkit: {made.kit}\n'
-        f'gate: {made.gate}\n'
-        f'object: {made.objects}\nobject-sha256: {hashlib.sha256(objects).hexdigest()}\n'
-        f'linked: statically, outside the kit, by {made.linker} with {made.c_library}\n'
+        f'version: {provenance.version}\ncommit: {provenance.commit}\nkit: {provenance.kit}\n'
+        f'gate: {provenance.gate}\n'
+        f'object: {provenance.object_origin}\n'
+        f'object-sha256: {hashlib.sha256(object_bytes).hexdigest()}\n'
+        f'linked: statically, outside the kit, by {provenance.linker} with {provenance.c_library}\n'
         f'program-sha256: {hashlib.sha256(program).hexdigest()}\n'
     )
 
 
 def spdx_package(name: str, version: str) -> Dict[str, object]:
-    """A package of an SPDX list: a thing that is linked, with its version. Its files aren't listed,
-    and nothing is asserted of its licence."""
+    """A package of an SPDX document: the name and the version of what is linked. Its identifier has
+    a hyphen for each `_` of the name. Its files aren't listed, and nothing is asserted of its
+    licence."""
     return {
         'SPDXID': f'SPDXRef-{name.replace("_", "-")}',
         'name': name,
@@ -84,35 +87,36 @@ def spdx_package(name: str, version: str) -> Dict[str, object]:
     }
 
 
-def spdx_relation(one: object, kind: str, other: object) -> Dict[str, object]:
-    """An SPDX relationship of a kind, from one identifier to another."""
-    return {'spdxElementId': one, 'relationshipType': kind, 'relatedSpdxElement': other}
+def spdx_relationship(source: object, kind: str, target: object) -> Dict[str, object]:
+    """An SPDX relationship of a kind, from the identifier `source` to the identifier `target`."""
+    return {'spdxElementId': source, 'relationshipType': kind, 'relatedSpdxElement': target}
 
 
-def spdx_document(made: Provenance, crates: str) -> str:
+def spdx_document(provenance: Provenance, crates: str) -> str:
     """What is linked into the program, as an SPDX 2.3 document (JSON): the crates below it by the
     text of crates.txt, the toolchain's library, the C library and libgcc. A crate that has no line
     in the text is the kit's. The same provenance gives the same text."""
-    own = uses_by_crate(crates)
-    packages = [spdx_package('crashfs', made.version)]
-    for name in sorted(crates_below(own, 'crashfs')):
-        packages.append(spdx_package(name, made.version if name in own else made.kit))
-    packages.append(spdx_package('rattle-standard-library', made.kit))
-    for tool in (made.c_library, made.linker):
+    uses = uses_by_crate(crates)
+    packages = [spdx_package('crashfs', provenance.version)]
+    for name in sorted(crates_below(uses, 'crashfs')):
+        packages.append(spdx_package(name, provenance.version if name in uses else provenance.kit))
+    packages.append(spdx_package('rattle-standard-library', provenance.kit))
+    for tool in (provenance.c_library, provenance.linker):
         name, _, version = tool.partition(' ')
         packages.append(spdx_package('libgcc' if name == 'gcc' else name, version))
-    relations = [spdx_relation('SPDXRef-DOCUMENT', 'DESCRIBES', 'SPDXRef-crashfs')]
-    relations += [
-        spdx_relation('SPDXRef-crashfs', 'STATIC_LINK', it['SPDXID']) for it in packages[1:]
+    relationships = [spdx_relationship('SPDXRef-DOCUMENT', 'DESCRIBES', 'SPDXRef-crashfs')]
+    relationships += [
+        spdx_relationship('SPDXRef-crashfs', 'STATIC_LINK', package['SPDXID'])
+        for package in packages[1:]
     ]
     document = {
         'spdxVersion': 'SPDX-2.3',
         'dataLicense': 'CC0-1.0',
         'SPDXID': 'SPDXRef-DOCUMENT',
-        'name': f'crashfs-{made.version}',
-        'documentNamespace': f'urn:crashfs:{made.version}:{made.commit}',
-        'creationInfo': {'created': made.time, 'creators': ['Tool: tools/release']},
+        'name': f'crashfs-{provenance.version}',
+        'documentNamespace': f'urn:crashfs:{provenance.version}:{provenance.commit}',
+        'creationInfo': {'created': provenance.time, 'creators': ['Tool: tools/release']},
         'packages': packages,
-        'relationships': relations,
+        'relationships': relationships,
     }
     return json.dumps(document, indent=1) + '\n'

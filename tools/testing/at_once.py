@@ -7,7 +7,7 @@ import sys
 import threading
 import time
 from concurrent.futures import ThreadPoolExecutor, as_completed
-from typing import Callable, Dict, Iterator, List
+from typing import Callable, Dict, Iterator, List, Set
 
 from .outcome import Outcome
 
@@ -20,37 +20,40 @@ Part = Callable[[], Outcome]
 
 
 def gigabytes_available() -> float:
-    """How much memory programs can still get, in units of 2**30 bytes, as the system estimates
-    it."""
+    """How much memory programs can still get, as the system estimates it, in units of 2**30 bytes;
+    a container's limit isn't looked at. OSError without /proc."""
     with open(MEMORY, encoding='ascii') as file:
         fields = dict(line.split(':') for line in file)
     return int(fields['MemAvailable'].split()[0]) / 2**20
 
 
-def parts_at_once(processors: int, gigabytes: float) -> int:
-    """How many parts run at once: as many as there are processors and memory for, but at least
+def most_parts_at_once(processors: int, gigabytes: float) -> int:
+    """How many parts run at once: as many as there are processors and memory for, and at least
     one."""
     return max(1, min(processors, int(gigabytes / GIGABYTES_EACH)))
 
 
 class Progress:
-    """A line on a terminal that says which parts are running, and for how long. running has them by
-    name, and is changed by the threads that run them. Nothing is shown if standard error is no
-    terminal."""
+    """A line on a terminal that says which parts are running; nothing is shown if standard error is
+    no terminal. The threads that run parts change `running`, the names of the running ones, and
+    done_count, how many have ended."""
 
     def __init__(self, names: List[str]) -> None:
-        """Notes when the parts begin; shows nothing yet."""
-        self.names, self.begin = names, time.monotonic()
-        self.running: Dict[str, float] = {}
-        self.done = 0
+        """Sets the time at which the parts begin. Shows nothing yet."""
+        self.names, self.start_time = names, time.monotonic()
+        self.running: Set[str] = set()
+        self.done_count = 0
         self.is_shown = sys.stderr.isatty()
         self.is_over = threading.Event()
 
     def text(self) -> str:
-        """The line: how many parts are done, after how many seconds, and which run now."""
+        """The line: how many parts are done, how many seconds after they began, and which are
+        running, in alphabetical order."""
         running = ', '.join(sorted(self.running))
-        seconds = time.monotonic() - self.begin
-        return f'{self.done} of {len(self.names)} done after {seconds:.0f} s; running: {running}'
+        seconds = time.monotonic() - self.start_time
+        return (
+            f'{self.done_count} of {len(self.names)} done after {seconds:.0f} s; running: {running}'
+        )
 
     def clear(self) -> None:
         """Removes the line from the terminal; keep_showing() shows it again."""
@@ -58,42 +61,41 @@ class Progress:
             print('\r\033[K', end='', file=sys.stderr, flush=True)
 
     def show(self) -> None:
-        """Shows the line in the place of the one before, cut to the width of the terminal; nothing
-        if standard error is no terminal."""
+        """Shows the line, cut to the width of the terminal, in place of the one before."""
         if self.is_shown:
             width = os.get_terminal_size(sys.stderr.fileno()).columns - 1
             print(f'\r\033[K{self.text()[:width]}', end='', file=sys.stderr, flush=True)
 
     def keep_showing(self) -> None:
-        """Shows the line again each SECONDS_BETWEEN, until `is_over` is set: to be run in a
-        thread."""
+        """Shows the line again every SECONDS_BETWEEN, until `is_over` is set. It must run in a
+        thread of its own."""
         while not self.is_over.wait(SECONDS_BETWEEN):
             self.show()
 
 
 def run_parts(parts: Dict[str, Part], count: int) -> Iterator[Outcome]:
-    """Runs parts, `count` at once, begun in their order; the outcome of each as it ends. A line on
-    the terminal shows meanwhile which run. What a part raises is raised here, but only after all
-    other parts have ended."""
+    """Runs parts, `count` at once, and yields the outcome of each as it ends; they begin in their
+    order. Meanwhile a line on the terminal names those that are running. What a part raises is
+    raised here once all others have run: outcomes that weren't taken yet are lost."""
     progress = Progress(list(parts))
 
     def run_part(name: str) -> Outcome:
-        """Runs a part in a thread of the pool, and notes in the progress that it runs and that it
-        is done."""
-        progress.running[name] = time.monotonic()
+        """In a thread of the pool: runs a part, and notes in the progress that it is running and,
+        also after an exception, that it is done."""
+        progress.running.add(name)
         try:
             return parts[name]()
         finally:
-            progress.running.pop(name)
-            progress.done += 1
+            progress.running.remove(name)
+            progress.done_count += 1
 
-    shower = threading.Thread(target=progress.keep_showing, daemon=True)
-    shower.start()
+    display_thread = threading.Thread(target=progress.keep_showing, daemon=True)
+    display_thread.start()
     try:
         with ThreadPoolExecutor(count) as pool:
-            for one in as_completed([pool.submit(run_part, name) for name in parts]):
+            for ended_part in as_completed([pool.submit(run_part, name) for name in parts]):
                 progress.clear()
-                yield one.result()
+                yield ended_part.result()
     finally:
         progress.is_over.set()
-        shower.join()
+        display_thread.join()

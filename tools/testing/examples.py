@@ -25,7 +25,7 @@ CASE = re.compile(r'^== (\S+)\n(.*?)^case=', re.M | re.S)
 
 
 class Files(NamedTuple):
-    """The files of examples/ that scripts are run with."""
+    """The files of examples/ over which scripts are run."""
 
     trace: str
     users: str
@@ -36,23 +36,23 @@ class Files(NamedTuple):
 
 
 def list_examples() -> List[str]:
-    """The names of the traces whose lists of states are examples."""
+    """The names of the examples that are lists of states: each has a trace of this name."""
     return sorted(path.stem for path in EXAMPLES.glob('*.list'))
 
 
 def script_examples() -> Dict[Files, List[str]]:
-    """The names of the scripts that are examples, by the files that they are run with: OTHERS has
-    those of some scripts, and USUAL is for the rest."""
-    found: Dict[Files, List[str]] = {}
+    """The names of the scripts that are examples, by the files over which they are run: OTHERS has
+    those of some scripts, all others have USUAL."""
+    names_by_files: Dict[Files, List[str]] = {}
     for path in sorted(EXAMPLES.glob('*.script')):
-        found.setdefault(Files(*OTHERS.get(path.stem, USUAL)), []).append(path.stem)
-    return found
+        names_by_files.setdefault(Files(*OTHERS.get(path.stem, USUAL)), []).append(path.stem)
+    return names_by_files
 
 
 def count_example(outcome: Outcome, name: str, printed: str) -> None:
-    """Counts an example as passed or failed in an outcome: whether the file of this name in
-    examples/ has what was printed, byte for byte. If not, the end of what was printed is added to
-    the output. OSError if there is no such file."""
+    """Counts an example as passed in an outcome if the file of this name in examples/ has what was
+    printed, byte for byte. If not, counts it as failed, and adds the last 2,000 letters of what was
+    printed to the outcome's output. OSError if there is no such file."""
     if printed.encode() == (EXAMPLES / name).read_bytes():
         outcome.passed += 1
     else:
@@ -60,58 +60,60 @@ def count_example(outcome: Outcome, name: str, printed: str) -> None:
         outcome.output += f'examples/{name} is not what was printed:\n{printed[-2000:]}\n'
 
 
-def output_of(words: List[str], folder: Path, given: Optional[Path] = None) -> str:
-    """What a command prints, on both outputs, in a folder, with the file `given` as its standard
-    input, or an empty one. Its status doesn't matter; OSError if it can't be started."""
-    ran = subprocess.run(
+def run_command(words: List[str], folder: Path, input_file: Optional[Path] = None) -> str:
+    """Runs a command in a folder, with a file, or nothing, as standard input, and waits for it
+    without limit. Returns what it printed on both outputs, with U+FFFD for bytes that aren't UTF-8,
+    whatever its status is. OSError if it can't be started, or the file can't be read."""
+    completed = subprocess.run(
         words,
         cwd=folder,
-        input=given.read_bytes() if given else b'',
+        input=input_file.read_bytes() if input_file else b'',
         stdout=subprocess.PIPE,
         stderr=subprocess.STDOUT,
         check=False,
     )
-    return ran.stdout.decode('utf-8', 'replace')
+    return completed.stdout.decode('utf-8', 'replace')
 
 
-def try_examples(has_rt: bool) -> Outcome:
-    """Runs the examples by the program, if it is built, and returns their outcome. If not, only the
-    lists are run, by the second reading: the scripts are left to try_scripts with the toolchain,
-    and are named as not run without it."""
-    begin, program = time.monotonic(), Crashfs.find(None)
-    head = [program.path] if program else [sys.executable, '-S', READING]
+def run_examples(has_rt: bool) -> Outcome:
+    """Runs the examples by the program, if Crashfs.find() finds one, and returns their outcome.
+    Without it only the lists are run, by the second reading: the scripts are for run_scripts() if
+    there is the toolchain (has_rt), and counted as not run if not. OSError if an example's file of
+    expected output is missing."""
+    start_time, program = time.monotonic(), Crashfs.find(None)
+    program_words = [program.path] if program else [sys.executable, '-S', READING]
     outcome = Outcome('examples')
     for name in list_examples():
-        words = [*head, 'list', '--trace', f'{name}.trace', '--holes']
-        count_example(outcome, f'{name}.list', output_of(words, EXAMPLES))
+        words = [*program_words, 'list', '--trace', f'{name}.trace', '--holes']
+        count_example(outcome, f'{name}.list', run_command(words, EXAMPLES))
     for files, names in script_examples().items() if program else ():
         for name in names:
-            found = output_of(
-                [*head, *files.script_command()], EXAMPLES, EXAMPLES / f'{name}.script'
+            replies = run_command(
+                [*program_words, *files.script_command()], EXAMPLES, EXAMPLES / f'{name}.script'
             )
-            count_example(outcome, f'{name}.replies', found)
+            count_example(outcome, f'{name}.replies', replies)
     if not program and not has_rt:
-        outcome.left.append(
+        outcome.not_run.append(
             f'{sum(map(len, script_examples().values()))} examples: {NEEDS_PROGRAM}'
         )
-    outcome.seconds = time.monotonic() - begin
+    outcome.seconds = time.monotonic() - start_time
     return outcome
 
 
-def try_scripts(files: Files, names: List[str]) -> Outcome:
-    """Runs the scripts of these names over these files by a program that the toolchain compiles
-    without any proof, and returns their outcome. A script of which nothing was printed fails, with
-    the whole output."""
-    begin, outcome = time.monotonic(), Outcome(f'scripts over {files.trace}')
+def run_scripts(files: Files, names: List[str]) -> Outcome:
+    """Runs scripts over these files by a program that the toolchain compiles without any proof, and
+    returns their outcome. A script without output fails; the outcome has the end of all output
+    then. OSError if there is no `rt`, or a file of expected output is missing."""
+    start_time, outcome = time.monotonic(), Outcome(f'scripts over {files.trace}')
     with tempfile.TemporaryDirectory(prefix='crashfs-test-') as folder:
         for name in names:
             shutil.copy(EXAMPLES / f'{name}.script', folder)
-        data = [word for name in files for word in ('--data', f'{name}={EXAMPLES / name}')]
-        printed = output_of(
-            ['rt', 'try', '--cases', folder, *data, '--', *files.script_command()], CRATE
+        data_words = [word for name in files for word in ('--data', f'{name}={EXAMPLES / name}')]
+        printed = run_command(
+            ['rt', 'try', '--cases', folder, *data_words, '--', *files.script_command()], CRATE
         )
     replies = dict(CASE.findall(printed))
     for name in names:
         count_example(outcome, f'{name}.replies', replies.get(f'{name}.script', printed))
-    outcome.seconds = time.monotonic() - begin
+    outcome.seconds = time.monotonic() - start_time
     return outcome

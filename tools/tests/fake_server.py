@@ -1,17 +1,20 @@
 #!/usr/bin/env -S python3 -S
 """A server for the tests of `measure`: `serve .. --listen ADDR ..`, or `ADDR CONNECTIONS KEEPING`.
 
-It answers each message by its type alone, refuses writes behind the first ten, and keeps 16 MB for
-each connection.
+It answers each message but the first by its type alone, refuses writes behind the first ten, and
+keeps 16 MB for each connection.
 """
 
 import socketserver
 import struct
 import sys
 
-WRITES = 10
+# None for `.. ADDR CONNECTIONS full`.
+WRITES = 0 if sys.argv[-1] == 'full' else 10
 KEPT = 1 << 24
-TWRITE, RERROR = 118, 107
+TVERSION, TWRITE, RERROR = 100, 118, 107
+# What it answers for 9P2000: another one for `.. ADDR CONNECTIONS unknown`.
+VERSION = b'\x07\x00unknown' if sys.argv[-1] == 'unknown' else b'\x06\x009P2000'
 
 
 class Connection(socketserver.StreamRequestHandler):
@@ -24,11 +27,13 @@ class Connection(socketserver.StreamRequestHandler):
             if len(head) < 7:
                 return
             size, kind, tag = struct.unpack('<IBH', head)
-            self.rfile.read(size - 7)
+            asked = self.rfile.read(size - 7)
             if kind == TWRITE:
                 self.written += 1
             refused = kind == TWRITE and self.written > WRITES
             fields = struct.pack('<H', 2) + b'no' if refused else b''
+            if kind == TVERSION:
+                fields = asked.replace(b'\x06\x009P2000', VERSION)
             reply = RERROR if refused else kind + 1
             self.wfile.write(struct.pack('<IBH', 7 + len(fields), reply, tag) + fields)
 

@@ -11,7 +11,7 @@ from crashfs_tools.reading.micro import (
     CreateEntry,
     DeleteEntry,
     LinkEntry,
-    Micro,
+    MicroOperation,
     MoveEntry,
     SetRights,
     WriteBlock,
@@ -25,7 +25,7 @@ from crashfs_tools.reading.syncs import (
 )
 
 
-def is_entry_operation(one: Micro) -> bool:
+def is_entry_operation(one: MicroOperation) -> bool:
     return isinstance(one, (CreateEntry, DeleteEntry, LinkEntry, MoveEntry))
 
 
@@ -64,29 +64,37 @@ class PlainRules:
                 found.add(i)
         return found
 
-    def is_same_block_or_size(self, one: Micro, two: Micro) -> bool:
+    def is_same_block_or_size(self, one: MicroOperation, two: MicroOperation) -> bool:
         """P1 and P7."""
-        if type(one) is not type(two) or one.file is None or one.file != two.file:
+        if (
+            type(one) is not type(two)
+            or one.file_number is None
+            or one.file_number != two.file_number
+        ):
             return False
         if isinstance(one, WriteBlock) and isinstance(two, WriteBlock):
             return one.block == two.block
         return isinstance(one, (ChangeSize, SetRights))
 
-    def names(self, one: Micro) -> Set[object]:
+    def names(self, one: MicroOperation) -> Set[object]:
         """What P2 compares: paths, or entries and directories."""
         if self.version < 4:
-            is_directory = isinstance(one, SetRights) and one.file is None
+            is_directory = isinstance(one, SetRights) and one.file_number is None
             return {one.path} if is_directory else set(one.paths)
         found: Set[object] = set(one.entries)
-        if isinstance(one, SetRights) and one.file is None:
-            found.add(one.directory)
+        if isinstance(one, SetRights) and one.file_number is None:
+            found.add(one.directory_number)
         if isinstance(one, (CreateEntry, DeleteEntry)) and one.node.kind == 'dir':
             found.add(one.node.number)
-        if isinstance(one, MoveEntry) and len(one.handled) == 2 and one.handled[1].kind == 'dir':
-            found.add(one.handled[1].number)
+        if (
+            isinstance(one, MoveEntry)
+            and len(one.handled_inodes) == 2
+            and one.handled_inodes[1].kind == 'dir'
+        ):
+            found.add(one.handled_inodes[1].number)
         return found
 
-    def shares_name(self, one: Micro, two: Micro) -> bool:
+    def shares_name(self, one: MicroOperation, two: MicroOperation) -> bool:
         """P2."""
         return bool(self.names(one) & self.names(two))
 
@@ -112,7 +120,7 @@ class PlainRules:
                 return place
         return -1
 
-    def is_of_removed(self, one: Micro, two: Micro) -> bool:
+    def is_of_removed(self, one: MicroOperation, two: MicroOperation) -> bool:
         """P4."""
         if self.version < 4:
             return (
@@ -120,37 +128,41 @@ class PlainRules:
                 and two.node.kind == 'dir'
                 and two.paths[0] in map(above, one.paths)
             )
-        gone = two.handled if isinstance(two, DeleteEntry) else ()
-        gone = two.handled[1:] if isinstance(two, MoveEntry) else gone
+        gone = two.handled_inodes if isinstance(two, DeleteEntry) else ()
+        gone = two.handled_inodes[1:] if isinstance(two, MoveEntry) else gone
         removed = [node.number for node in gone if node.kind == 'dir']
         return any(directory in removed for directory, _ in one.entries)
 
     def is_synced(self, i: int, j: int) -> bool:
         """P5."""
         return any(
-            i < sync.at <= j and self.covers(sync, self.operations[i]) for sync in self.syncs
+            i < sync.place <= j and self.covers(sync, self.operations[i]) for sync in self.syncs
         )
 
-    def covers(self, sync: SyncPoint, one: Micro) -> bool:
+    def covers(self, sync: SyncPoint, one: MicroOperation) -> bool:
         if isinstance(sync, RangeSync):
-            if one.file != sync.number:
+            if one.file_number != sync.number:
                 return False
             if isinstance(one, WriteBlock):
-                return sync.offset <= one.begin and one.begin + len(one.data) <= sync.end
+                return (
+                    sync.offset <= one.file_offset and one.file_offset + len(one.data) <= sync.end
+                )
             return isinstance(one, ChangeSize)
         if isinstance(sync, DataSync):
-            return one.file == sync.number and isinstance(one, (WriteBlock, ChangeSize))
+            return one.file_number == sync.number and isinstance(one, (WriteBlock, ChangeSize))
         if isinstance(sync, FileSync):
-            return one.file == sync.number
+            return one.file_number == sync.number
         if isinstance(sync, DirectorySync):
             return self.is_in_directory(one, sync.number)
         return True
 
-    def is_in_directory(self, one: Micro, directory: int) -> bool:
+    def is_in_directory(self, one: MicroOperation, directory: int) -> bool:
         """Whether it touches an entry of a directory, or sets its owner, group and mode."""
-        return one.directory == directory or directory in [number for number, _ in one.entries]
+        return one.directory_number == directory or directory in [
+            number for number, _ in one.entries
+        ]
 
-    def is_in_line(self, one: Micro, two: Micro) -> bool:
+    def is_in_line(self, one: MicroOperation, two: MicroOperation) -> bool:
         """P6, P8, P9, P10 and P12."""
         if isinstance(one, Acknowledgement):
             return self.version >= 3 or isinstance(two, Acknowledgement)
@@ -169,35 +181,36 @@ class PlainRules:
         return (
             self.profile == 'journal'
             and is_entry_operation(self.operations[i])
-            and any(i < sync.at <= j and self.is_fresh(sync) for sync in self.syncs)
+            and any(i < sync.place <= j and self.is_fresh(sync) for sync in self.syncs)
         )
 
     def is_fresh(self, sync: SyncPoint) -> bool:
         """Whether a sync point writes the log."""
         place = next(place for place, one in enumerate(self.syncs) if one is sync)
-        begin = self.syncs[place - 1].at if place else 0
-        since = self.operations[begin : sync.at]
+        begin = self.syncs[place - 1].place if place else 0
+        since = self.operations[begin : sync.place]
         if isinstance(sync, DirectorySync):
             own = ('dir', sync.number)
             return any(
-                self.is_in_directory(one, sync.number) or own in one.handled for one in since
+                self.is_in_directory(one, sync.number) or own in one.handled_inodes for one in since
             )
         if isinstance(sync, DataSync):
             return any(
-                (isinstance(one, ChangeSize) and one.file == sync.number)
+                (isinstance(one, ChangeSize) and one.file_number == sync.number)
                 or (isinstance(one, CreateEntry) and one.node == ('file', sync.number))
                 for one in since
             )
         if isinstance(sync, FileSync):
             return any(
-                one.file == sync.number or ('file', sync.number) in one.handled for one in since
+                one.file_number == sync.number or ('file', sync.number) in one.handled_inodes
+                for one in since
             )
         return True
 
     def are_halves(self, i: int, j: int) -> bool:
         """P13."""
         first, second = self.operations[i], self.operations[j]
-        return j == i + 1 and (first.half, second.half) == (1, 2)
+        return j == i + 1 and (first.rename_half, second.rename_half) == (1, 2)
 
 
 def chains(reading: Reading, profile: str) -> Iterator[int]:

@@ -10,7 +10,7 @@ import random
 import sys
 from typing import Any, Dict, List
 
-from crashfs_tools.reading import ReadingFault, read
+from crashfs_tools.reading import ReadingFault, parse_trace
 
 PATHS = ['/a', '/b', '/c', '/d', '/d/a', '/d/b', '/e', '/e/x', '/é "\\']
 # Version 4 has more directories, and paths below them.
@@ -70,7 +70,7 @@ class RandomTrace:
     def add(self, fields: Dict[str, Any]) -> None:
         line = as_line(fields)
         try:
-            read('\n'.join([*self.lines, line]).encode())
+            parse_trace('\n'.join([*self.lines, line]).encode())
         except ReadingFault:
             return
         self.lines.append(line)

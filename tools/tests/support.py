@@ -69,7 +69,7 @@ def recording_of(
     """What a log becomes, for the directory /d with the umask 022 and the user u."""
     scan = Scan(Header('u', 'u', 0o755), list(start or []))
     recording = Recording(scan.header, TraceSettings(acknowledged, version=version))
-    recording.streams.set_standard_output(output)
+    recording.streams.add_text_of_output(output)
     conditions = StartConditions('/d', 0o022, 'u', 'u')
     files = LiveFiles(recording, conditions, scan, ignored or (lambda path: False))
     numbers = [int(number) for number in acknowledged if number.isdigit()]
@@ -77,7 +77,7 @@ def recording_of(
     log = read_log(map(as_strace, lines), needed)
     for call in log.calls if note else []:
         call.note = note(call)
-    Translator(files, log, copies).run()
+    Translator(files, log, copies).translate_log()
     return recording
 
 

@@ -49,7 +49,7 @@ class Files(InFolder):
 
     def test_numbers_and_random_parts_do_not_count_and_all_else_does(self) -> None:
         entry = AcceptedFailure('lost: row 3', 'unlink /log.17', 'say', 'why')
-        found = AcceptedFailures('f', [entry], TODAY)
+        found = AcceptedFailures([entry], TODAY)
         self.assertEqual(
             found.entry_for(entry._replace(cause='lost: row 4', lost='unlink /log.8')), entry
         )
@@ -60,7 +60,7 @@ class Files(InFolder):
         for until, is_over in ((None, False), ('2026-11-29', False), ('2026-11-28', True)):
             date = datetime.date.fromisoformat(until) if until else None
             entry = AcceptedFailure('a', '', '', 'b', date)
-            self.assertEqual(AcceptedFailures('f', [entry], TODAY).is_over(entry), is_over, until)
+            self.assertEqual(AcceptedFailures([entry], TODAY).has_expired(entry), is_over, until)
 
 
 class Reports(InFolder):

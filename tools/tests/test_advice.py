@@ -8,12 +8,12 @@ from pathlib import Path
 from types import SimpleNamespace
 from unittest import mock
 
-from crashfs_tools.checker.findings.advice import Advice, Tried
-from crashfs_tools.checker.findings.swaps import Swap, moved_lines
+from crashfs_tools.checker.findings.advice import Advice, AdviceResult
+from crashfs_tools.checker.findings.swaps import Swap, lines_to_move
 from crashfs_tools.checker.findings.sync_points import sync_points
 from crashfs_tools.checker.report.text import ReportText
 from crashfs_tools.checker.states.plan import Offsets
-from crashfs_tools.common.trace_lines import TraceLine, read_text, with_syncs
+from crashfs_tools.common.trace_lines import TraceLine, parse_trace_text, with_syncs
 
 from .support import FAKE
 from .test_check_command import InStore
@@ -22,7 +22,7 @@ from .test_groups import THIRD, line, rename, report_of, write
 
 def lines_of(*lines):
     """A file of so many lines, by their numbers from 2."""
-    return read_text(THIRD + ''.join(lines)).operations
+    return parse_trace_text(THIRD + ''.join(lines)).operations
 
 
 class Points(unittest.TestCase):
@@ -97,7 +97,7 @@ class Points(unittest.TestCase):
 class Said(unittest.TestCase):
     def test_advice_that_leaves_as_many_failures_is_none(self):
         advice = Advice(['line 2 was not durable:'], 'fsync /f between them', {2: '/f'})
-        advice.tried = Tried(0, 2, 84, 84, before=84, after=84)
+        advice.result = AdviceResult(0, 2, 84, 84, before=84, after=84)
         self.assertEqual(
             advice.lines(),
             [
@@ -106,7 +106,7 @@ class Said(unittest.TestCase):
                 '(84 states fail then, 84 before)',
             ],
         )
-        advice.tried = Tried(0, 2, 82, 82, before=84, after=82)
+        advice.result = AdviceResult(0, 2, 82, 82, before=84, after=82)
         self.assertEqual(advice.lines()[1], 'fsync /f between them')
         self.assertIn('tried: with that sync 0 of these 2 states', advice.lines()[2])
 
@@ -141,11 +141,11 @@ class Swapped(unittest.TestCase):
             line('creat', '/other'),
             rename('/new+', '/new'),
         )
-        self.assertEqual(moved_lines(lines[2], lines[8], lines), [3, 5, 6, 8])
+        self.assertEqual(lines_to_move(lines[2], lines[8], lines), [3, 5, 6, 8])
 
     def test_lines_of_the_same_file_do_not_change_places(self):
         lines = lines_of(line('truncate', '/f', length=0), line('creat', '/g'), rename('/f', '/g'))
-        self.assertEqual(moved_lines(lines[2], lines[4], lines), [])
+        self.assertEqual(lines_to_move(lines[2], lines[4], lines), [])
 
     def test_a_kept_line_in_parts_comes_after_the_moved_lines_and_one_sync(self):
         kept, lost = (TraceLine(number, 'write', f'/{number}') for number in (5, 6))
@@ -158,8 +158,8 @@ class Swapped(unittest.TestCase):
                 guard=SimpleNamespace(directory=folder),
             )
             planner = mock.Mock()
-            group = SimpleNamespace(kept=kept, lost=lost)
-            Swap(trials, planner, None, group).planned_copy([6])
+            group = SimpleNamespace(kept_line=kept, lost_line=lost)
+            Swap(trials, planner, None, group).plan_copy([6])
             path, copied = planner.plan.call_args.args
             text = Path(path).read_text(encoding='utf-8')
         sync = '{"op": "fsync", "path": "/6"}'

@@ -7,7 +7,7 @@ from typing import Any, List, Sequence
 from unittest import mock
 
 from crashfs_tools.checker.states import all_sets as choices
-from crashfs_tools.checker.states.all_sets import AllSets, ReadSets, all_sets
+from crashfs_tools.checker.states.all_sets import AllSets, ReadingSets, all_sets
 from crashfs_tools.common.program import ProgramFault
 
 from .support import InFolder
@@ -20,7 +20,7 @@ START = f'{{"start":"file","path":"/s",{RIGHTS},"text":"twelve bytes"}}'
 class Program:
     """Lists two sets, or refuses by a text, or lacks some options."""
 
-    unproved = False
+    is_unproved = False
 
     def __init__(self, refusal: str = '', lacks: Sequence[str] = ()) -> None:
         self.refusal = refusal
@@ -40,7 +40,7 @@ class Program:
 class Choices(InFolder):
     def sets(self, program: Any, lines: List[str]) -> AllSets:
         path = self.write('a.trace', '\n'.join(lines) + '\n')
-        return all_sets(program, {}, ReadSets(path))
+        return all_sets(program, {}, ReadingSets(path))
 
     def test_the_program_lists_the_states_of_a_trace_of_version_3(self) -> None:
         program = Program()
@@ -74,15 +74,32 @@ class Choices(InFolder):
         self.assertEqual(len(sets.drawn_sets(7, 1) or []), 7)
         self.assertNotIn(['--every', '--count'], program.asked)
 
+    def test_a_program_that_draws_no_sets_leaves_that_to_the_second_reading(self) -> None:
+        program = Program(lacks=['--sample'], refusal='more than 9 sets')
+        sets = self.sets(program, TRACE)
+        self.assertIsNone(sets.different_sets(9))
+        self.assertFalse(sets.are_read)
+        self.assertEqual(len(sets.drawn_sets(7, 1) or []), 7)
+        self.assertTrue(sets.are_read)
+
     def test_the_second_reading_lists_those_of_a_large_start(self) -> None:
         lines = [TRACE[0], START, *TRACE[1:]]
         for most, is_read in ((12, False), (11, True)):
             with self.subTest(most), mock.patch.object(choices, 'START_BYTES', most):
                 self.assertEqual(self.sets(Program(), lines).are_read, is_read)
 
-    def test_those_of_another_profile_are_read(self) -> None:
-        read = ReadSets(self.write('a.trace', '\n'.join(TRACE) + '\n'))
-        self.assertEqual(len(read.different_sets(9, 'ordered') or []), 4)
+    def test_the_program_lists_those_of_another_profile(self) -> None:
+        program = Program()
+        sets = self.sets(program, TRACE)
+        self.assertEqual(sets.different_sets(9, 'ordered'), [0b00, 0b11])
+        asked = ['--every', '--different', '--most', '9', '--profile', 'ordered']
+        self.assertEqual((program.asked, sets.are_read), ([asked], False))
+
+    def test_those_of_another_profile_that_it_can_not_list_are_read(self) -> None:
+        for program in (Program(lacks=['--profile']), Program(refusal='too many sets to compare')):
+            sets = self.sets(program, TRACE)
+            self.assertEqual(len(sets.different_sets(9, 'ordered') or []), 4)
+            self.assertTrue(sets.are_read)
 
 
 if __name__ == '__main__':

@@ -7,11 +7,11 @@ from types import SimpleNamespace
 from typing import Any, Dict, List, Set, Tuple
 from unittest import mock
 
-from crashfs_tools.checker.states.plan import Planned, Trial
+from crashfs_tools.checker.states.plan import PlannedTrace, Trial
 from crashfs_tools.checker.states.planning import Planner
 from crashfs_tools.common import limits
 from crashfs_tools.common.program import Crashfs
-from crashfs_tools.reading import ReadingFault, StateList, plan_of, read
+from crashfs_tools.reading import ReadingFault, StateList, make_plan, parse_trace
 from crashfs_tools.reading.every import every_set
 from crashfs_tools.reading.order import Order
 
@@ -31,7 +31,7 @@ def trace_texts() -> List[Tuple[str, str]]:
         for seed in range(40, 48):
             text = RandomTrace(version, seed).text()
             try:
-                if Order(read(text.encode())).count < 13:
+                if Order(parse_trace(text.encode())).count < 13:
                     found.append((f'{version} {seed}', text))
             except ReadingFault:
                 continue  # Its last line has a fault.
@@ -41,8 +41,8 @@ def trace_texts() -> List[Tuple[str, str]]:
 def wanted_trials(text: str) -> Set[Tuple[object, int]]:
     """The trees of all sets that have all acknowledged lines before their members, with how many
     lines are acknowledged."""
-    reading = read(text.encode())
-    order = Order(reading).acknowledged_first(reading)
+    reading = parse_trace(text.encode())
+    order = Order(reading).with_earlier_lines(reading)
     trees = StateList(reading).trees
     return {(trees.digest(one), trees.count_says(one)) for one in every_set(order)}
 
@@ -55,13 +55,13 @@ class Listing(InFolder):
         guard: Any = SimpleNamespace(directory=self.temporary, environment=None)
         return Planner(options, program, guard)
 
-    def planned(self, text: str, most: int = 20_000, program: str = '') -> Planned:
+    def planned(self, text: str, most: int = 20_000, program: str = '') -> PlannedTrace:
         found: Any = Crashfs(program) if program else Reader()
         return self.planner(found, most).plan(self.write('a.trace', text))
 
-    def trials(self, text: str, planned: Planned) -> List[Tuple[object, int]]:
+    def trials(self, text: str, planned: PlannedTrace) -> List[Tuple[object, int]]:
         """What is tried of a plan, once for each trial."""
-        trees = StateList(read(text.encode())).trees
+        trees = StateList(parse_trace(text.encode())).trees
         firsts: Dict[Trial, int] = {}
         for state in planned.plan.states:
             firsts.setdefault(state.trial, state.number)
@@ -97,11 +97,16 @@ class AllListed(Listing):
         with mock.patch.object(limits, 'STATES', size):
             planned = self.planned(text)
         self.assertGreater(len(planned.parts), 1)
-        program, trees = Crashfs(FAKE, unproved=True), StateList(read(text.encode())).trees
+        program, trees = (
+            Crashfs(FAKE, is_unproved=True),
+            StateList(parse_trace(text.encode())).trees,
+        )
         found = {}
         for request in planned.requests(one.number for one in planned.plan.listed):
-            for own, tree in program.trees(request.words):
-                found[own + request.lead] = {path: entry.data for path, entry in tree.items()}
+            for own, tree in program.trees(request.options):
+                found[own + request.number_offset] = {
+                    path: entry.data for path, entry in tree.items()
+                }
         for number, kept in planned.plan.kept.items():
             wanted = {path: item.content for path, item in trees.tree(kept).items()}
             self.assertEqual(found[number], wanted, number)
@@ -126,7 +131,7 @@ class AllListed(Listing):
             assert plan.all_states is not None
             self.assertEqual(plan.all_states[:4], (256, are_listed, True, most))
             self.assertEqual(len(plan.all_states.drawn), 0 if are_listed else 50)
-            families = plan_of(read(text.encode()), holes=True)
+            families = make_plan(parse_trace(text.encode()), has_holes=True)
             self.assertGreaterEqual(len(plan.families), len(families.states))
             firsts = {one.trial for one in plan.states}
             self.assertEqual(len(firsts) == 256, are_listed)

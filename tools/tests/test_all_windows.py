@@ -14,7 +14,7 @@ from crashfs_tools.checker.states.plan import AllStates
 from crashfs_tools.checker.states.planning import Planner
 from crashfs_tools.checker.states.steps import Session
 from crashfs_tools.checker.states.windows import Windows, with_probe
-from crashfs_tools.reading import ReadingFault, StateList, read
+from crashfs_tools.reading import ReadingFault, StateList, parse_trace
 from crashfs_tools.reading.order import Order
 
 from .random_traces import RandomTrace
@@ -37,7 +37,7 @@ def synced_texts() -> List[Tuple[str, str]]:
             for at in range(len(lines), first, -3):
                 lines.insert(at, '{"op":"sync"}')
             try:
-                reading = read(('\n'.join(lines) + '\n').encode())
+                reading = parse_trace(('\n'.join(lines) + '\n').encode())
             except ReadingFault:
                 continue  # Its last line has a fault.
             if 9 < len(reading.operations) < 26:
@@ -57,13 +57,13 @@ class Pending(unittest.TestCase):
             # The last line of a random trace may have a fault.
             lines = text.splitlines()[: None if text == renamed else -1]
             while lines and lines[-1].startswith('{"op"'):
-                reading = read(with_probe('\n'.join(lines) + '\n').encode())
+                reading = parse_trace(with_probe('\n'.join(lines) + '\n').encode())
                 order, says = Order(reading), StateList(reading).trees.says
                 last = order.count - 1
                 needed = order.needs[last] | says
-                self.assertEqual(order.pending(last) & ~says, (1 << last) - 1 & ~needed)
+                self.assertEqual(order.pending_set(last) & ~says, (1 << last) - 1 & ~needed)
                 compared += 1
-                indirect += needed != (order.synced[last] | order.logged[last] | says)
+                indirect += needed != (order.synced_sets[last] | order.logged_sets[last] | says)
                 lines.pop()
         self.assertGreater(compared, 600)
         self.assertGreater(indirect, 0)
@@ -80,7 +80,7 @@ class AllWindows(InFolder):
         guard: Any = SimpleNamespace(directory=self.temporary, environment=None)
         program: Any = Reader()
         windows = Windows(Planner(options, program, guard), Session('w', text), size)
-        trees = StateList(read(text.encode())).trees
+        trees = StateList(parse_trace(text.encode())).trees
         count, found = 0, set()
         self.unlisted = 0
         self.sizes: List[int] = []
@@ -118,7 +118,7 @@ class AllWindows(InFolder):
         shorter = 0
         for name, text in synced_texts():
             wanted = wanted_trials(text)
-            size = Order(read(text.encode())).count
+            size = Order(parse_trace(text.encode())).count
             for most in (len(wanted) - 1, len(wanted) * 2 // 3, len(wanted) // 2):
                 windows, count, found = self.windows(text, size, most)
                 with self.subTest(f'{name} {most}'):
@@ -147,7 +147,7 @@ class AllWindows(InFolder):
 
     def test_all_is_said_only_if_no_loss_was_cut_off(self) -> None:
         every = [AllStates(5, True), AllStates(6, True)]
-        counts = StateCounts(2, 30, 50, 40, 40, 40, every=[*every])
+        counts = StateCounts(2, 30, 50, 40, 40, 40, all_states=[*every])
         begin = 't: 30 micro-operations in 2 windows, '
         for cut_off, text in [
             ([], 'all 40 crash states: none fails'),

@@ -4,7 +4,7 @@ import io
 import tarfile
 import unittest
 
-from crashfs_tools.common.archive import ArchiveFault, members
+from crashfs_tools.common.archive import ArchiveFault, read_members
 from crashfs_tools.common.entry import Entry
 
 LONG = 'n' * 255
@@ -55,7 +55,7 @@ def archive_of(tree, form=tarfile.PAX_FORMAT) -> bytes:
 
 
 def read(data: bytes):
-    return list(members(io.BytesIO(data)))
+    return list(read_members(io.BytesIO(data)))
 
 
 class Archives(unittest.TestCase):
@@ -92,6 +92,9 @@ class Archives(unittest.TestCase):
         for data in (PIECES[:-1], PIECES + b'x', b'', b'1\n', b'2\n1\n1\n', b'x\n'):
             with self.assertRaisesRegex(ArchiveFault, 'sparse', msg=data):
                 read(sparse_archive(SPARSE, data))
+        shorter = {**SPARSE, 'GNU.sparse.realsize': '1073741823'}
+        with self.assertRaisesRegex(ArchiveFault, 'a piece of a sparse file ends past its length'):
+            read(sparse_archive(shorter, PIECES))
         without_size = {name: text for name, text in SPARSE.items() if 'size' not in name}
         with self.assertRaisesRegex(ArchiveFault, 'sparse'):
             read(sparse_archive(without_size, PIECES))

@@ -6,10 +6,11 @@ import io
 import unittest
 from typing import Dict, Iterator, List, Sequence, Tuple
 
-from crashfs_tools.common.archive import Member, members
+from crashfs_tools.common.archive import Member, read_members
 from crashfs_tools.common.program import Crashfs
-from crashfs_tools.reading import ReadingFault, read
+from crashfs_tools.reading import ReadingFault, parse_trace
 from crashfs_tools.reading.every import count_sets
+from crashfs_tools.reading.lines import PROFILES
 from crashfs_tools.reading.order import Order
 
 from .case_runs import Ran, Runner
@@ -28,6 +29,8 @@ COMMANDS = (
     ['picks', '--files'],
 )
 DIFFERENT = ['picks', '--every', '--different']
+# In turn, from trace to trace, each with one of the profiles in turn.
+OF_PROFILES: Sequence[List[str]] = (['picks', '--every'], DIFFERENT)
 # In turn, from trace to trace.
 ARCHIVES: Sequence[List[str]] = ([], ['--sparse'], ['--changes'], ['--changes', '--sparse'])
 
@@ -45,7 +48,7 @@ NEEDS_LOST = (
 PROGRAM = Crashfs.find(None)
 needs_program = needed(PROGRAM is not None, 'crashfs is not built')
 needs_version_4 = needed(
-    PROGRAM is not None and PROGRAM.reads_version(4),
+    PROGRAM is not None and PROGRAM.can_read_version(4),
     'a crashfs that reads traces of version 4 is not there',
 )
 
@@ -59,7 +62,7 @@ def texts_of(version: int) -> Iterator[Tuple[int, str]]:
 
 def has_few_sets(text: str) -> bool:
     try:
-        return count_sets(Order(read(text.encode()))) <= MOST_SETS
+        return count_sets(Order(parse_trace(text.encode()))) <= MOST_SETS
     except ReadingFault:
         return True
 
@@ -94,8 +97,13 @@ class BesideTheProgram(InFolder):
             with self.subTest(version=version, seed=seed):
                 for words in COMMANDS:
                     self.assert_printed_alike(words, text)
-                if version < 4 or has_few_sets(text):
+                few = has_few_sets(text)
+                if version < 4 or few:
                     self.assert_printed_alike(DIFFERENT, text)
+                if few:
+                    words = OF_PROFILES[seed % len(OF_PROFILES)]
+                    profile = PROFILES[seed % len(PROFILES)]
+                    self.assert_printed_alike([*words, '--profile', profile], text)
                 if version >= 4:
                     self.assert_archived_alike(ARCHIVES[seed % len(ARCHIVES)], text)
 
@@ -116,13 +124,16 @@ class BesideTheProgram(InFolder):
     def test_the_sets_that_differ_in_the_examples(self) -> None:
         for path in EXAMPLE_TRACES:
             with self.subTest(trace=path.name):
-                self.assert_printed_alike(DIFFERENT, path.read_text('utf-8'))
+                text = path.read_text('utf-8')
+                self.assert_printed_alike(DIFFERENT, text)
+                for profile in PROFILES:
+                    self.assert_printed_alike([*DIFFERENT, '--profile', profile], text)
 
 
 def members_of(ran: Ran) -> List[Member]:
     """The entries of the archive that a command wrote."""
     assert (ran.status, ran.err) == (0, b''), ran
-    return list(members(io.BytesIO(ran.out)))
+    return list(read_members(io.BytesIO(ran.out)))
 
 
 if __name__ == '__main__':

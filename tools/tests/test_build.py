@@ -18,9 +18,9 @@ from unittest import mock
 
 from building import checks, main, order, proving
 from building.checks import Check, memory_of_machine, killed_text, run_check
-from building.order import MANY_BELOW, Work, libraries, line_count
-from building.proving import build_program, is_library_current, keep_libraries, prove_in
-from building.sharing import give_library
+from building.order import MANY_BELOW, Work, libraries, count_lines
+from building.proving import build_program, is_library_current, copy_libraries_home, prove_crates_in
+from building.sharing import copy_library
 
 from .support import PATIENCE
 
@@ -35,11 +35,11 @@ def all_ready(work: Work) -> List[Tuple[str, int]]:
     """Takes each crate that can begin now, with its processors."""
     taken: List[Tuple[str, int]] = []
     while True:
-        chosen: Optional[Tuple[str, int]] = work.best_crate()
+        chosen: Optional[Tuple[str, int]] = work.choose_crate()
         if chosen is None:
             return taken
         taken.append(chosen)
-        work.begun.add(chosen[0])
+        work.begun_crates.add(chosen[0])
         work.jobs[chosen[0]] = chosen[1]
 
 
@@ -58,8 +58,8 @@ class Order(unittest.TestCase):
         low = [f'low{it}' for it in range(MANY_BELOW)]
         below = {'top': low[-1:], **{it: low[at - 1 : at] for at, it in enumerate(low)}}
         work = Work(below, {it: 1 for it in below}, 4)
-        work.begun.update(low)
-        work.places.update((it, Path('/')) for it in low)
+        work.begun_crates.update(low)
+        work.proved_in.update((it, Path('/')) for it in low)
         self.assertEqual(all_ready(work), [('top', 1)])
 
     def test_one_processor_takes_a_crate_at_a_time(self) -> None:
@@ -74,10 +74,10 @@ class Order(unittest.TestCase):
 
     def test_nothing_begins_once_a_crate_is_not_proved(self) -> None:
         work = Work(BELOW, CHAINS, 4)
-        name, _ = work.next_crate()
+        name, _ = work.begin_next_crate()
         work.end_crate(name, None)
-        self.assertIsNone(work.next_crate())
-        self.assertEqual(work.failed, 'a')
+        self.assertIsNone(work.begin_next_crate())
+        self.assertEqual(work.failed_crate, 'a')
 
     def test_a_library_that_is_older_than_its_text_is_made_again(self) -> None:
         with tempfile.TemporaryDirectory() as room:
@@ -109,7 +109,7 @@ class Order(unittest.TestCase):
                 file = Path(room) / 'crates' / 'a' / path
                 file.parent.mkdir(parents=True, exist_ok=True)
                 file.write_text('line\n' * lines)
-            self.assertEqual(line_count('a'), 15)
+            self.assertEqual(count_lines('a'), 15)
 
     def test_the_libraries_are_all_that_the_program_uses(self) -> None:
         below = libraries()
@@ -139,7 +139,7 @@ class Sharing(unittest.TestCase):
 
     def test_a_library_is_given_whole(self) -> None:
         self.prove('1', 'a', 'new')
-        give_library(self.room / '1', self.room / '2', 'a')
+        copy_library(self.room / '1', self.room / '2', 'a')
         self.assertEqual(self.given('2', 'a'), 'new')
         self.assertEqual(os.listdir(self.library('2', 'a').parent), ['rlib'])
 
@@ -147,7 +147,7 @@ class Sharing(unittest.TestCase):
         self.prove('1', 'a', 'new')
         self.prove('2', 'a', 'old')
         (self.library('2', 'a') / 'left').touch()
-        give_library(self.room / '1', self.room / '2', 'a')
+        copy_library(self.room / '1', self.room / '2', 'a')
         self.assertEqual(self.given('2', 'a'), 'new')
         self.assertFalse((self.library('2', 'a') / 'left').exists())
 
@@ -155,30 +155,30 @@ class Sharing(unittest.TestCase):
         self.prove('1', 'a', 'new')
         self.prove('2', 'a', 'new')
         (self.library('2', 'a') / 'left').touch()
-        give_library(self.room / '1', self.room / '2', 'a')
+        copy_library(self.room / '1', self.room / '2', 'a')
         self.assertTrue((self.library('2', 'a') / 'left').exists())
 
     def test_what_was_interrupted_is_given_again(self) -> None:
         self.prove('1', 'a', 'new')
         self.library('2', 'a').mkdir(parents=True)
-        give_library(self.room / '1', self.room / '2', 'a')
+        copy_library(self.room / '1', self.room / '2', 'a')
         self.assertEqual(self.given('2', 'a'), 'new')
 
     def test_a_check_has_all_libraries_of_the_copies_that_proved_them(self) -> None:
         work = Work(BELOW, CHAINS, 1)
-        work.begun.update('abcd')
+        work.begun_crates.update('abcd')
         for copy, name in (('1', 'a'), ('1', 'b'), ('2', 'c'), ('2', 'd')):
             self.prove(copy, name, name)
-            work.places[name] = self.room / copy
+            work.proved_in[name] = self.room / copy
         with mock.patch.object(
             proving, 'run_check', return_value=Check(0, b'', 1)
         ), redirect_stdout(io.StringIO()):
-            prove_in(self.room / '2', work, 0)
+            prove_crates_in(self.room / '2', work, 0)
             self.assertEqual((self.given('2', 'a'), self.given('2', 'b')), ('a', 'b'))
             with mock.patch.object(proving, 'TOP', self.room / 'top'):
-                keep_libraries(work)
+                copy_libraries_home(work)
         self.assertEqual([self.given('top', it) for it in 'abcd'], list('abcd'))
-        self.assertEqual(work.places['e'], self.room / '2')
+        self.assertEqual(work.proved_in['e'], self.room / '2')
 
     def build(self, refused: str) -> int:
         """A build whose crates a to e are all proved in the copy 1, but for those of `refused`."""
@@ -196,7 +196,7 @@ class Sharing(unittest.TestCase):
         ), mock.patch.object(main, 'TOP', top), mock.patch.object(
             proving, 'TOP', top
         ), mock.patch.object(
-            main, 'prove_in', lambda _, work, begun: prove_in(copy, work, begun)
+            main, 'prove_crates_in', lambda _, work, begun: prove_crates_in(copy, work, begun)
         ), mock.patch.object(
             proving, 'run_check', check
         ), redirect_stdout(
@@ -232,8 +232,8 @@ class Checks(unittest.TestCase):
         other = f'[sys.executable, "-S", "-c", "x = bytes(1) * {size}"]'
         below = f'import subprocess; subprocess.run({other})'
         for check in (self.ended('sys.exit(0)', size), self.ended(below)):
-            self.assertGreater(check.most, size)
-            self.assertLess(check.most, 2 * size)
+            self.assertGreater(check.memory, size)
+            self.assertLess(check.memory, 2 * size)
 
     def test_a_process_that_the_system_killed_is_seen_in_each_form(self) -> None:
         self.assertTrue(self.ended('os.kill(os.getpid(), 9)').is_killed)
@@ -266,7 +266,7 @@ class Threads(unittest.TestCase):
             out
         ), redirect_stderr(err):
             threads = [
-                threading.Thread(target=prove_in, args=(Path('/'), work, 0), daemon=True)
+                threading.Thread(target=prove_crates_in, args=(Path('/'), work, 0), daemon=True)
                 for _ in range(2)
             ]
             for thread in threads:
@@ -274,7 +274,7 @@ class Threads(unittest.TestCase):
             for thread in threads:
                 thread.join(PATIENCE)
         self.assertEqual([thread.is_alive() for thread in threads], [False, False])
-        self.assertEqual((work.failed, work.places, run.call_count), ('a', {}, 1))
+        self.assertEqual((work.failed_crate, work.proved_in, run.call_count), ('a', {}, 1))
         self.assertRegex(out.getvalue(), r'min: a NOT PROVED \(0 of 2\)\n$')
         err.flush()
         assert isinstance(err.buffer, io.BytesIO)
@@ -294,7 +294,7 @@ class Reports(unittest.TestCase):
             if work is None:
                 self.status = build_program(0)
             else:
-                prove_in(Path('/'), work, 0)
+                prove_crates_in(Path('/'), work, 0)
         err.flush()
         assert isinstance(err.buffer, io.BytesIO)
         return out.getvalue(), err.buffer.getvalue().decode()
@@ -306,7 +306,7 @@ class Reports(unittest.TestCase):
         first, last = err.splitlines()
         self.assertEqual(first, 'so far: 0 of 139 functions checked')
         self.assertRegex(last, '^a: the system killed its check')
-        self.assertEqual((work.failed, work.begun), ('a', {'a'}))
+        self.assertEqual((work.failed_crate, work.begun_crates), ('a', {'a'}))
 
     def test_a_refused_check_says_nothing_of_memory(self) -> None:
         _, err = self.printed(Check(1, b'fn a::b: not proved\n', 1), Work(BELOW, CHAINS, 4))
@@ -337,7 +337,7 @@ class Reports(unittest.TestCase):
         full = OSError(errno.ENOSPC, 'No space left on device', '/copy')
         with mock.patch.object(main.shutil, 'which', return_value='rt'), mock.patch(
             'sys.argv', ['build']
-        ), mock.patch.object(main, 'copy_to', side_effect=full), redirect_stderr(
+        ), mock.patch.object(main, 'copy_sources_to', side_effect=full), redirect_stderr(
             io.StringIO()
         ) as err:
             self.assertEqual(main.main(), 1)

@@ -2,19 +2,25 @@
 
 from __future__ import annotations
 
+import hashlib
 import os
+import subprocess
+import tracemalloc
+import threading
 import unittest
 from pathlib import Path
 from typing import Any, List, Tuple
+from unittest import mock
 
+from crashfs_tools.checker.running import cache as outcome_cache
 from crashfs_tools.checker.running.cache import (
     OutcomeCache,
     StateKeys,
     open_folder,
-    read_checked,
-    write_checked,
+    read_values,
+    write_values,
 )
-from crashfs_tools.checker.running.command_files import command_name, opened_paths
+from crashfs_tools.checker.running.command_files import command_name, digest_of_file, opened_paths
 from crashfs_tools.checker.running.runner import BAD, GOOD, NO_ANSWER, Outcome
 from crashfs_tools.common.command import Refused
 
@@ -44,18 +50,18 @@ def judged():
 class Files(InFolder):
     def test_only_whole_files_of_ours_are_read(self) -> None:
         path = self.path('c.json')
-        write_checked(path, {'a': ['good', '', '']})
-        self.assertEqual(read_checked(path), {'a': ['good', '', '']})
+        write_values(path, {'a': ['good', '', '']})
+        self.assertEqual(read_values(path), {'a': ['good', '', '']})
         whole = Path(path).read_bytes()
         for damaged in (whole[:-1], whole.replace(b'good', b'goad'), b'', b'x', whole[1:]):
             Path(path).write_bytes(damaged)
-            self.assertEqual(read_checked(path), {}, damaged)
+            self.assertEqual(read_values(path), {}, damaged)
         Path(path).write_bytes(whole)
         os.chmod(path, 0o666)
-        self.assertEqual(read_checked(path), {})
+        self.assertEqual(read_values(path), {})
         os.chmod(path, 0o600)
         os.symlink(path, self.path('link.json'))
-        self.assertEqual(read_checked(self.path('link.json')), {})
+        self.assertEqual(read_values(self.path('link.json')), {})
 
     def test_a_folder_that_others_may_write_is_refused(self) -> None:
         self.assertTrue(os.path.isdir(open_folder(self.path('new', 'cache'))))
@@ -63,6 +69,8 @@ class Files(InFolder):
         os.chmod(self.path('open'), 0o777)
         with self.assertRaisesRegex(Refused, 'others may write it'):
             open_folder(self.path('open'))
+        with self.assertRaisesRegex(Refused, '^--cache .*/file is no directory$'):
+            open_folder(self.write('file', ''))
 
     def test_what_gave_no_answer_or_was_not_confirmed_is_not_kept(self) -> None:
         cache = OutcomeCache(self.folder, 'n')
@@ -71,18 +79,54 @@ class Files(InFolder):
         cache.drop('d')
         cache.save()
         later = OutcomeCache(self.folder, 'n')
-        self.assertEqual(later.outcome('a'), Outcome(GOOD, 'cause', 'output'))
-        self.assertEqual(later.outcome('b'), Outcome(BAD, 'cause', 'output'))
-        self.assertEqual([later.outcome(key) for key in 'cd'], [None, None])
+        self.assertEqual(later.look_up('a'), Outcome(GOOD, 'cause', 'output'))
+        self.assertEqual(later.look_up('b'), Outcome(BAD, 'cause', 'output'))
+        self.assertEqual([later.look_up(key) for key in 'cd'], [None, None])
+
+    def test_checks_at_the_same_time_keep_each_other_s_outcomes(self) -> None:
+        good = Outcome(GOOD, '', '')
+        for key in 'xyz':
+            one = OutcomeCache(self.folder, 'n')
+            one.add(key, good)
+            one.save()
+        first, second = OutcomeCache(self.folder, 'n'), OutcomeCache(self.folder, 'n')
+        first.add('a', good)
+        first.drop('x')
+        second.add('b', good)
+        second.drop('a')  # The other one saves it meanwhile.
+        second.look_up('y')
+        first.save()
+        second.save()
+        self.assertEqual(list(OutcomeCache(self.folder, 'n').earlier_outcomes), ['z', 'b', 'y'])
+
+    def test_the_outcomes_that_were_used_last_are_kept(self) -> None:
+        for keys in ('ab', 'cd', 'ae'):
+            cache = OutcomeCache(self.folder, 'n')
+            for key in keys:
+                cache.add(key, Outcome(GOOD, '', ''))
+            with mock.patch.object(outcome_cache, 'MOST_OUTCOMES', 3):
+                cache.save()
+        self.assertEqual(list(OutcomeCache(self.folder, 'n').earlier_outcomes), ['d', 'a', 'e'])
+
+    def test_a_check_waits_while_another_one_saves(self) -> None:
+        cache = OutcomeCache(self.folder, 'n')
+        cache.add('a', Outcome(GOOD, '', ''))
+        saving = threading.Thread(target=cache.save)
+        with outcome_cache.folder_lock(self.folder):
+            saving.start()
+            saving.join(0.3)
+            self.assertFalse(os.path.exists(cache.path))
+        saving.join()
+        self.assertEqual(list(OutcomeCache(self.folder, 'n').earlier_outcomes), ['a'])
 
     def test_each_outcome_of_an_earlier_check_counts_once(self) -> None:
         cache = OutcomeCache(self.folder, 'n')
         cache.add('a', Outcome(GOOD, '', ''))
-        self.assertEqual((cache.outcome('a'), cache.hits), (Outcome(GOOD, '', ''), 0))
+        self.assertEqual((cache.look_up('a'), cache.hits), (Outcome(GOOD, '', ''), 0))
         cache.save()
         later = OutcomeCache(self.folder, 'n')
         for _ in range(2):
-            later.outcome('a')
+            later.look_up('a')
         self.assertEqual(later.hits, 1)
 
     def test_the_source_of_a_compiled_module_is_looked_at(self) -> None:
@@ -96,8 +140,24 @@ class Files(InFolder):
             '13 execve("/bin/true", ["true", "a"], 0x7ffe /* 3 vars */) = 0\n',
         ]
         found = list(opened_paths(lines))
-        wanted = [source, '/nowhere', '/bin/true']
-        self.assertEqual(found, list(map(os.path.realpath, wanted)))
+        self.assertEqual(found, [source, '/nowhere', '/bin/true'])
+
+    def test_a_large_file_is_not_in_memory_as_a_whole(self) -> None:
+        os.truncate(self.write('large', 'x'), 1 << 26)
+        wanted = hashlib.sha256(b'x' + bytes((1 << 26) - 1)).hexdigest()
+        tracemalloc.start()
+        self.addCleanup(tracemalloc.stop)
+        self.assertEqual(digest_of_file(self.path('large')), wanted)
+        self.assertLess(tracemalloc.get_traced_memory()[1], 1 << 23)
+        self.assertEqual(digest_of_file(self.path('none')), '')
+
+    @needs_strace
+    def test_a_file_is_found_whatever_its_name(self) -> None:
+        files = [self.write(name, 'x') for name in ('jür"g\\n.sh', 'a\n\t1', '\udcff2')]
+        words = ['strace', '-qq', '-e', 'trace=openat', '-o', self.path('log'), 'cat', *files]
+        subprocess.run(words, stdout=subprocess.DEVNULL, check=True)
+        found = list(opened_paths(self.read('log').splitlines()))
+        self.assertEqual(found[-3:], files)
 
 
 @needs_strace
@@ -129,6 +189,59 @@ class Cuts(InFolder):
         first = self.name(started + '12 +++ exited with 1 +++\n')
         self.write('recover', 'changed')
         self.assertNotEqual(self.name(started + '12 +++ exited with 1 +++\n'), first)
+
+    def test_a_link_that_leads_to_another_file_makes_another_command(self) -> None:
+        for number in (1, 2):
+            self.write(f'recover-{number}', str(number))
+        os.symlink('recover-1', self.path('recover'))
+        started = f'12 execve("{self.path("recover")}", ["recover"], 0x7ffe /* 3 vars */) = 0\n'
+        looked = f'12 openat(AT_FDCWD, "{self.path("to-none")}", O_RDONLY) = -1 ENOENT (No such)\n'
+        os.symlink('none', self.path('to-none'))
+        lines = started + looked + '12 +++ exited with 1 +++\n'
+        names = {self.name(lines)}
+        os.unlink(self.path('recover'))
+        os.symlink('recover-2', self.path('recover'))
+        names.add(self.name(lines))
+        self.write('none', 'it is there')
+        names.add(self.name(lines))
+        self.assertEqual(len(names), 3)
+
+    def test_an_interpreter_of_a_script_counts_though_no_call_opens_it(self) -> None:
+        inner = self.write('inner', 'a program')
+        outer = self.write('outer', f'#! {inner} -x\n')
+        script = self.write('recover', f'#!{outer}\n')
+        lines = f'12 execve("{script}", ["recover"], 0x7ffe /* 3 vars */) = 0\n'
+        names = {self.name(lines + '12 +++ exited with 1 +++\n')}
+        for changed, text in ((inner, 'another'), (outer, f'#!{inner}\n')):
+            Path(changed).write_text(text, 'utf-8')
+            names.add(self.name(lines + '12 +++ exited with 1 +++\n'))
+        self.assertEqual(len(names), 3)
+
+    def test_a_relative_path_counts_outside_the_state(self) -> None:
+        os.mkdir(self.path('a "b>'))
+        library = self.write('a "b>/lib.sh', 'x=1')
+        script = f'cd \'{self.path("a")} "b>\'; . ./lib.sh'
+
+        def run(words: List[str], state: int) -> Tuple[Outcome, str]:
+            subprocess.run(words, check=True, cwd=self.folder)
+            return Outcome(GOOD), self.path('state')
+
+        names = set()
+        for text in ('x=1', 'x=2'):
+            Path(library).write_text(text, 'utf-8')
+            names.add(command_name(self.folder, ['sh', '-c', script], [0], run))
+        self.assertEqual(len(names), 2)
+
+    def test_files_of_the_state_are_left_out_by_whatever_path(self) -> None:
+        os.mkdir(self.path('state'))
+        script = self.write('recover', '')
+        os.symlink('state', self.path('link'))
+        started = f'12 execve("{script}", ["recover"], 0x7ffe /* 3 vars */) = 0\n'
+        ended = '12 +++ exited with 1 +++\n'
+        first = self.name(started + ended)
+        os.unlink(next(iter(Path(self.folder).glob('command-*'))))
+        opened = f'12 openat(AT_FDCWD, "{self.path("link", "file")}", O_RDONLY) = 3\n'
+        self.assertEqual(self.name(started + opened + ended), first)
 
 
 class Keys(Listing):

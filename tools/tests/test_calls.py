@@ -36,7 +36,7 @@ def recording_of_log(path: str, top: str) -> Recording:
     files = LiveFiles(recording, StartConditions(top, 0o022, 'u', 'u'), start, lambda _: False)
     with open(path, encoding='ascii') as lines:
         log = read_log(lines, LogFilter(os.fsencode(top)))
-    Translator(files, log).run()
+    Translator(files, log).translate_log()
     return recording
 
 

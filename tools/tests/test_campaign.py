@@ -11,8 +11,8 @@ from unittest import mock
 from crashfs_tools.campaign import main
 from crashfs_tools.campaign.book import Book, KnownFailure, failure_key, read_book
 from crashfs_tools.campaign.options import read_options
-from crashfs_tools.campaign.sessions import Checked, Failure
-from crashfs_tools.campaign.shrinking import Shrinking, says_in
+from crashfs_tools.campaign.sessions import SessionVerdict, Failure, Sessions
+from crashfs_tools.campaign.shrinking import Shrinking, acknowledged_places
 from crashfs_tools.common.command import Refused
 from crashfs_tools.common.trace import Header, Say, Trace
 
@@ -51,7 +51,7 @@ class Keys(unittest.TestCase):
 
     def test_only_acknowledged_lines_are_counted(self):
         lines = ['{"op":"say","text":"x"}', '{"op":"note","text":"\\"say\\""}', '{"op":"sync"}']
-        self.assertEqual(says_in([*lines, lines[0]]), [0, 3])
+        self.assertEqual(acknowledged_places([*lines, lines[0]]), [0, 3])
 
 
 class Books(InFolder):
@@ -81,14 +81,111 @@ class Cuts(InFolder):
         self.assertTrue(any('\u2028' in line for line in lines))
         self.write('session.trace', ''.join(f'{line}\n' for line in lines))
         sessions = mock.Mock(trace=Path(self.path('session.trace')), folder=Path(self.folder))
-        sessions.check.return_value = Checked()
+        sessions.check.return_value = SessionVerdict()
         shrinking = Shrinking(sessions, 'none')
         self.assertEqual(shrinking.says, list(range(1, len(lines))))
         for count in range(1, len(lines)):
-            shrinking.failure_of(count)
+            shrinking.find_failure(count)
             self.assertEqual(self.read('cut.trace').split('\n'), [*lines[: count + 1], ''])
-        shrinking.failure_of(0)
+        shrinking.find_failure(0)
         self.assertEqual(self.read('cut.trace'), self.read('session.trace'))
+
+
+# An entry of a report.
+ENTRY = {'cause': 'lost: a', 'text': [], 'example': 3, 'different': 1}
+
+
+class Reports(InFolder):
+    """What counts of a check's report."""
+
+    def checked(self, status, *groups, outcomes=()):
+        """What a check finds that ends with a status, and writes a report with these entries, and
+        these outcomes of states."""
+        windows = [{'outcomes': {str(state): one for state, one in enumerate(outcomes)}}]
+        fields = {'crashfs-check': 4, 'windows': windows, 'groups': groups}
+
+        def write_report(tool, words, variables):
+            self.write('report.json', json.dumps(fields))
+            return status, 'it ended\n'
+
+        sessions = Sessions(mock.Mock(check=[], recovery=['true']), Path(self.folder))
+        with mock.patch.object(sessions, 'run_tool', write_report):
+            return sessions.check(Path(self.path('trace')))
+
+    def test_accepted_failures_are_none(self):
+        known = {**ENTRY, 'accepted': {'cause': 'lost: a'}}
+        other = {**ENTRY, 'cause': 'lost: b', 'accepted': None}
+        self.assertEqual(self.checked(0, known), SessionVerdict())
+        self.assertEqual(
+            self.checked(1, known, other), SessionVerdict([Failure('lost: b', [], 3, 1)])
+        )
+
+    def test_states_without_an_answer_are_no_failures(self):
+        slow = {**ENTRY, 'cause': 'it is slow'}
+        outcomes = [['bad', 'lost: a', ''], ['no answer', 'it is slow', ''], ['good', '', '']]
+        fault = 'crashfs-check: status 3: no answer: it is slow'
+        found = [Failure('lost: a', [], 3, 1)]
+        self.assertEqual(self.checked(3, slow, outcomes=outcomes[1:]), SessionVerdict([], fault))
+        self.assertEqual(
+            self.checked(3, ENTRY, slow, outcomes=outcomes), SessionVerdict(found, fault)
+        )
+        both = [*outcomes, ['no answer', 'lost: a', '']]
+        self.assertEqual(self.checked(3, ENTRY, slow, outcomes=both), SessionVerdict(found, fault))
+
+    def test_a_failure_that_is_no_entry_leaves_the_session_without_a_verdict(self):
+        self.assertEqual(self.checked(0), SessionVerdict())
+        fault = 'crashfs-check: status 1: what fails is no entry of its report, as of --nested'
+        self.assertEqual(self.checked(1), SessionVerdict([], fault))
+        self.assertEqual(self.checked(3), SessionVerdict([], 'crashfs-check: status 3: it ended'))
+
+
+class Stores(InFolder):
+    """Campaigns of sessions that aren't run: only their folders are made."""
+
+    def by_other_user(self, action):
+        """What a function returns in the test's folder, by another user than root, who may write
+        everything; or how it fails."""
+        reading, writing = os.pipe()
+        child = os.fork()
+        if child == 0:
+            try:
+                os.chdir(self.folder)
+                if os.geteuid() == 0:
+                    os.chown('.', 65534, 65534)
+                    os.setgroups([])
+                    os.setresgid(65534, 65534, 65534)
+                    os.setresuid(65534, 65534, 65534)
+                os.write(writing, json.dumps(action()).encode())
+            except Exception as error:
+                os.write(writing, json.dumps(repr(error)).encode())
+            finally:
+                os._exit(0)
+        os.close(writing)
+        with open(reading, encoding='utf-8') as shown:
+            text = shown.read()
+        os.waitpid(child, 0)
+        return json.loads(text)
+
+    def test_a_store_that_may_not_be_written_is_replaced_and_removed(self):
+        stores = []
+
+        def leave_closed_folder(*_):
+            stores.append(os.listdir('found/work/store'))
+            os.mkdir('found/work/store/closed')
+            Path('found/work/store/closed/file').touch()
+            os.chmod('found/work/store/closed', 0o500)
+            return 3, ''
+
+        def run():
+            words = ['--seeds', '1-2', 'found', '--', 'true', '--', 'true']
+            campaign = main.Campaign(read_options(words))
+            # The book is saved by its whole path, which may be closed to other users.
+            with mock.patch.object(Book, 'save'):
+                with mock.patch.object(campaign.sessions, 'run_tool', leave_closed_folder):
+                    campaign.run()
+            return stores, os.listdir('found')
+
+        self.assertEqual(self.by_other_user(run), [[[], []], []])
 
 
 @unittest.skipIf(shutil.which('strace') is None, 'strace not installed')
@@ -160,7 +257,7 @@ class Campaigns(InFolder):
         trace = Path(self.write('session.trace', '{"op":"say","text":"x"}\n'))
         campaign.sessions = mock.Mock(trace=trace, folder=Path(self.folder))
         campaign.sessions.record.return_value = ''
-        campaign.sessions.check.return_value = Checked([*entries, other])
+        campaign.sessions.check.return_value = SessionVerdict([*entries, other])
         with mock.patch.object(main, 'print_line') as printed:
             campaign.try_seed(1)
             campaign.try_seed(2)
@@ -174,12 +271,12 @@ class Campaigns(InFolder):
         words = [self.path('found'), '--', self.session, '--', self.recover]
         campaign = main.Campaign(read_options(words))
         campaign.sessions = mock.Mock(
-            **{'record.return_value': '', 'check.return_value': Checked()}
+            **{'record.return_value': '', 'check.return_value': SessionVerdict()}
         )
         with mock.patch.object(main, 'print_line') as printed:
             campaign.try_seed(1)
             self.assertEqual(printed.call_args_list, [])
-            campaign.printed -= main.EVERY_SECONDS
+            campaign.print_time -= main.EVERY_SECONDS
             campaign.try_seed(2)
             campaign.try_seed(3)
         line = 'seed 2: 2 sessions: none fails'
@@ -198,9 +295,10 @@ class Campaigns(InFolder):
         self.assertNotIn('\033', page)
 
     def test_a_store_that_is_right_has_the_status_of_none(self):
-        ran = self.campaign('--seeds', '1-2')
+        ran = self.campaign('--seeds', '1-2', '--html', self.path('found', 'index.html'))
         self.assertEqual((ran.returncode, ran.stderr), (0, ''))
         self.assertEqual(ran.stdout, '2 sessions: none fails\n')
+        self.assertIn('<h1>Campaign of 2 sessions', self.read('found/index.html'))
 
     def test_a_campaign_of_other_commands_is_not_continued(self):
         self.campaign('--seeds', '1-1')
@@ -229,6 +327,18 @@ class Campaigns(InFolder):
         self.assertIn(f'\n  {LOST}\n', out)
         self.assertFalse(os.path.exists(self.path('found', 'work')))
 
+    def test_a_session_that_ignores_a_stop_is_killed(self):
+        script = f"#!/bin/sh\ntrap '' TERM\necho > {self.path('begun')}\nsleep {2 * PATIENCE}\n"
+        session = self.write('stubborn.sh', script, 0o755)
+        words = (self.path('found'), '--', session, '--', self.recover)
+        child = self.start('crashfs-campaign', *words)
+        self.wait_until(lambda: os.path.exists(self.path('begun')), 'a session')
+        child.send_signal(signal.SIGTERM)
+        out, err = child.communicate(timeout=PATIENCE)
+        self.assertEqual((child.returncode, out), (143, '0 sessions: none fails\n'))
+        self.assertEqual(err, 'crashfs-campaign: stopped by SIGTERM\n')
+        self.assertFalse(os.path.exists(self.path('found', 'work')))
+
     def test_a_campaign_with_a_time_limit_has_no_last_seed(self):
         commands = ['found', '--', 'true', '--', 'true']
         self.assertEqual(read_options(commands).seeds, (1, 100))
@@ -251,11 +361,13 @@ class Campaigns(InFolder):
 
     def test_results_that_are_no_directory_are_refused(self):
         self.write('file', '')
+        self.write('\033[1mfile', '')
         os.symlink('nowhere', self.path('link'))
         os.makedirs(self.path('old', 'campaign.json'))
         book = os.path.join('old', 'campaign.json')
         for name, text in (
             ('file', 'file is no directory'),
+            ('\033[1mfile', '\\x1b[1mfile is no directory'),
             ('link', 'link is no directory'),
             ('file/below', 'file/below: Not a directory'),
             ('old', f'{book}: Is a directory'),

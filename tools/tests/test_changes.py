@@ -8,9 +8,9 @@ from typing import List
 
 from crashfs_tools.checker.findings.read_trees import entries_of
 from crashfs_tools.checker.states.changes import Changes, read_changes
-from crashfs_tools.common.archive import ArchiveFault, members
+from crashfs_tools.common.archive import ArchiveFault, read_members
 from crashfs_tools.common.entry import Entries, Entry
-from crashfs_tools.reading import plan_of, read
+from crashfs_tools.reading import make_plan, parse_trace
 from crashfs_tools.recorder.directory import scan_directory
 
 from .support import EXAMPLES, FAKE, InFolder, needed
@@ -42,7 +42,7 @@ class Trees:
     """The trees of the states with holes, by the second reading."""
 
     def __init__(self, text: str) -> None:
-        self.plan = plan_of(read(text.encode()), holes=True)
+        self.plan = make_plan(parse_trace(text.encode()), has_holes=True)
 
     def __len__(self) -> int:
         return len(self.plan.states)
@@ -63,7 +63,7 @@ class OfTheSecondReading(InFolder):
         return subprocess.run(words, stdout=subprocess.PIPE, check=True).stdout
 
     def changes(self, trace: str, states: str) -> List[Changes]:
-        return list(read_changes(members(BytesIO(self.archive(trace, states)))))
+        return list(read_changes(read_members(BytesIO(self.archive(trace, states)))))
 
     def assert_changes(self, trace: str, text: str, step: int = 1) -> None:
         trees = Trees(text)
@@ -74,7 +74,7 @@ class OfTheSecondReading(InFolder):
             self.assertEqual([one.number for one in found], list(range(first, last + 1)))
             for one in found:
                 tree = trees.tree(one.number)
-                self.assertEqual(one.applied(start), tree, one.number)
+                self.assertEqual(one.apply_to(start), tree, one.number)
                 # no more than that
                 self.assertEqual({path for path in start if path not in tree}, set(one.missing))
                 self.assertEqual(
@@ -95,7 +95,7 @@ class OfTheSecondReading(InFolder):
         words = [self.program, 'tar', '--trace', whole, '--holes', '--states', '3']
         data = subprocess.run(words, stdout=subprocess.PIPE, check=True).stdout
         with self.assertRaisesRegex(ArchiveFault, 'before a list of what is missing'):
-            list(read_changes(members(BytesIO(data))))
+            list(read_changes(read_members(BytesIO(data))))
 
     def test_names_that_are_no_numbers_are_refused(self) -> None:
         entry = Entry('u', 'u', 0o644, b'')

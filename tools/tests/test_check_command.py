@@ -247,6 +247,10 @@ class Checks(InStore):
             ran = self.run_tool('crashfs-check', *words, *more, '--merge', *files)
             self.assertEqual(ran.returncode, 2)
             self.assertIn(told, ran.stderr)
+        cut = self.write('cut', f'#!/bin/sh\ntest $1 != tar || exit 5\nexec {FAKE} "$@"\n', 0o755)
+        ran = self.run_tool('crashfs-check', '--crashfs', cut, self.bad, '--merge', *files)
+        self.assertEqual((ran.returncode, ran.stdout), (2, ''))
+        self.assertTrue(ran.stderr.startswith('crashfs-check: crashfs tar ended with status 5'))
         self.assert_nothing_left()
 
     def test_causes_are_last_lines_signals_and_statuses(self):

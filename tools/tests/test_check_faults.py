@@ -259,7 +259,7 @@ class OfItsOwn(InStore):
             with mock.patch.dict(os.environ, CRASHFS_TRACEBACK=variable), mock.patch(
                 'sys.stderr', os.fdopen(write, 'w')
             ) as stream, mock.patch.multiple(
-                main, run_command=fails, stop_by_exception=mock.Mock()
+                main, run_command=fails, raise_on_stop_signals=mock.Mock()
             ):
                 self.assertEqual(main.main(['t.trace', '--', 'true']), 3)
                 stream.close()

@@ -11,7 +11,7 @@ from unittest import mock
 from crashfs_tools.checker.running.read_results import read_json
 from crashfs_tools.checker.states.layout import lay_out
 from crashfs_tools.checker.states.rewriting import rewrite
-from crashfs_tools.common.command import Refused, write_whole
+from crashfs_tools.common.command import Refused, write_whole_file
 from crashfs_tools.common.entry import Entry
 from crashfs_tools.recorder.log_stream import create_log
 
@@ -31,6 +31,14 @@ class Outputs(InStore):
                 self.assertEqual(ran.stderr, f'crashfs-check: {option} {path}: that is TRACE\n')
         self.assertEqual(self.read('own.trace'), before)
 
+    def test_known_failures_are_never_written_over(self):
+        self.write('known.json', '[]')
+        words = '--accept', 'known.json', '--json', './known.json'
+        ran = self.check('--prefixes', *words, self.good, command=['true'])
+        line = 'crashfs-check: --json ./known.json: that is --accept\n'
+        self.assertEqual((ran.returncode, ran.stdout, ran.stderr), (2, '', line))
+        self.assertEqual(self.read('known.json'), '[]')
+
     def test_two_reports_are_not_written_to_one_file(self):
         for one, other in [('r', './r'), ('-', '-')]:
             ran = self.check('--json', one, '--html', other, self.good, command=['true'])
@@ -40,9 +48,15 @@ class Outputs(InStore):
         self.assertEqual(ran.returncode, 0)
 
     def test_a_file_on_standard_output_is_alone_there(self):
+        os.mkdir(self.path('-'))
         ran = self.check('--prefixes', '--json', '-', self.good, command=['true'])
         self.assertEqual(json.loads(ran.stdout)['stopped'], '')
         self.assertIn(': none fails\n', ran.stderr)
+
+    def test_a_file_may_have_the_longest_name(self):
+        for name in ('a' * 255, '\N{HIRAGANA LETTER A}' * 85, '\N{GRINNING FACE}' * 63):
+            write_whole_file(self.path(name), ['whole'])
+            self.assertEqual(self.read(name), 'whole')
 
     def test_a_state_is_laid_out_in_an_absolute_directory(self):
         with mock.patch.object(self, 'temporary', '.'):
@@ -61,8 +75,12 @@ class Outputs(InStore):
             for _ in range(2):
                 self.check('--prefixes', *words, trace, command=['true'])
                 self.assertEqual({self.mode(name) for name in names}, {wanted})
-            self.run_tool('crashfs-check', '--merge', 'r.json', '--html', 'merged.html')
+            merge = '--merge', 'r.json', '--html', 'merged.html'
+            self.run_tool('crashfs-check', *merge)
             self.assertEqual(self.mode('merged.html'), wanted)
+            os.chmod(trace, 0o600)
+            self.assertEqual(self.run_tool('crashfs-check', '--prefixes', trace, *merge).stderr, '')
+            self.assertEqual(self.mode('merged.html'), 0o600)
             for name in (*names, 'merged.html'):
                 os.unlink(self.path(name))
 
@@ -85,11 +103,11 @@ class Outputs(InStore):
             path = self.path('shared', name)
             os.chown(path, 65534, 65534, follow_symlinks=False)
             with self.assertRaisesRegex(OSError, 'another user made it'):
-                write_whole(path, ['x'])
+                write_whole_file(path, ['x'])
             with self.assertRaisesRegex(OSError, 'another user made it'):
                 create_log(path)
         os.chown(self.path('shared', 'link'), 0, 0, follow_symlinks=False)
-        write_whole(self.path('shared', 'link'), ['mine'])
+        write_whole_file(self.path('shared', 'link'), ['mine'])
         self.assertEqual(self.read('victim'), 'mine')
 
 

@@ -1,10 +1,12 @@
 """How a check begins and ends: COMMAND first where nothing is lost, early ends, and going on."""
 
+import errno
 import io
 import json
 import os
 import signal
 import unittest
+from unittest import mock
 
 from crashfs_tools.checker.running import progress
 from crashfs_tools.checker.running.read_results import read_json
@@ -332,6 +334,30 @@ class Progress(unittest.TestCase):
             stream.getvalue().splitlines(),
             ['crashfs-check: part 2: 10 of 10 tried, 0 fail, about 0 seconds left'],
         )
+
+    def test_the_line_of_the_last_moment_is_removed_however_soon_it_comes(self):
+        stream, now = io.StringIO(), [0.0]
+        with mock.patch.object(stream, 'isatty', lambda: True):
+            shown = progress.Progress(stream, lambda: now[0])
+        for done, now[0] in ((1, 1.0), (2, 1.01), (3, 1.02)):
+            shown.show_moments(done, 3)
+        self.assertEqual(stream.getvalue(), '\rdisks: 1 of 3 moments\033[K\r\033[K')
+
+    def test_what_can_not_be_shown_does_not_end_a_check(self):
+        stream, now = io.StringIO(), [0.0]
+        full = mock.Mock(side_effect=OSError(errno.ENOSPC, 'No space left on device'))
+        for is_terminal in (True, False):
+            with mock.patch.object(stream, 'isatty', lambda: is_terminal):
+                shown = progress.Progress(stream, lambda: now[0])
+            shown.begin_part(3)
+            with mock.patch.object(stream, 'flush', full):
+                for _ in range(2):
+                    now[0] += 60
+                    shown.add_outcome(Outcome(GOOD))
+                shown.end_part()
+                shown.show_moments(1, 1)
+            self.assertEqual((shown.tried_count, full.call_count), (2, 1))
+            full.reset_mock()
 
     def test_durations_are_rounded(self):
         for seconds, shown in [

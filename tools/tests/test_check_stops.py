@@ -18,9 +18,9 @@ from .test_check_command import InStore
 EARLY = """\
 import os, signal, sys, tempfile
 from unittest import mock
-from crashfs_tools.common.guard import Guard, Stopped, stop_by_exception
+from crashfs_tools.common.guard import Guard, Stopped, raise_on_stop_signals
 
-stop_by_exception()
+raise_on_stop_signals()
 command = os.getpid()
 call = os.fork if sys.argv[1] == 'os.fork' else tempfile.mkdtemp
 

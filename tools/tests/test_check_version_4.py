@@ -4,11 +4,12 @@ import os
 import unittest
 
 from crashfs_tools.checker.findings.swaps import has_replaced_bytes
-from crashfs_tools.checker.findings.tree_diff import different_lines
+from crashfs_tools.checker.findings.tree_diff import difference_lines
 from crashfs_tools.checker.states.steps import Session
 from crashfs_tools.common.entry import Entry
+from crashfs_tools.common.program import Crashfs
 from crashfs_tools.common.sparse import SparseBytes, first_difference
-from crashfs_tools.reading import read
+from crashfs_tools.reading import parse_trace
 from crashfs_tools.reading.order import Order
 
 from .support import FAKE, InFolder, needs_strace
@@ -81,6 +82,17 @@ class Checks(InFolder):
         self.assertIn('two/f f 644 6 \n', whole)
         self.assertNotIn('tmp', whole)
 
+    def test_a_program_is_asked_for_large_files_in_pieces_if_it_has_them(self):
+        trace = self.write('t', STORE.replace('300000000', '1000000').replace('299999999', '9'))
+        for refused, kind in (('--none', SparseBytes), ('--help', bytes)):
+            script = f'#!/bin/sh\ntest "$2" = {refused} && exit 2\n{FAKE} "$@"\n'
+            path = self.write('program', script, 0o755)
+            program = Crashfs(path).program_for_version(4)
+            data = program.tree_of_state(trace, 0)['/big'].data
+            self.assertIs(type(data), kind)
+            self.assertEqual(data, SparseBytes(1_000_000, [(7, b'x')]))
+            self.assertFalse(Crashfs(path).program_for_version(3).has_sparse)
+
     def test_a_session_in_windows_has_the_same_prefixes(self):
         whole, cut = self.listing('whole', '--prefixes'), self.listing(
             'cut', '--prefixes', '--window', '5'
@@ -150,9 +162,9 @@ class Differences(unittest.TestCase):
             (link, file, '/p is a symbolic link to a, in the good state a file'),
             (folder, link, '/p is a directory, in the good state a symbolic link to a'),
         ):
-            self.assertEqual(list(different_lines({'/p': one}, {'/p': good})), [line])
+            self.assertEqual(list(difference_lines({'/p': one}, {'/p': good})), [line])
         self.assertEqual(
-            list(different_lines({'/p': link}, {})),
+            list(difference_lines({'/p': link}, {})),
             ['/p (a symbolic link to a) is only in the failing state'],
         )
 
@@ -193,7 +205,7 @@ class Pieces(unittest.TestCase):
                 ]
                 text = ''.join(f'{line}\n' for line in lines)
                 session = Session('it', text)
-                whole = Order(read(text.encode())).count
+                whole = Order(parse_trace(text.encode())).count
                 self.assertGreater(len(session.steps), 2)
                 self.assertEqual(session.places[-1], whole, (version, size))
 

@@ -25,8 +25,6 @@ READ_TOO = (
     *('list', 'picks', 'fault', 'no', 'states', 'firsts', 'state', 'pick', 'tar'),
     *('profiles', 'below'),
 )
-# Options that only the second reading has.
-READ_ONLY = {'--profile'}
 # Areas whose traces have a version that the program may not take yet.
 VERSIONS = {'version_4': 4}
 ANY_LINES = '...'
@@ -58,8 +56,7 @@ class Cases(InFolder):
 
     def checks_of(self, case: Case) -> Iterator[Check]:
         for check in case.checks:
-            words = check.name.split()
-            if READ_ONLY.isdisjoint(words) if self.program is not None else words[0] in READ_TOO:
+            if self.program is not None or check.name.split()[0] in READ_TOO:
                 yield check
 
     def takes(self, version: int) -> bool:

@@ -5,6 +5,7 @@ from __future__ import annotations
 import contextlib
 import errno
 import os
+import shutil
 import signal
 import subprocess
 import sys
@@ -18,17 +19,18 @@ from unittest import mock
 from crashfs_tools.checker.findings.read_trees import entries_of
 from crashfs_tools.common.command import Refused
 from crashfs_tools.common.entry import Entries, Entry
+from crashfs_tools.common.limits import RECORDS
 from crashfs_tools.common.sparse import SparseBytes
-from crashfs_tools.common.trace import KINDS, Trace
-from crashfs_tools.common.trace_read import read_trace, replay
+from crashfs_tools.common.trace import KINDS, Start, Trace
+from crashfs_tools.common.trace_read import read_trace, tree_at_end
 from crashfs_tools.disks import crashing, disk, filesystems, images, own_mounts
 from crashfs_tools.disks.crashing import CrashMaker
-from crashfs_tools.disks.levers import Lever
-from crashfs_tools.disks.moments import Moment, moments
+from crashfs_tools.disks.flushes import FlushKind
+from crashfs_tools.disks.moments import Moment, crash_moments
 from crashfs_tools.disks.owners import FIRST_UNKNOWN, Owners
 from crashfs_tools.disks.pool import DiskPool
 from crashfs_tools.disks.replay import CALLS, Replay, lay_out_start
-from crashfs_tools.reading import plan_of, read
+from crashfs_tools.reading import make_plan, parse_trace
 from crashfs_tools.reading.order import Order
 
 from .support import EXAMPLES, TOOLS, InFolder
@@ -72,7 +74,7 @@ def without_root(tree: Entries) -> Dict[str, Entry]:
 
 def allowed_trees(path: Path) -> Set[str]:
     """The digests of the trees of all allowed sets, as the second reading has them."""
-    plan = plan_of(read(path.read_bytes()))
+    plan = make_plan(parse_trace(path.read_bytes()))
     order = Order(plan.reading)
     found = set()
     for places in range(1 << order.count):
@@ -90,7 +92,7 @@ def mounted_below(folder: str) -> List[str]:
 class Moments(unittest.TestCase):
     def test_lines_that_follow_an_operation_are_joined_with_it(self) -> None:
         trace = read_trace(ALL_KINDS)
-        found = list(moments(trace.operations, 5))
+        found = list(crash_moments(trace.operations, range(5, 26)))
         self.assertEqual(found[0], Moment(0, 0, 0, 0))
         self.assertEqual(found[2], Moment(2, 0, 1, 6))
         self.assertEqual(found[3], Moment(4, 1, 3, 8))
@@ -108,7 +110,7 @@ class StartImages(InFolder):
         with mock.patch.multiple(
             images,
             make_image=make_image,
-            mounted=lambda *_: contextlib.nullcontext(self.folder),
+            mounted_image=lambda *_: contextlib.nullcontext(self.folder),
             dig_holes=mock.Mock(),
         ), mock.patch.object(crashing, 'lay_out_start') as lay_out:
             lay_out.side_effect = OSError(errno.ENOSPC, 'full')
@@ -131,7 +133,7 @@ class InReplays(InFolder):
             lay_out_start(trace, self.path('d'), owners)
             with Replay(self.path('d'), owners) as made:
                 for operation in trace.operations:
-                    made.do(operation)
+                    made.make_operation(operation)
                 self.assertEqual(made.unsynced, {})
         finally:
             os.umask(umask)
@@ -142,7 +144,7 @@ class Replays(InReplays):
     @unittest.skipIf(os.geteuid() != 0, 'it gives files to others')
     def test_the_tree_at_the_end_is_that_of_the_trace(self) -> None:
         tree = self.replayed(read_trace(ALL_KINDS))
-        wanted = replay(ALL_KINDS.splitlines()).entries
+        wanted = tree_at_end(ALL_KINDS.splitlines()).entries
         self.assertEqual(without_root(tree), without_root(wanted))
         self.assertEqual(set(tree), {'/', '/d', '/d/f', '/g', '/e', '/e/b', '/c'})
 
@@ -155,7 +157,7 @@ class Replays(InReplays):
 
     def test_a_number_with_two_names_is_read_as_the_first(self) -> None:
         owners = Owners(read_trace(ALL_KINDS))
-        with mock.patch.object(owners.users, 'first_number', return_value=0):
+        with mock.patch.object(owners.users, 'new_number', return_value=0):
             self.assertEqual(owners.users.number('toor'), 0)
         self.assertEqual(owners.users.name(0), 'root')
 
@@ -196,19 +198,40 @@ class Digests(unittest.TestCase):
             self.assertEqual(len(digests), 1, size)
 
 
-class Names(unittest.TestCase):
+class Names(InFolder):
     def test_file_systems_are_named(self) -> None:
         self.assertEqual(
-            [it.name for it in filesystems.filesystems_of(['xfs', 'ext4', 'xfs'])], ['xfs', 'ext4']
+            [it.name for it in filesystems.filesystems_by_names(['xfs', 'ext4', 'xfs'])],
+            ['xfs', 'ext4'],
         )
         with self.assertRaisesRegex(Refused, '--disks zfs: no such file system'):
-            filesystems.filesystems_of(['ext4', 'zfs'])
+            filesystems.filesystems_by_names(['ext4', 'zfs'])
 
     def test_images_have_room_for_what_is_written(self) -> None:
-        self.assertEqual(filesystems.bytes_written(read_trace(ALL_KINDS)), 3 * 8192 + 11)
+        bytes_of_all = filesystems.most_session_bytes(read_trace(ALL_KINDS))
+        self.assertEqual(bytes_of_all, 3 * 8192 + 11 + 8 * 4096)
         ext4 = filesystems.KNOWN['ext4']
-        self.assertEqual(filesystems.with_room(ext4, 8 << 20), ext4)
-        self.assertEqual(filesystems.with_room(ext4, (12 << 20) + 1).size, ext4.size + (9 << 20))
+        self.assertEqual(filesystems.with_room_for(ext4, 8 << 20), ext4)
+        self.assertEqual(
+            filesystems.with_room_for(ext4, (12 << 20) + 1).size, ext4.size + (9 << 20)
+        )
+
+    @unittest.skipIf(shutil.which('dumpe2fs') is None, 'dumpe2fs is not installed')
+    def test_images_have_room_for_every_directory(self) -> None:
+        trace = read_trace(ALL_KINDS)
+        for count in (5_000, RECORDS - 1):
+            trace.start = [Start(f'/{number}', 'u', 'u', 0o755, None) for number in range(count)]
+            size = filesystems.most_session_bytes(trace)
+            for name in ('ext4', 'ext2'):
+                with self.subTest(name, count=count):
+                    image = self.path(f'{name}-{count}')
+                    filesystem = filesystems.KNOWN[name]
+                    images.make_image(filesystems.with_room_for(filesystem, size), image)
+                    words = ['dumpe2fs', '-h', image]
+                    head = subprocess.run(words, capture_output=True, text=True, check=True).stdout
+                    for line in ('Free inodes', 'Free blocks'):
+                        free = int(head.partition(f'{line}:')[2].split()[0])
+                        self.assertGreater(free, count + 1_000, line)
 
     def test_what_is_lacking_is_named(self) -> None:
         none = filesystems.FileSystem('none', 'mkfs.nothing', (), 0)
@@ -243,20 +266,20 @@ class OwnMounts(InFolder):
             return str(refused.exception)
 
         said = "a process can't have mounts of its own: / is not a mount point"
-        self.assertEqual(self.in_chroot(own_mounts.missing_own_mounts), said)
+        self.assertEqual(self.in_chroot(own_mounts.own_mounts_fault), said)
         self.assertEqual(self.in_chroot(required), f'--disks: {said}')
 
     def test_what_the_system_forbids_is_named(self) -> None:
         with mock.patch.object(own_mounts, 'unshare_mounts', return_value=errno.EPERM):
             said = "a process can't have mounts of its own: Operation not permitted"
-            self.assertEqual(own_mounts.missing_own_mounts(), said)
+            self.assertEqual(own_mounts.own_mounts_fault(), said)
             with self.assertRaisesRegex(Refused, f'--disks: {said}'):
                 own_mounts.use_own_mounts()
 
-    @unittest.skipIf(own_mounts.missing_own_mounts() is not None, 'no mounts of its own here')
+    @unittest.skipIf(own_mounts.own_mounts_fault() is not None, 'no mounts of its own here')
     def test_trying_leaves_the_mounts_of_this_process(self) -> None:
         before = os.readlink('/proc/self/ns/mnt')
-        self.assertIsNone(own_mounts.missing_own_mounts())
+        self.assertIsNone(own_mounts.own_mounts_fault())
         self.assertEqual(os.readlink('/proc/self/ns/mnt'), before)
 
 
@@ -277,8 +300,8 @@ class Disks(InFolder):
         self.assertEqual(seen, [], 'mounts of workers are seen by others')
         self.assertGreater(len(found), 5)
         self.assertLessEqual({one.digest for one in found}, allowed_trees(CONFIG))
-        levers = Counter(crash.lever for one in found for crash in one.crashes)
-        self.assertEqual(levers[Lever.NOTHING], len(made.tasks()))
+        flush_kinds = Counter(crash.flush_kind for one in found for crash in one.crashes)
+        self.assertEqual(flush_kinds[FlushKind.NOTHING], len(made.tasks()))
         self.assertEqual(mounted_below(self.path('')), [])
 
     def test_syncs_of_data_make_what_they_cover_durable(self) -> None:
@@ -294,13 +317,13 @@ class Disks(InFolder):
                     [filesystems.KNOWN['ext4']],
                     read_trace('\n'.join(lines)),
                     tempfile.mkdtemp(dir=self.path('')),
-                    [Lever.NOTHING],
+                    [FlushKind.NOTHING],
                 )
                 last = [
                     one.tree['/d/f'].data
                     for one in crashes.disks(1, lambda *_: None)['ext4']
                     for crash in one.crashes
-                    if crash.moment.most == 1
+                    if crash.moment.most_says == 1
                 ]
                 self.assertEqual(last[0] == b'hello'.ljust(4096, b'\0') + b'x' * 4096, bool(sync))
 

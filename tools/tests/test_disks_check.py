@@ -9,6 +9,7 @@ import shutil
 import signal
 import unittest
 from pathlib import Path
+from types import SimpleNamespace
 from typing import Any, Dict, List, Set, Tuple
 from unittest import mock
 from xml.etree import ElementTree
@@ -21,12 +22,12 @@ from crashfs_tools.checker.findings.sightings import (
     DiskFailure,
     Explanation,
     Sightings,
-    sentence,
+    sighting_text,
 )
 from crashfs_tools.checker.options import Options, Shard
 from crashfs_tools.checker.report.json_report import json_pieces
 from crashfs_tools.checker.report.junit import junit_lines
-from crashfs_tools.checker.report.page import page
+from crashfs_tools.checker.report.page import page_pieces
 from crashfs_tools.checker.report.report import CheckReport
 from crashfs_tools.checker.running.progress import Progress
 from crashfs_tools.checker.running.results import Head
@@ -35,7 +36,7 @@ from crashfs_tools.common.entry import Entry
 from crashfs_tools.common.guard import Guard, TimeUp
 from crashfs_tools.disks import filesystems
 from crashfs_tools.disks.disk import Crash
-from crashfs_tools.disks.levers import Lever
+from crashfs_tools.disks.flushes import FlushKind
 from crashfs_tools.disks.moments import Moment
 
 from .support import EXAMPLES, FAKE
@@ -43,9 +44,9 @@ from .test_check_command import InStore
 from .test_disks import loops, mounted_below, needs_disks
 
 CONFIG = EXAMPLES / 'config'
-FIRST = Crash(Moment(6, 0, 1, 9), Lever.NOTHING)
-LATER = Crash(Moment(7, 1, 1, 10), Lever.NOTHING)
-LOG = Crash(Moment(2, 0, 0, 3), Lever.LOG)
+FIRST = Crash(Moment(6, 0, 1, 9), FlushKind.NOTHING)
+LATER = Crash(Moment(7, 1, 1, 10), FlushKind.NOTHING)
+LOG = Crash(Moment(2, 0, 0, 3), FlushKind.LOG)
 HEADER = '{"trace":3,"profile":"blocks","block":4096,"owner":"root","group":"root","mode":"755"}\n'
 # A truncate to a length inside a page: ext4 writes the page before the size.
 TRUNCATED = (
@@ -60,23 +61,27 @@ NO_ZEROS = 'tr -d "\\0" < f | cmp -s - f || { echo "zeros: in the middle"; exit 
 class Sentences(unittest.TestCase):
     def test_where_states_were_seen_and_where_not(self) -> None:
         names = ['ext4', 'xfs', 'btrfs']
-        self.assertEqual(sentence(names, {}), 'not seen on ext4, xfs or btrfs')
+        self.assertEqual(sighting_text(names, {}), 'not seen on ext4, xfs or btrfs')
         self.assertEqual(
-            sentence(names, {'xfs': LOG, 'ext4': FIRST}),
+            sighting_text(names, {'xfs': LOG, 'ext4': FIRST}),
             'seen on ext4 (after line 9, nothing more written) and xfs (after line 3, the log '
             'written); not on btrfs',
         )
         self.assertEqual(
-            sentence(['ext4'], {'ext4': Crash(Moment(0, 0, 0, 0), Lever.NOTHING)}),
+            sighting_text(['ext4'], {'ext4': Crash(Moment(0, 0, 0, 0), FlushKind.NOTHING)}),
             'seen on ext4 (before the first operation, nothing more written)',
         )
 
     def test_the_crash_that_says_most_is_named(self) -> None:
         found = Sightings(['ext4', 'xfs'])
-        found.states = {3: {'ext4': LOG}, 4: {'ext4': LATER, 'xfs': LOG}, 5: {'ext4': FIRST}}
-        self.assertEqual(found.of_states([3, 4, 5]), {'ext4': FIRST, 'xfs': LOG})
-        self.assertEqual(found.of_states([3]), {'ext4': LOG})
-        self.assertEqual(found.of_states([9]), {})
+        found.crashes_by_state = {
+            3: {'ext4': LOG},
+            4: {'ext4': LATER, 'xfs': LOG},
+            5: {'ext4': FIRST},
+        }
+        self.assertEqual(found.crashes_of_states([3, 4, 5]), {'ext4': FIRST, 'xfs': LOG})
+        self.assertEqual(found.crashes_of_states([3]), {'ext4': LOG})
+        self.assertEqual(found.crashes_of_states([9]), {})
 
     def test_a_tree_on_a_disk_is_shown_with_its_first_paths(self) -> None:
         tree = {f'/{number:02}': Entry('u', 'g', 0o644, bytearray(3)) for number in range(14)}
@@ -101,6 +106,26 @@ class Explanations(unittest.TestCase):
         )
         whole = disk_search.search_trees(trace, {('none', 0)})
         self.assertEqual(whole.explanation(('none', 0)), Explanation(OUTSIDE))
+
+
+class Lines(unittest.TestCase):
+    def test_a_moment_has_its_line_s_number_though_lines_are_empty(self) -> None:
+        trace = str(EXAMPLES / 'store.trace')
+        numbers = [
+            number
+            for number, line in enumerate(Path(trace).read_text('utf-8').split('\n'), 1)
+            if '"op"' in line and '"say"' not in line
+        ]
+        options = SimpleNamespace(disks=['ext4'], jobs=1)
+        trials: Any = SimpleNamespace(
+            options=options,
+            planned=SimpleNamespace(trace=trace),
+            workplace=SimpleNamespace(progress=Progress(None)),
+            new_checker=mock.Mock(),
+        )
+        with mock.patch.object(disk_search.DiskSearch, 'run', lambda _, pool, __: pool):
+            pool: Any = disk_search.search_disks(trials, {})
+        self.assertEqual([one.moment.line for one in pool.tasks()], [0, *numbers])
 
 
 class NotDone(InStore):
@@ -139,6 +164,15 @@ class NotDone(InStore):
             lines, _ = self.checked(0, disks=['ext4'], **more)
             self.assertIn(f'  --disks: not tried ({why})', lines)
 
+    def test_a_merged_report_says_it_once_as_its_shards_do(self) -> None:
+        for part in (1, 2):
+            self.checked(0, disks=['ext4'], shard=Shard(part, 2), json='-')
+            os.rename(self.path('r.json'), self.path(f'{part}.json'))
+        ran = self.run_tool('crashfs-check', '--json', 'all.json', '--merge', '1.json', '2.json')
+        line = '--disks: not tried (only a part of the states is)'
+        self.assertEqual((ran.returncode, ran.stdout.count(f'  {line}\n')), (1, 1), ran.stdout)
+        self.assertEqual(json.loads(self.read('all.json'))['not_done'], [line])
+
     def test_of_what_was_not_asked_for_nothing_is_said(self) -> None:
         lines, fields = self.checked(0, fail_fast=True)
         self.assertFalse([line for line in lines if line.startswith('  --')])
@@ -169,9 +203,9 @@ class Reports(unittest.TestCase):
         self.assertEqual(case[1].text, 'out')
 
     def test_the_page_has_the_counts_and_the_failure(self) -> None:
-        self.assertNotIn('On real disks', ''.join(page(self.report)))
+        self.assertNotIn('On real disks', ''.join(page_pieces(self.report)))
         self.report.sightings = self.seen
-        text = ''.join(page(self.report))
+        text = ''.join(page_pieces(self.report))
         self.assertIn('<li>ext4: 1,200 crashes, 9 different trees: 1 fails</li>', text)
         self.assertIn('<h3>zeros: &lt;1&gt;</h3>\n<p>outside the model</p>', text)
         self.assertIn('<li>no crash state has this tree</li>', text)

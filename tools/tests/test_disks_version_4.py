@@ -7,9 +7,9 @@ import subprocess
 import tempfile
 import unittest
 
-from crashfs_tools.common.trace_read import read_trace, replay
+from crashfs_tools.common.trace_read import read_trace, tree_at_end
 from crashfs_tools.disks import disk, filesystems
-from crashfs_tools.disks.levers import Lever
+from crashfs_tools.disks.flushes import FlushKind
 from crashfs_tools.disks.pool import DiskPool
 
 from .support import InFolder
@@ -42,7 +42,7 @@ class Replays(InReplays):
     @unittest.skipIf(os.geteuid() != 0, 'it gives files to others')
     def test_symbolic_links_holes_and_renamed_directories_are_made_again(self) -> None:
         tree = self.replayed(read_trace(NEW_KINDS))
-        wanted = replay(NEW_KINDS.splitlines()).entries
+        wanted = tree_at_end(NEW_KINDS.splitlines()).entries
         self.assertEqual(without_root(tree), without_root(wanted))
         self.assertEqual(set(tree), {'/', '/d', '/d/f', '/d/g', '/l'})
         self.assertEqual(disk.digest_of(tree), disk.digest_of(wanted))
@@ -72,7 +72,7 @@ class Replays(InReplays):
                 subprocess.run(['rm', '-r', self.path('d')], check=True)
 
     def test_images_need_no_room_for_holes(self) -> None:
-        self.assertLess(filesystems.bytes_written(read_trace(NEW_KINDS)), 100_000)
+        self.assertLess(filesystems.most_session_bytes(read_trace(NEW_KINDS)), 100_000)
 
 
 @needs_disks
@@ -93,11 +93,11 @@ class Disks(InFolder):
             text = lines + ['{"op":"fsync","path":"/"}'] * synced + ['{"op":"say","text":"1"}']
             folder = tempfile.mkdtemp(dir=self.path(''))
             kind = [filesystems.KNOWN['ext4']]
-            pool = DiskPool(kind, read_trace('\n'.join(text)), folder, [Lever.NOTHING])
+            pool = DiskPool(kind, read_trace('\n'.join(text)), folder, [FlushKind.NOTHING])
             (tree,) = [
                 one.tree
                 for one in pool.disks(1, lambda *_: None)['ext4']
-                if any(crash.moment.most == 1 for crash in one.crashes)
+                if any(crash.moment.most_says == 1 for crash in one.crashes)
             ]
             self.assertEqual(tree['/f'].data, b'HELLO')
             self.assertEqual(tree['/l'].link, 'f' if synced else '/etc')

@@ -7,8 +7,8 @@ import unittest
 from itertools import product
 from typing import Dict, List, Tuple
 
-from crashfs_tools.reading import StateList, ReadingFault, Reading, plan_of, read
-from crashfs_tools.reading.classes import Classes
+from crashfs_tools.reading import StateList, ReadingFault, Reading, make_plan, parse_trace
+from crashfs_tools.reading.classes import SetClasses
 from crashfs_tools.reading.every import count_sets, drawn_sets, every_set
 from crashfs_tools.reading.order import Order
 from crashfs_tools.reading.place_sets import places_of
@@ -58,7 +58,7 @@ OLD_AND_NEW = [
 
 
 def reading_of(lines: List[str]) -> Reading:
-    return read(('\n'.join(lines) + '\n').encode())
+    return parse_trace(('\n'.join(lines) + '\n').encode())
 
 
 def every(lines: List[str]) -> List[str]:
@@ -97,12 +97,12 @@ class Rows(unittest.TestCase):
         )
         self.assertEqual(every(RENAMED), wanted.split(' '))
         self.assertEqual(count(RENAMED), 17)
-        plan = plan_of(reading_of(RENAMED), holes=True)
+        plan = make_plan(reading_of(RENAMED), has_holes=True)
         self.assertEqual(len(plan.states), 12)
 
     def test_sets_that_the_plan_has_not(self) -> None:
         self.assertEqual(count(ACKNOWLEDGED), 28)
-        plan = plan_of(reading_of(ACKNOWLEDGED), holes=True)
+        plan = make_plan(reading_of(ACKNOWLEDGED), has_holes=True)
         self.assertEqual(len(plan.states), 21)
         members = every(ACKNOWLEDGED)
         listed = {text_of(it) for _, it in plan.states}
@@ -142,7 +142,7 @@ class Rows(unittest.TestCase):
         self.assertEqual(
             list(map(text_of, every_set(Order(reading)))), ['[]', '[1]', '[0]', '[0,1]']
         )
-        both = Order(reading).also_under(reading, 'ordered')
+        both = Order(reading).restricted_to(reading, 'ordered')
         self.assertEqual(list(map(text_of, every_set(both))), ['[]', '[0]', '[0,1]'])
 
     def test_what_one_of_two_profiles_makes_durable_is_not_pending(self) -> None:
@@ -150,10 +150,10 @@ class Rows(unittest.TestCase):
         sync = '{"op":"fsync","path":"/b"}'
         header = HEADERS['blocks'].replace('"trace":3', '"trace":4')
         reading = reading_of([header, creat('/a'), creat('/b'), sync, creat('/c')])
-        blocks, both = Order(reading), Order(reading).also_under(reading, 'journal')
+        blocks, both = Order(reading), Order(reading).restricted_to(reading, 'journal')
         self.assertEqual(both.profile, 'journal')
-        self.assertEqual((blocks.pending(2), both.pending(2)), (0b11, 0))
-        self.assertEqual((blocks.pending(3), both.pending(3)), (0b111, 0b100))
+        self.assertEqual((blocks.pending_set(2), both.pending_set(2)), (0b11, 0))
+        self.assertEqual((blocks.pending_set(3), both.pending_set(3)), (0b111, 0b100))
 
 
 class AllSets(unittest.TestCase):
@@ -161,7 +161,7 @@ class AllSets(unittest.TestCase):
         for version, seed in product((1, 2, 3), range(40)):
             text = RandomTrace(version, seed).text().encode()
             try:
-                reading = read(text)
+                reading = parse_trace(text)
             except ReadingFault:
                 continue
             order = Order(reading)
@@ -171,16 +171,16 @@ class AllSets(unittest.TestCase):
                 sets = by_hand(reading, order)
                 self.assertEqual(list(every_set(order)), sets)
                 self.assertEqual(count_sets(order), len(sets))
-                plan = plan_of(reading)
-                found = list(Classes(reading, order).different())
+                plan = make_plan(reading)
+                found = list(SetClasses(reading, order).different_sets())
                 self.assertEqual(found, first_of_each(plan, sets))
 
     def test_the_different_states_of_sqlite(self) -> None:
-        reading = read((EXAMPLES / 'sqlite' / 'full.trace').read_bytes())
+        reading = parse_trace((EXAMPLES / 'sqlite' / 'full.trace').read_bytes())
         order = Order(reading)
         self.assertEqual(count_sets(order), 5302)
-        plan = plan_of(reading)
-        found = list(Classes(reading, order).different())
+        plan = make_plan(reading)
+        found = list(SetClasses(reading, order).different_sets())
         self.assertEqual(len(found), 565)
         self.assertEqual(found, first_of_each(plan, list(every_set(order))))
 
@@ -191,8 +191,8 @@ class AllSets(unittest.TestCase):
         ]
         reading = reading_of(lines)
         order = Order(reading)
-        found = list(Classes(reading, order).different())
-        self.assertEqual(found, first_of_each(plan_of(reading), list(every_set(order))))
+        found = list(SetClasses(reading, order).different_sets())
+        self.assertEqual(found, first_of_each(make_plan(reading), list(every_set(order))))
 
     def test_a_file_without_a_name_can_get_one_again(self) -> None:
         link = '{"op":"link","from":"%s","to":"%s"}'
@@ -202,8 +202,8 @@ class AllSets(unittest.TestCase):
         ]
         reading = reading_of(lines)
         order = Order(reading)
-        found = list(Classes(reading, order).different())
-        self.assertEqual(found, first_of_each(plan_of(reading), list(every_set(order))))
+        found = list(SetClasses(reading, order).different_sets())
+        self.assertEqual(found, first_of_each(make_plan(reading), list(every_set(order))))
         self.assertTrue(any(places & 0b110111 == 0b110101 for places in found), found)
 
     def test_each_set_has_the_same_chance(self) -> None:

@@ -11,7 +11,7 @@ import unittest
 from typing import Dict, List
 
 from gating.suite import QUICK
-from gating.verdict import COUNTS, counts_of_gate, verdict_of
+from gating.verdict import COUNTS, counts_of_passed_gate, parse_verdict
 
 from .support import PATIENCE, TOOLS, InFolder, needed
 
@@ -130,7 +130,7 @@ class Gate(InFolder):
         ran = self.run_gate(**fakes)
         lines = ran.stdout.splitlines()
         self.assertEqual((ran.returncode, lines[-1]), (status, counts), ran.stdout)
-        self.assertEqual(verdict_of(ran.stdout).status, str(status))
+        self.assertEqual(parse_verdict(ran.stdout).status, str(status))
         self.assert_nothing_left()
         return lines
 
@@ -201,7 +201,7 @@ class Gate(InFolder):
 
 class Verdicts(unittest.TestCase):
     def test_a_gate_of_this_commit_and_toolchain_that_passed_is_taken(self) -> None:
-        self.assertEqual(counts_of_gate(log_with(), 'c0ffee', KIT), '9 passed, 0 failed')
+        self.assertEqual(counts_of_passed_gate(log_with(), 'c0ffee', KIT), '9 passed, 0 failed')
 
     def test_any_other_gate_is_refused(self) -> None:
         for changed, reason in (
@@ -214,15 +214,15 @@ class Verdicts(unittest.TestCase):
             ({'counts': '0 passed, 0 failed'}, 'it counts 0 passed, 0 failed'),
         ):
             with self.assertRaises(ValueError) as caught:
-                counts_of_gate(log_with(**changed), 'c0ffee', KIT)
+                counts_of_passed_gate(log_with(**changed), 'c0ffee', KIT)
             self.assertEqual(str(caught.exception), f'the gate is not of this release: {reason}')
 
     def test_lines_that_are_not_the_last_are_not_read(self) -> None:
         whole = log_with()
         for log in ('', '9 passed, 0 failed\n', whole + 'more\n', whole.replace('tree', 'trees')):
             with self.assertRaises(ValueError):
-                verdict_of(log)
-        self.assertEqual(verdict_of('9 passed, 9 failed\n' + whole).counts, '9 passed, 0 failed')
+                parse_verdict(log)
+        self.assertEqual(parse_verdict('9 passed, 9 failed\n' + whole).counts, '9 passed, 0 failed')
         self.assertIsNone(COUNTS.fullmatch('9 passed, 0 failed (cs_names alone)'))
 
 

@@ -3,7 +3,7 @@ are judged here, by their trees, without a command."""
 
 import unittest
 
-from crashfs_tools.checker.findings.advice import Tried
+from crashfs_tools.checker.findings.advice import AdviceResult
 from crashfs_tools.checker.findings.groups import Findings
 from crashfs_tools.checker.report.report import CheckReport
 from crashfs_tools.checker.report.json_report import group_fields
@@ -11,8 +11,9 @@ from crashfs_tools.checker.report.text import WIDTH, ReportText
 from crashfs_tools.checker.running.results import Head, Results
 from crashfs_tools.checker.running.runner import BAD, GOOD, Outcome
 from crashfs_tools.checker.states.read_plan import read_plan
-from crashfs_tools.common.trace_lines import TraceLine, read_text, with_syncs, without_numbers
-from crashfs_tools.reading import plan_of, read
+from crashfs_tools.common.trace_lines import TraceLine, parse_trace_text
+from crashfs_tools.common.trace_lines import with_syncs, without_numbers
+from crashfs_tools.reading import make_plan, parse_trace
 from crashfs_tools.reading.listing import json_listing
 from crashfs_tools.reading.plan import different_places, file_sets, lost_sets
 
@@ -46,18 +47,17 @@ def rename(old, new):
 
 def plan_text(text, picks=True):
     """The plan with all families, as `list` prints it."""
-    reading = read(text.encode())
-    plain = plan_of(reading)
+    plain = make_plan(reading := parse_trace(text.encode()))
     families = (lost_sets(plain), file_sets(plain)) if picks else ()
     sets = [one for family in families for one in different_places(family)]
-    return ''.join(json_listing(plan_of(reading, True, sets)))
+    return ''.join(json_listing(make_plan(reading, True, sets)))
 
 
 def findings_of(text, cause):
     """What is found if a state's cause is what a function makes of its files and its lines."""
-    head = Head('a.trace', '', [], lines=read_text(text).operations)
+    head = Head('a.trace', '', [], lines=parse_trace_text(text).operations)
     results = Results(read_plan(plan_text(text)))
-    trees = plan_of(read(text.encode())).trees
+    trees = make_plan(parse_trace(text.encode())).trees
     for state in results.plan.states:
         files = {
             path: item.content
@@ -91,7 +91,7 @@ class Plans(unittest.TestCase):
                 continue  # Its last line has a fault.
             plan = read_plan(listed)
             third = text.replace('"trace":1', '"trace":3,"profile":"blocks","block":4096', 1)
-            wanted = plan_of(read(third.encode()), True)
+            wanted = make_plan(parse_trace(third.encode()), True)
             found = [(plan.state_text(one), plan.kept[one.number]) for one in plan.states]
             self.assertEqual(found, wanted.states)
             fewer += len(plan.states) < len(plan.listed)
@@ -105,7 +105,7 @@ class Plans(unittest.TestCase):
             except Exception:
                 continue
             plan = read_plan(listed)
-            wanted = plan_of(read(text.encode()), True).states
+            wanted = make_plan(parse_trace(text.encode()), True).states
             self.assertEqual(
                 [plan.kept[one.number] for one in plan.listed][: len(wanted)],
                 [places for _, places in wanted],
@@ -132,7 +132,7 @@ class Groups(unittest.TestCase):
 
         report = report_of(text, cause)
         self.assertEqual(
-            {(group.cause, group.lost.text) for group in report.groups()},
+            {(group.cause, group.lost_line.text) for group in report.groups()},
             {('lost: a is old', 'rename /a+ to /a'), ('lost: b is old', 'rename /b+ to /b')},
         )
 
@@ -166,13 +166,13 @@ class Groups(unittest.TestCase):
             return f'lost: segment {gone[0]}' if gone else ''
 
         (group,) = report_of(text, cause).groups()
-        self.assertEqual((group.lost.path, group.places[0]), ('/seg0', (2, 3)))
+        self.assertEqual((group.lost_line.path, group.line_pairs[0]), ('/seg0', (2, 3)))
         advice = group.advice
         self.assertEqual(advice.syncs, {2: '/', 4: '/', 6: '/'})
         self.assertEqual(
             advice.remedy,
             'the directory / is never synced: fsync it between them '
-            f'(and at {len(group.places) - 1} more places)',
+            f'(and at {len(group.line_pairs) - 1} more places)',
         )
 
     def test_the_example_lacks_the_least_and_what_else_it_lacks_is_reported(self):
@@ -261,7 +261,7 @@ class Groups(unittest.TestCase):
         text = HEADER + line('creat', '/old') + line('fsync', '/') + line('unlink', '/old')
         text += line('fsync', '/') + line('say', text='it is removed')
         report = report_of(text, lambda files, says: '' if says or '/old' in files else 'lost: old')
-        span = [group.advice.lines() for group in report.groups() if group.is_span]
+        span = [group.advice.lines() for group in report.groups() if group.has_no_loss]
         self.assertTrue(
             all(
                 one[1].endswith('does COMMAND accept it?')
@@ -321,42 +321,42 @@ class Texts(unittest.TestCase):
     def test_what_was_tried_is_reported(self):
         for tried, syncs, wanted in [
             (
-                Tried(0, 52, 0),
+                AdviceResult(0, 52, 0),
                 1,
                 'with that sync 0 of these 52 states are left, and no other ' 'fails',
             ),
             (
-                Tried(0, 52, 2),
+                AdviceResult(0, 52, 2),
                 3,
                 'with those 3 syncs 0 of these 52 states are left, and 2 ' 'others fail',
             ),
             (
-                Tried(0, 52, 2, 2),
+                AdviceResult(0, 52, 2, 2),
                 1,
                 'with that sync 0 of these 52 states are left, and 2 ' 'others still fail',
             ),
             (
-                Tried(0, 52, 1, 1),
+                AdviceResult(0, 52, 1, 1),
                 1,
                 'with that sync 0 of these 52 states are left, and 1 ' 'other still fails',
             ),
             (
-                Tried(5, 52, 0),
+                AdviceResult(5, 52, 0),
                 1,
                 'with that sync 5 of these 52 states are left, so one sync is '
                 'not enough, and no other fails',
             ),
-            (Tried(0, 1, 0), 1, 'with that sync this state is not left, and no other fails'),
+            (AdviceResult(0, 1, 0), 1, 'with that sync this state is not left, and no other fails'),
         ]:
             self.assertEqual(tried.text(syncs), 'tried: ' + wanted)
 
     def test_the_sync_of_a_name_is_one_of_the_directory_that_it_is_in_then(self):
-        lines = read_text(
+        lines = parse_trace_text(
             line('rename', **{'from': '/d/t', 'to': '/f'})
             + line('unlink', '/d/x')
             + line('chmod', '/d', mode='700')
         ).operations
-        self.assertEqual([one.synced_by for one in lines.values()], ['/', '/d', '/d'])
+        self.assertEqual([one.path_to_fsync for one in lines.values()], ['/', '/d', '/d'])
 
     def test_syncs_come_after_their_lines(self):
         text = HEADER + line('creat', '/f') + line('creat', '/g') + line('say', text='a')

@@ -11,7 +11,7 @@ from contextlib import redirect_stderr
 from unittest import mock
 
 from crashfs_tools.common import descendants
-from crashfs_tools.common.guard import STOPS, Guard, TimeUp, stops_blocked, time_limit
+from crashfs_tools.common.guard import STOPS, Guard, TimeUp, stop_signals_blocked, time_limit
 
 from .support import TOOLS, InFolder
 
@@ -29,10 +29,10 @@ with Guard('guard', may_reap=False) as guard:
 class Guards(InFolder):
     def error_of(self, folder):
         """The error of a guard in a folder; no child is left of it, and no signal blocked."""
-        children = descendants.children()
+        children = descendants.child_processes()
         with self.assertRaises(OSError) as raised, Guard('guard', folder, may_reap=False):
             pass
-        self.assertEqual(descendants.children(), children)
+        self.assertEqual(descendants.child_processes(), children)
         self.assertFalse(set(STOPS) & signal.pthread_sigmask(signal.SIG_BLOCK, []))
         self.assert_nothing_left()
         return raised.exception
@@ -71,7 +71,7 @@ class Limits(unittest.TestCase):
         """In the hooks of a fork, such as those of logging, an exception would be lost."""
         steps = []
         with self.assertRaises(TimeUp), time_limit(0.01):
-            with stops_blocked():
+            with stop_signals_blocked():
                 time.sleep(0.1)
                 steps.append('forked')
             steps.append('after')

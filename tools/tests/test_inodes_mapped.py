@@ -12,8 +12,8 @@ from crashfs_tools.recorder import stopped_processes
 class InodesMapped(unittest.TestCase):
     def test_a_process_that_hides_its_maps_is_not_one_that_has_none(self) -> None:
         """Root may read the maps of each process, so the refusal is a stand-in's."""
-        self.assertTrue(stopped_processes.inodes_mapped(os.getpid()))
+        self.assertTrue(stopped_processes.read_mapped_inodes(os.getpid()))
         with mock.patch('builtins.open', side_effect=PermissionError):
-            self.assertIsNone(stopped_processes.inodes_mapped(os.getpid()))
+            self.assertIsNone(stopped_processes.read_mapped_inodes(os.getpid()))
         with mock.patch('builtins.open', side_effect=FileNotFoundError):
-            self.assertEqual(stopped_processes.inodes_mapped(os.getpid()), set())
+            self.assertEqual(stopped_processes.read_mapped_inodes(os.getpid()), set())

@@ -2,6 +2,7 @@
 
 from __future__ import annotations
 
+import functools
 import json
 import os
 import re
@@ -14,6 +15,7 @@ from typing import List
 
 import crashfs_tools
 from crashfs_tools import Refused, check, record, states
+from crashfs_tools.checker.running.recoveries import cause_text
 
 from . import data_store
 from .data_store import recovery, session, synced_session
@@ -128,6 +130,24 @@ class Checks(InterfaceCase):
         bad = next(one for one in report.states if one.result == 'bad')
         self.assertIn('Traceback', bad.output)
 
+    def test_a_cause_is_neither_a_note_nor_a_line_of_a_script(self) -> None:
+        noted = ValueError('no table\nat all')
+        vars(noted)['__notes__'] = ['of the second store']
+        self.assertEqual(cause_text(noted), 'ValueError: no table')
+        wrong = SyntaxError('invalid syntax', ('script', 1, 1, 'x y', 1, 2))
+        self.assertEqual(cause_text(wrong), 'SyntaxError: invalid syntax')
+        self.assertEqual(cause_text(AssertionError()), 'AssertionError')
+
+    def test_the_number_of_an_exit_has_the_bits_that_a_status_has(self) -> None:
+        for number, result in ((1 << 40, 'good'), (1 << 40 | 7, 'bad')):
+            report = check(
+                STORE,
+                lambda *_: sys.exit(number if '3' == os.environ['CRASHFS_STATE'] else 0),
+                prefixes=True,
+                jobs=1,
+            )
+            self.assertEqual({one.number: one.result for one in report.states}[3], result)
+
     def test_what_a_function_does_is_seen_by_no_later_call(self) -> None:
         seen: List[str] = []
 
@@ -197,6 +217,11 @@ class Checks(InterfaceCase):
                 check(self.path('no.trace'), words)
         with self.assertRaisesRegex(Refused, 'a command'):
             check(STORE, lost_version, nested=1)
+        for option in ('families', 'prefixes', 'quick'):
+            with self.assertRaisesRegex(Refused, 'every goes with no families, prefixes or quick'):
+                check(STORE, ['true'], every=5, **{option: True})
+            with self.assertRaisesRegex(Refused, 'every goes with no families, prefixes or quick'):
+                next(states(STORE, every=5, **{option: True}))
 
 
 class States(InterfaceCase):
@@ -269,12 +294,20 @@ class Records(InterfaceCase):
 
     def test_what_is_missing_is_reported(self) -> None:
         os.mkdir(self.path('store'))
-        recording = record(self.path('store'), ['sh', '-c', 'echo a > a'], self.path('s.trace'))
+        words = ['sh', '-c', 'echo a > a; echo "seen: crashfs-record: b" >&2']
+        recording = record(self.path('store'), words, self.path('s.trace'))
         self.assertFalse(recording.is_complete)
+        self.assertEqual(recording.messages[0], 'seen: crashfs-record: b')
+        self.assertTrue(recording.messages[1].startswith('no line was acknowledged'))
         with self.assertRaisesRegex(Refused, 'nowhere'):
             record(self.path('nowhere'), ['true'], self.path('t.trace'))
-        with self.assertRaisesRegex(Refused, 'no function of a module'):
-            record(self.path('store'), lambda directory, acknowledge: None, self.path('t.trace'))
+        for callable_object in (
+            lambda directory, acknowledge: None,
+            functools.partial(session),
+            self.run_python,
+        ):
+            with self.assertRaisesRegex(Refused, 'no function of a module'):
+                record(self.path('store'), callable_object, self.path('t.trace'))
 
     def test_a_text_is_one_program(self) -> None:
         os.mkdir(self.path('store'))
@@ -284,16 +317,31 @@ class Records(InterfaceCase):
 
     def test_a_function_of_a_script_is_recorded(self) -> None:
         os.mkdir(self.path('store'))
-        self.write('script.py', SCRIPT)
-        ran = self.run_python('script.py')
-        self.assertEqual((ran.stdout, ran.returncode), ('True\n', 0), ran.stderr)
-        self.assertIn('"said"', self.read('s.trace'))
+        for name in ('script.py', 'script'):
+            self.write(name, SCRIPT)
+            ran = self.run_python(name)
+            self.assertEqual((ran.stdout, ran.returncode), ('True\n', 0), ran.stderr)
+            self.assertIn('"said"', self.read('s.trace'))
 
     def test_a_function_without_a_file_is_refused_before_anything_begins(self) -> None:
         os.mkdir(self.path('store'))
         ran = self.run_python('-c', SCRIPT)
         self.assertIn('Refused: session was not read from a file', ran.stderr)
         self.assertFalse(os.path.exists(self.path('s.trace')))
+
+    def test_modules_next_to_it_are_found_from_python_c(self) -> None:
+        """There the first place to look is the current directory, as an empty text."""
+        os.mkdir(self.path('store'))
+        self.write('constants.py', "TEXT = 'said'\n")
+        self.write(
+            'sessions.py',
+            'from constants import TEXT\n'
+            'def session(directory, acknowledge):\n'
+            '    acknowledge(TEXT)\n',
+        )
+        call = "print(record('store', sessions.session, 's.trace').is_complete)"
+        ran = self.run_python('-c', f'from crashfs_tools import record; import sessions; {call}')
+        self.assertEqual((ran.stdout, ran.returncode), ('True\n', 0), ran.stderr)
 
     def run_python(self, *words: str) -> 'subprocess.CompletedProcess[str]':
         path = {**os.environ, 'PYTHONPATH': str(TOOLS)}

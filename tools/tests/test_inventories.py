@@ -4,9 +4,9 @@ import pathlib
 import tempfile
 import unittest
 
-from inventory.command import older_files
-from inventory.pages import BEGIN, END, calls_shown, page_with, table_cell
-from inventory.sources import Word, contracts_in, examples_in, words_in
+from inventory.command import outdated_files
+from inventory.pages import BEGIN, END, calls_text, page_with_part, table_cell
+from inventory.sources import Word, contracts_in, tests_in, words_in
 
 TESTS = '''\
 //! Lists.
@@ -72,7 +72,7 @@ class Inventories(unittest.TestCase):
         return path
 
     def test_a_test_has_the_comment_above_it(self):
-        found = [(it.name, it.sentence) for it in examples_in(self.written(TESTS))]
+        found = [(it.name, it.sentence) for it in tests_in(self.written(TESTS))]
         self.assertEqual(
             found,
             [
@@ -98,19 +98,19 @@ class Inventories(unittest.TestCase):
 
     def test_a_bar_and_many_calls_stay_in_their_cell(self):
         self.assertEqual(table_cell('a || b'), 'a \\|\\| b')
-        self.assertEqual(calls_shown(list('abcdef')), '`a`, `b`, `c`, `d` and 2 more')
+        self.assertEqual(calls_text(list('abcdef')), '`a`, `b`, `c`, `d` and 2 more')
 
     def test_a_part_is_put_between_its_marks_alone(self):
-        page = page_with(f'head\n{BEGIN}\nold\n{END}\ntail\n', 'new')
+        page = page_with_part(f'head\n{BEGIN}\nold\n{END}\ntail\n', 'new')
         self.assertEqual(page, f'head\n{BEGIN}\n\nnew\n\n{END}\ntail\n')
         for text in ('no marks', f'{END} {BEGIN}', f'{BEGIN} {END} not made {BEGIN} {END}'):
             with self.assertRaises(ValueError):
-                page_with(text, 'new')
+                page_with_part(text, 'new')
 
     def test_a_file_that_is_older_than_its_text_is_found(self):
         older, same = self.written('old'), self.written('same')
         missing = older.with_name('missing')
-        found = older_files({older: 'new', same: 'same', missing: ''})
+        found = outdated_files({older: 'new', same: 'same', missing: ''})
         self.assertEqual(found, [older, missing])
 
 

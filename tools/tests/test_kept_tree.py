@@ -12,7 +12,7 @@ from crashfs_tools.checker.running.trials import has_large_trees
 from crashfs_tools.checker.states import kept_tree
 from crashfs_tools.checker.states.kept_tree import KeptTree
 from crashfs_tools.common.entry import Entry
-from crashfs_tools.common.file_bytes import file_bytes
+from crashfs_tools.common.file_bytes import read_file_bytes
 from crashfs_tools.common.sparse import SparseBytes
 
 from .support import FAKE, InFolder
@@ -68,6 +68,8 @@ DEEDS = [
     'mkfifo p',
     'true',
 ]
+if os.geteuid() == 0:
+    DEEDS += ['chown 12345 d/e', 'chgrp 12345 d/e', 'chown 12345 a', 'chown 12345:12345 .']
 STORE = """
 import mmap
 with open('a', 'r+b') as file, mmap.mmap(file.fileno(), 0) as m:
@@ -91,6 +93,7 @@ def listing(directory: str):
                 status.st_mode,
                 status.st_nlink * (data is not None),
                 data,
+                (status.st_uid, status.st_gid),
             )
     return found
 
@@ -194,7 +197,7 @@ class Kept(InFolder):
         kept.note_start()
         changed = {**TREE, 'a': file('new')}
         kept.change_to(changed)
-        kept.started = os.stat(self.path('kept', 'a')).st_ctime_ns
+        kept.command_start = os.stat(self.path('kept', 'a')).st_ctime_ns
         before = self.times()
         time.sleep(kept_tree.TICK_SECONDS)
         kept.change_to(changed)
@@ -257,7 +260,7 @@ class Kept(InFolder):
                     subprocess.run(['sh', '-c', deed], cwd=self.place, check=True)
                     kept.change_to({**tree, 'a': replace(tree['a'], data=data)})
                     with open(self.path('kept', 'a'), 'rb', buffering=0) as stream:
-                        self.assertEqual(file_bytes(stream.fileno()), data)
+                        self.assertEqual(read_file_bytes(stream.fileno()), data)
                         self.assertLess(os.fstat(stream.fileno()).st_blocks, 1_000)
             kept.remove()
 

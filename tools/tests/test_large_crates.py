@@ -7,7 +7,7 @@ import unittest
 from pathlib import Path
 from typing import Set
 
-from inventory.sources import TOP, crate_names, files_of
+from inventory.sources import TOP, crate_names, crate_files
 from linting.crates_page import NOT_OF_THE_PROGRAM
 
 MOST_LINES = 2_000
@@ -22,7 +22,7 @@ def is_of_tests(path: Path) -> bool:
 
 def lines_of_sources(crate: str) -> int:
     """How many lines a crate's `src/` has, without its tests."""
-    files = (path for path in files_of(crate, 'src', '.rt') if not is_of_tests(path))
+    files = (path for path in crate_files(crate, 'src', '.rt') if not is_of_tests(path))
     return sum(len(path.read_text('utf-8').splitlines()) for path in files)
 
 

@@ -57,7 +57,7 @@ class LeftMounts(InStore):
 
     def unmount_all(self):
         table = MountTable()
-        self.assertEqual(table.unmount(table.below(self.folder)), [])
+        self.assertEqual(table.unmount(table.points_below(self.folder)), [])
 
     def leave_mounts(self, trace, *words, where='m', path=None, begin=''):
         script = f'{begin}mkdir -p {where} && mount --bind {self.path("victim")} {where}'
@@ -82,14 +82,14 @@ class LeftMounts(InStore):
                     )
                     self.assertEqual((ran.returncode, ran.stderr), (0, ''), ran.stdout)
                     self.assert_victim_whole()
-                    self.assertEqual(MountTable().below(self.folder), {})
+                    self.assertEqual(MountTable().points_below(self.folder), {})
                     self.assert_nothing_left()
 
     def test_a_state_that_is_shown_leaves_no_mount(self):
         ran = self.leave_mounts(self.good, '--state', '1')
         self.assertEqual(ran.returncode, 0, ran.stderr)
         self.assert_victim_whole()
-        self.assertEqual(MountTable().below(self.folder), {})
+        self.assertEqual(MountTable().points_below(self.folder), {})
 
     def test_a_mount_that_stays_is_named_and_the_state_has_no_answer(self):
         os.mkdir(self.path('bin'))

@@ -1,18 +1,30 @@
 """What COMMAND leaves running is ended before the next state begins, and at the check's end."""
 
+import errno
+import io
 import os
 import signal
 import subprocess
 import sys
 import time
 import unittest
-from contextlib import contextmanager
+from contextlib import contextmanager, redirect_stderr
+from typing import Any, List
 from unittest import mock
 
-from crashfs_tools.checker.running.runner import GOOD, NO_ANSWER
+import crashfs_tools
+from crashfs_tools.checker import main
+from crashfs_tools.checker.checked_trace import CheckedTrace
+from crashfs_tools.checker.options import Options
+from crashfs_tools.checker.running import runner
+from crashfs_tools.checker.running.progress import Progress
+from crashfs_tools.checker.running.runner import GOOD, NO_ANSWER, LeftRunning
+from crashfs_tools.checker.running.trials import Trials
 from crashfs_tools.checker.running.workers import StateWorkers
 from crashfs_tools.checker.states.layout import Layout
 from crashfs_tools.common import descendants
+from crashfs_tools.common.guard import Guard, TimeUp
+from crashfs_tools.common.program import Crashfs
 
 from .support import FAKE, PATIENCE, long_time
 from .test_check_command import InStore, processes
@@ -147,6 +159,46 @@ class Reapers(InRuns):
         self.assertEqual([one.result for one in outcomes.values()], [GOOD] * 5)
         self.assertEqual(processes(word), [])
 
+    def test_a_process_ends_though_nobody_reads_what_it_reports(self):
+        flood = "head -c 70000 /dev/zero | tr '\\0' x; exit 1"
+        workers = StateWorkers(self.checker(flood), OneState(self.path('state')), 1, mock.Mock())
+        own, statuses = os.getpid(), []
+
+        def has_ended():
+            ended, status = os.waitpid(worker.process, os.WNOHANG)
+            statuses.append(status)
+            return ended
+
+        try:
+            # The outcome is longer than the pipe has room for.
+            with mock.patch.object(runner, 'OUTPUT_CHARACTERS', 1 << 17):
+                workers.start_worker([0], {0: 0})
+        finally:
+            if os.getpid() != own:
+                os._exit(7)
+        (worker,) = workers.workers
+        os.close(worker.pipe)
+        try:
+            self.wait_until(has_ended, 'the process has ended')
+        except AssertionError:
+            os.kill(worker.process, signal.SIGKILL)
+            raise
+        self.assertEqual(statuses[-1], 0)
+        os.close(workers.life_writer)
+        os.close(workers.life_pipe)
+
+    def test_an_error_of_a_path_in_bytes_is_reported(self):
+        layout = OneState(self.path('state'))
+        full = OSError(errno.ENOSPC, 'No space left on device', b'/link\xff')
+        with mock.patch.object(layout, 'laid_out', side_effect=full):
+            workers = StateWorkers(self.checker('true'), layout, 1, mock.Mock())
+            with self.assertRaisesRegex(OSError, 'No space left on device') as raised:
+                try:
+                    workers.run({0}, {0: 0})
+                finally:
+                    workers.end(lambda spared: None)
+        self.assertEqual(raised.exception.filename, '/link\udcff')
+
     def test_what_can_not_be_ended_takes_the_answer_of_all_later_states(self):
         word = long_time()
         self.write('runs', '')
@@ -165,18 +217,87 @@ class Reapers(InRuns):
         self.assertEqual(self.read('runs'), '\n')
 
 
+RUN = StateWorkers.run
+
+
+def run_and_stop(workers, *words):
+    """As StateWorkers.run, but the time is up then."""
+    RUN(workers, *words)
+    raise TimeUp
+
+
+class Unkillable(InStore, InRuns):
+    """Kills of COMMAND and of what it leaves have no effect, as of another user's processes."""
+
+    def setUp(self):
+        super().setUp()
+        # Short, so that a check that waits for it fails here and doesn't hang.
+        self.long = f'5.{long_time()[4:]}'
+        self.addCleanup(lambda: [os.kill(one, signal.SIGKILL) for one in processes(self.long)])
+        patches: List[Any] = [
+            mock.patch('crashfs_tools.checker.running.runner.kill_group'),
+            mock.patch.object(descendants, 'kill_with_group'),
+            mock.patch.object(descendants, 'ENDING_SECONDS', 0.3),
+        ]
+        for patched in patches:
+            patched.start()
+            self.addCleanup(patched.stop)
+
+    def test_a_command_that_is_late_and_can_not_be_ended_gives_no_answer(self):
+        outcome = self.run_once(f'exec sleep {self.long}', timeout=0.2)
+        self.assertRegex(outcome.cause, r'^it could not be ended: [0-9]+ \(')
+        self.assertEqual(outcome.result, NO_ANSWER)
+        self.assertTrue(processes(self.long))
+
+    def test_the_check_ends_and_nothing_more_is_run(self):
+        self.write('runs', '')
+        # Without the check's environment: by that the guard could end it.
+        script = f'echo >> {self.path("runs")}; exec env -i sleep {self.long}'
+        with self.assertRaisesRegex(
+            LeftRunning, r'^a process that COMMAND left could not be ended: [0-9]+ \(.*\)$'
+        ):
+            crashfs_tools.check(
+                self.good, ['sh', '-c', script], jobs=1, prefixes=True, unproved=True, timeout=1
+            )
+        self.assertEqual(self.read('runs'), '\n')
+
+    def test_nothing_is_run_later_either_whatever_ended_the_trials(self):
+        self.write('runs', '')
+        script = f'echo >> {self.path("runs")}; exec env -i sleep {self.long}'
+        options = Options(self.good, ['/bin/sh', '-c', script], prefixes=True, timeout=1, jobs=1)
+        with Guard('crashfs-check', may_reap=False) as guard:
+            program = Crashfs.second_reading()
+            trace = CheckedTrace(options, program, guard, Progress(io.StringIO()))
+            (planned,) = trace.all_planned()
+            trials = Trials(trace.workplace, planned)
+            with mock.patch.object(StateWorkers, 'run', run_and_stop):
+                with self.assertRaises(TimeUp):
+                    trials.try_state(planned.plan.listed[0])
+            for _ in range(2):
+                with self.assertRaises(LeftRunning):
+                    trials.try_state(planned.plan.listed[0])
+        self.assertEqual(self.read('runs'), '\n')
+
+    def test_the_command_line_names_what_is_left_and_ends_with_status_3(self):
+        ended = mock.Mock(side_effect=LeftRunning('left: 7'))
+        with mock.patch.multiple(main, run_command=ended, raise_on_stop_signals=mock.Mock()):
+            with redirect_stderr(io.StringIO()) as printed:
+                status = main.main(['--unproved', self.good, '--', 'true'])
+        self.assertEqual((status, printed.getvalue()), (3, 'crashfs-check: left: 7\n'))
+
+
 class Children(unittest.TestCase):
     def test_children_are_found_without_the_kernel_s_lists(self):
         with subprocess.Popen(['sleep', '600']) as child:
             try:
-                self.assertIn(child.pid, descendants.children())
+                self.assertIn(child.pid, descendants.child_processes())
                 self.assertEqual(
-                    descendants.children(), descendants.children_by_parents(os.getpid())
+                    descendants.child_processes(), descendants.children_by_parents(os.getpid())
                 )
                 with mock.patch('builtins.open', side_effect=self.no_lists), mock.patch.object(
                     descendants, 'has_children_lists', return_value=False
                 ):
-                    found = descendants.children()
+                    found = descendants.child_processes()
                 self.assertIn(child.pid, found)
             finally:
                 child.kill()
@@ -186,7 +307,7 @@ class Children(unittest.TestCase):
         line = ['sh', '-c', f'sleep {word} & echo; wait']
         with subprocess.Popen(line, stdout=subprocess.PIPE, start_new_session=True) as child:
             child.stdout.readline()
-            others = descendants.children() - {child.pid}
+            others = descendants.child_processes() - {child.pid}
             self.assertEqual(descendants.end_children(others), {})
             self.assertEqual(child.stdout.read(), b'')
         self.assertEqual(processes(word), [])
@@ -203,7 +324,7 @@ class Children(unittest.TestCase):
             [sys.executable, '-S', '-c', CLEANS], stdout=subprocess.PIPE, text=True
         ) as child:
             child.stdout.readline()
-            others = descendants.children() - {child.pid}
+            others = descendants.child_processes() - {child.pid}
             self.assertEqual(descendants.end_children(others), {})
             self.assertEqual(child.stdout.read(), 'cleaned up\n')
 

@@ -80,7 +80,7 @@ class Safety(InFolder):
     def found(self, directory: str):
         """What is laid out, in the form of `wanted`."""
         found = {}
-        for path, (mode, _, data) in listing(directory).items():
+        for path, (mode, _, data, _) in listing(directory).items():
             full = os.path.join(directory, path)
             target = os.readlink(full) if os.path.islink(full) else None
             found['' if path == '.' else path] = (mode & 0o777, data, target)
@@ -167,13 +167,13 @@ class Safety(InFolder):
 
     def test_acknowledged_lines_are_not_written_through_a_link(self):
         says = AcknowledgedLines(['one', 'two'], self.folder)
-        self.assertEqual(self.read(says.path(2)), 'one\ntwo\n')
-        self.assertEqual(self.read(says.path(1)), 'one\n')
-        os.unlink(says.file)
-        os.symlink(os.path.join(self.outside, 'file'), says.file)
+        self.assertEqual(self.read(says.write_file(2)), 'one\ntwo\n')
+        self.assertEqual(self.read(says.write_file(1)), 'one\n')
+        os.unlink(says.file_path)
+        os.symlink(os.path.join(self.outside, 'file'), says.file_path)
         for count in (0, 2):
             with self.assertRaises(OSError):
-                says.path(count)
+                says.write_file(count)
         self.assert_untouched()
 
     def test_a_mode_is_only_set_of_a_directory_itself(self):

@@ -13,21 +13,21 @@ from inventory.pages import BEGIN, END
 from linting import python
 from linting.command import LINTERS, Faults, run_linters
 from linting.crates_page import crate_page_faults
-from linting.layout import CODE_COLUMNS, long_functions, long_lines
+from linting.layout import CODE_COLUMNS, long_function_faults, long_lines
 from linting.python import (
-    faults_of_linter,
     install_packages,
-    unknown_names_in_tests,
-    unexplained_in,
+    run_linter,
+    unexplained_comments_in,
+    unknown_name_faults,
 )
 from linting.words import (
     Line,
+    name_faults,
     names_in_python,
-    retired_in,
-    retired_in_name,
     texts_in_python,
     texts_in_rattle,
-    without_made,
+    without_made_parts,
+    word_faults,
 )
 
 PAGE = """
@@ -52,13 +52,13 @@ class Words(unittest.TestCase):
     def test_a_retired_word_is_found_with_its_line(self) -> None:
         line = Line('README.md', 7, 'A row that was told stands in the log.')
         self.assertEqual(
-            retired_in(line),
+            word_faults(line),
             [
                 'README.md:7: "told": acknowledged, reported, printed',
                 'README.md:7: "stands": is, is in',
             ],
         )
-        self.assertEqual(retired_in(line._replace(text='Untold understandings')), [])
+        self.assertEqual(word_faults(line._replace(text='Untold understandings')), [])
 
     def test_documentation_and_texts_are_read_and_comments_are_not(self) -> None:
         source = '"""It tells."""\ndef f():\n    """It stands."""\n    # told\n    print("yes")\n'
@@ -66,18 +66,19 @@ class Words(unittest.TestCase):
             sorted(texts_in_python(source)), [(1, 'It tells.'), (3, 'It stands.'), (5, 'yes')]
         )
         self.assertEqual(texts_in_rattle('//! "told"\nfn f() {\n    g("yes")\n}\n'), [(3, 'yes')])
+        self.assertEqual(texts_in_rattle('a\n\n\n  // "told"\n"yes"\n'), [(5, 'yes')])
 
     def test_each_name_that_is_given_is_read(self) -> None:
         source = 'class A:\n    def b(self, c):\n        self.d = e = c.f\n'
         names = {name for _, name in names_in_python(source)}
         self.assertEqual(names, {'A', 'b', 'self', 'c', 'd', 'e'})
-        for name in ('told', '_told_path', 'as_told', 'go_on', 'Told'):
-            self.assertEqual(len(retired_in_name(Line('a.py', 1, name))), 1, name)
-        for name in ('untold', 'metre', 'tell_tale'[:4] + 'er', 'go_only'):
-            self.assertEqual(retired_in_name(Line('a.py', 1, name)), [], name)
+        for name in 'told _told_path as_told go_on Told ToldPaths OldVoice ToGoOn'.split():
+            self.assertEqual(len(name_faults(Line('a.py', 1, name))), 1, name)
+        for name in 'untold metre teller go_only UntoldPaths OldVoiced'.split():
+            self.assertEqual(name_faults(Line('a.py', 1, name)), [], name)
 
     def test_a_made_part_is_left_out(self) -> None:
-        self.assertEqual(without_made(f'a\n{BEGIN}\ntold\n{END}\nb'), 'a\n\n\n\nb')
+        self.assertEqual(without_made_parts(f'a\n{BEGIN}\ntold\n{END}\nb'), 'a\n\n\n\nb')
 
 
 class Layout(unittest.TestCase):
@@ -90,33 +91,35 @@ class Layout(unittest.TestCase):
 
     def test_a_long_function_is_found_but_for_its_options(self) -> None:
         body = '    f()\n' * 40
-        self.assertEqual(list(long_functions(f'def a():\n{body}')), ['a has 41 lines: 40 at most'])
-        self.assertEqual(list(long_functions(f'def a():\n{body[8:]}')), [])
-        self.assertEqual(list(long_functions('def a():\n' + '    p.add_argument(1)\n' * 60)), [])
+        self.assertEqual(
+            list(long_function_faults(f'def a():\n{body}')), ['a has 41 lines: 40 at most']
+        )
+        self.assertEqual(list(long_function_faults(f'def a():\n{body[8:]}')), [])
+        self.assertEqual(
+            list(long_function_faults('def a():\n' + '    p.add_argument(1)\n' * 60)), []
+        )
 
 
 class Python(unittest.TestCase):
     def test_a_comment_for_a_linter_must_have_a_code_and_a_reason(self) -> None:
         mark = '# type: ' + 'ignore'
         for line in (mark, f'{mark}[misc]', f'{mark}  # so', '# no' + 'qa', '# no' + 'qa: E402'):
-            self.assertEqual(len(unexplained_in({'a.py': f'x\n{line}\n'})), 1, line)
+            self.assertEqual(len(unexplained_comments_in({'a.py': f'x\n{line}\n'})), 1, line)
         for line in (f'{mark}[misc]  # so', '# no' + 'qa: E402  # so', '# a ' + 'type'):
-            self.assertEqual(unexplained_in({'a.py': line}), [], line)
+            self.assertEqual(unexplained_comments_in({'a.py': line}), [], line)
 
     def test_what_a_linter_prints_counts_only_if_it_fails(self) -> None:
-        self.assertEqual(faults_of_linter(['true'], []), [])
-        self.assertEqual(
-            faults_of_linter(['sh', '-c', 'echo a; echo b >&2; exit 1'], []), ['a', 'b']
-        )
-        self.assertEqual(faults_of_linter(['false'], []), ['false: status 1'])
-        self.assertIsNone(faults_of_linter(['no-such-linter'], []))
+        self.assertEqual(run_linter(['true'], []), [])
+        self.assertEqual(run_linter(['sh', '-c', 'echo a; echo b >&2; exit 1'], []), ['a', 'b'])
+        self.assertEqual(run_linter(['false'], []), ['false: status 1'])
+        self.assertIsNone(run_linter(['no-such-linter'], []))
 
     def test_a_name_that_nothing_has_is_a_fault_of_a_test(self) -> None:
         unknown = 'a.py:1: error: "Client" has no attribute "end"  [attr-defined]'
         faults = [unknown, 'a.py:2: error: Function is missing a return type  [no-untyped-def]']
         for ran, wanted in ((faults, [unknown]), ([], []), (None, None)):
-            with mock.patch.object(python, 'faults_of_linter', return_value=ran) as linter:
-                self.assertEqual(unknown_names_in_tests(), wanted)
+            with mock.patch.object(python, 'run_linter', return_value=ran) as linter:
+                self.assertEqual(unknown_name_faults(), wanted)
             self.assertTrue(all(path.name != 'python.py' for path in linter.call_args.args[1]))
             self.assertIn(Path(__file__), linter.call_args.args[1])
 

@@ -58,33 +58,33 @@ class Words(unittest.TestCase):
             self.assertEqual(arguments.split_arguments(text), words)
 
     def test_only_texts_by_numbers_are_read(self):
-        self.assertEqual(arguments.from_numbers('\\x61\\x00\\xff'), b'a\0\xff')
-        self.assertEqual(arguments.from_numbers(''), b'')
+        self.assertEqual(arguments.parse_escapes('\\x61\\x00\\xff'), b'a\0\xff')
+        self.assertEqual(arguments.parse_escapes(''), b'')
         for text in ('\\x6', '\\x61\\x', '61', 'abcd', '/x61', '\\y61', '\\x6g', '\\x6é'):
             with self.assertRaises(LogError, msg=text):
-                arguments.from_numbers(text)
+                arguments.parse_escapes(text)
 
     def test_what_is_written_is_kept_in_the_room_that_it_needs(self):
         piece = numbers(LARGE)
         for name in ('write', 'pwrite64'):
             word = written(f'"{piece}"', name)
-            self.assertEqual(arguments.bytes_of_text(word), LARGE.encode())
+            self.assertEqual(arguments.parse_bytes(word), LARGE.encode())
             self.assertLess(sys.getsizeof(word), len(LARGE) + 200)
         vector = written(
             f'[{{iov_base="{piece}", iov_len=80000}}, {{iov_base="{numbers("z")}"}}]', 'writev'
         )
-        self.assertEqual(arguments.bytes_of_vector(vector), LARGE.encode() + b'z')
+        self.assertEqual(arguments.parse_vector(vector), LARGE.encode() + b'z')
         self.assertLess(sys.getsizeof(vector), len(LARGE) + 200)
 
     def test_what_has_no_bytes_in_the_log_stays_as_it_is(self):
         for word in ('0x7ffd', '"\\x61"...', '[{iov_base="\\x61"..., iov_len=9}]', '"\\x6"'):
             self.assertEqual(written(word), word)
-        self.assertEqual(arguments.bytes_of_text(written('""')), b'')
+        self.assertEqual(arguments.parse_bytes(written('""')), b'')
 
     def test_a_text_that_is_not_by_numbers_is_reported(self):
         log = read_log(['7 write(1<pipe:[7]>, "abc", 3) = 3\n'])
         with self.assertRaises(LogError):
-            Translator(new_files(), log).run()
+            Translator(new_files(), log).translate_log()
 
     def test_the_trace_has_what_the_log_had(self):
         file = f'3<{numbers("/d/f")}>'
@@ -96,7 +96,7 @@ class Words(unittest.TestCase):
             ]
         )
         files = new_files()
-        Translator(files, log).run()
+        Translator(files, log).translate_log()
         self.assertEqual(files.recording.trace.operations[1].data, LARGE.encode())
         self.assertEqual([len(call.arguments) for call in log.calls], [4, 0])
 
@@ -127,6 +127,10 @@ class Needless(unittest.TestCase):
         self.assertEqual(self.read(here + elsewhere[:1]), ['openat', 'read'])
         mapped = ['7 mmap(NULL, 9, PROT_READ, MAP_SHARED, 4</d/f>, 0) = 0x7f00']
         self.assertEqual(self.read(mapped + elsewhere[-1:]), ['mmap', 'mprotect'])
+
+    def test_a_number_may_have_zeros_before_it(self):
+        self.assertEqual(self.read(['7 fcntl(09, F_DUPFD, 9) = 9', '7 close(08) = 0']), [])
+        self.assertEqual(self.read(['7 dup(02) = 9', '7 close(09) = 0']), ['dup', 'close'])
 
     def test_a_file_that_is_made_elsewhere_is_not_read(self):
         for made in (
@@ -160,6 +164,17 @@ class Needless(unittest.TestCase):
         (call,) = read_log(map(as_strace, lines + frames), LogFilter(b'/d')).calls
         self.assertEqual(call.frames, [])
 
+    def test_the_frames_of_an_interrupted_call_that_is_not_read_are_not_another_s(self):
+        lines = [
+            '7 read(9</etc/x> <unfinished ...>',
+            '8 write(4</d/f>, "a", 1) = 1',
+            ' > /opt/store(put+0x24) [0x119d]',
+            '7 <... read resumed>, 0x7ffc, 0x2) = 0x2',
+            ' > /opt/store(load+0x17) [0x121c]',
+        ]
+        (call,) = read_log(map(as_strace, lines), LogFilter(b'/d')).calls
+        self.assertEqual(call.frames, ['/opt/store(put+0x24) [0x119d]'])
+
 
 class Lines(unittest.TestCase):
     def test_lines_come_whole_however_they_are_cut(self):
@@ -169,12 +184,12 @@ class Lines(unittest.TestCase):
             for at in range(0, len(text), size):
                 lines.add_bytes(text[at : at + size])
             lines.add_bytes(b'')
-            self.assertEqual(list(lines.ready), ['a\n', '\n', 'b' * 9 + '\n', 'c\n', 'd'])
+            self.assertEqual(list(lines.ready_lines), ['a\n', '\n', 'b' * 9 + '\n', 'c\n', 'd'])
             self.assertTrue(lines.has_ended)
 
     def test_lines_that_gather_come_in_few_reads(self):
         reading, writing = os.pipe()
-        lines = PipeLines(reading, gathers=True)
+        lines = PipeLines(reading, may_gather=True)
         writer = threading.Thread(target=write_slowly, args=(writing, 400))
         writer.start()
         with mock.patch('os.read', side_effect=os.read) as reads:
@@ -188,7 +203,7 @@ class Lines(unittest.TestCase):
         lines = PipeLines(-1)
         lines.add_bytes(b'a\n')
         lines.add_bytes(b'')
-        self.assertEqual(list(lines.ready), ['a\n'])
+        self.assertEqual(list(lines.ready_lines), ['a\n'])
 
     def test_a_call_that_is_cut_in_two_is_one(self):
         log = read_log(
@@ -199,7 +214,7 @@ class Lines(unittest.TestCase):
             ]
         )
         self.assertEqual(
-            [(call.process, call.name, call.arguments, call.begin, call.end) for call in log.calls],
+            [(call.thread, call.name, call.arguments, call.begin, call.end) for call in log.calls],
             [(8, 'close', ['4'], 2, 2), (7, 'read', ['0x3', '0x7ffc', '0x2'], 1, 3)],
         )
 

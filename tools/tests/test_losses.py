@@ -4,12 +4,12 @@ import json
 import unittest
 from types import SimpleNamespace
 
-from crashfs_tools.checker.findings.losses import RUNS, Searches, loss_search
+from crashfs_tools.checker.findings.losses import RUNS, LossSearches, loss_search
 from crashfs_tools.checker.findings.pairs import Loss, Pair
 from crashfs_tools.checker.running.runner import BAD, GOOD, Outcome
 from crashfs_tools.checker.states.plan import State
 from crashfs_tools.checker.states.read_plan import read_plan
-from crashfs_tools.reading import plan_of, read
+from crashfs_tools.reading import make_plan, parse_trace
 
 from .support import FAKE
 from .test_check_command import InStore
@@ -57,21 +57,21 @@ class Searched(unittest.TestCase):
     def test_no_set_is_tried_whose_outcome_is_not_used(self):
         tried, answered = [], []
 
-        class Fewer(Searches):
+        class Fewer(LossSearches):
             """Every set fails, but not alike, so that a search ends only after RUNS of them."""
 
             def try_sets(self, sets):
                 tried.extend(sets)
-                self.known.update({one: Outcome(BAD, 'another') for one in sets})
+                self.outcomes.update({one: Outcome(BAD, 'another') for one in sets})
 
             def send_answer(self, number, answer):
-                answered.extend([] if answer is None else [answer])
+                answered.append(answer)
                 super().send_answer(number, answer)
 
         self.plan.kept[0] = 1 << 39
         findings = SimpleNamespace(
             plan=self.plan,
-            by_state={0: Outcome(BAD, 'lost')},
+            outcomes_by_state={0: Outcome(BAD, 'lost')},
             pairs=SimpleNamespace(is_same_failure=lambda one, other: False),
         )
         found = Fewer(None, None, findings).run([State(0, 'pick', (), 0, 0)])
@@ -134,6 +134,26 @@ class Guesses(InStore):
         self.assertIn('it fails only if this is lost too: line 12 (unlink /log)', shown)
         self.assert_nothing_left()
 
+    def test_a_state_has_no_loss_of_another_cause(self):
+        """A state that lacks all four files fails as those that lack only the last two."""
+        text = THIRD + ''.join(line('creat', f'/{name}') for name in 'abcd') + line('fsync', '/')
+        text += ''.join(write(f'/{name}', 'v') for name in 'abcd') + line('say', text='stored')
+        check = self.write(
+            'check.sh',
+            '#!/bin/sh\ntest $CRASHFS_SAYS = 1 || exit 0\n'
+            'test -s c || test -s d || { echo "second: c and d"; exit 1; }\n'
+            'test -s a || test -s b || { echo "first: a and b"; exit 1; }\n',
+            0o755,
+        )
+        words = '--crashfs', FAKE, '--json', 'r.json', self.write('four.trace', text), '--', check
+        ran = self.run_tool('crashfs-check', *words)
+        self.assertEqual(ran.returncode, 1, ran.stderr)
+        entries = [
+            (one['cause'], one['different'], [pair[0] for pair in one['lines']])
+            for one in json.loads(self.read('r.json'))['groups']
+        ]
+        self.assertEqual(sorted(entries), [('first: a and b', 8, [7]), ('second: c and d', 9, [9])])
+
     def test_the_pair_is_of_the_smallest_loss(self):
         """The pick that has only the last file lacks four names, of which two matter."""
 
@@ -146,10 +166,10 @@ class Guesses(InStore):
         findings = findings_of(self.text(), cause)
         guesses = [group for group in findings.groups if group.pair.is_guess]
         self.assertTrue(guesses)
-        trees = plan_of(read(self.text().encode())).trees
+        trees = make_plan(parse_trace(self.text().encode())).trees
         runs = []
 
-        class Trees(Searches):
+        class Trees(LossSearches):
             """Answers from the trees in the place of COMMAND."""
 
             def try_sets(self, sets):
@@ -157,7 +177,7 @@ class Guesses(InStore):
                 for kept in sets:
                     files = set(trees.tree(kept))
                     found = cause(files, bin(kept & says).count('1'))
-                    self.known[kept] = Outcome(BAD, found) if found else Outcome(GOOD)
+                    self.outcomes[kept] = Outcome(BAD, found) if found else Outcome(GOOD)
                     runs.append(kept)
 
         states = [group.example for group in guesses]
@@ -166,8 +186,8 @@ class Guesses(InStore):
         self.assertLess(len(runs), 12 * len(states))
         for group in findings.groups:
             if group.cause == 'lost: b':
-                self.assertEqual(group.lost.text, 'rename /new to /table')
-                self.assertEqual(group.kept.text, 'say "b"')
+                self.assertEqual(group.lost_line.text, 'rename /new to /table')
+                self.assertEqual(group.kept_line.text, 'say "b"')
 
 
 if __name__ == '__main__':

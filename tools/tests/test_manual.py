@@ -112,7 +112,9 @@ class Example(InFolder):
     def test_the_trace_of_the_page_is_one(self) -> None:
         text = section('crashfs-trace.5', 'EXAMPLES').replace('\\en', '\\n')
         trace = self.write('t', '\n'.join(re.findall(r'^\{.*\}$', text, re.M)))
-        self.assertEqual(Crashfs.program_or_reading(None, unproved=True).count_states(trace), 3)
+        self.assertEqual(
+            Crashfs.find_or_second_reading(None, is_unproved=True).count_states(trace), 3
+        )
 
 
 @needs_bash

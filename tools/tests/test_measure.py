@@ -2,21 +2,31 @@
 
 from __future__ import annotations
 
+import contextlib
+import io
 import os
 import shutil
+import socket
 import subprocess
 import sys
+import threading
 import unittest
+from contextlib import ExitStack
+from pathlib import Path
 from typing import List
+from unittest import mock
 
+from measuring.client import Client, Refused, message, text_field
 from measuring.memory import (
     fill_with_connections,
     fill_with_runs,
     fill_with_writes,
-    growth_of,
+    measure_growth,
 )
-from measuring.programs import Programs
-from measuring.servers import free_address, listening, processor_halves
+from measuring.programs import Programs, Tally
+from measuring.servers import free_address, processor_halves, running_server
+from measuring.sets import ROWS as SET_ROWS
+from measuring.sets import add_set_rows
 
 from .fake_server import KEPT
 from .support import FAKE as READING
@@ -33,6 +43,16 @@ kept: 41.200 MB, past (at most 40)
 no row, within reason
 """
 FAKE = str(TOOLS / 'tests' / 'fake_server.py')
+
+
+def answer(listener: socket.socket, replies: bytes) -> None:
+    """Accepts a connection, sends it these bytes and nothing else, and reads it to its end."""
+    connection, _ = listener.accept()
+    with connection:
+        connection.sendall(replies)
+        connection.shutdown(socket.SHUT_WR)
+        while connection.recv(1 << 16):
+            pass
 
 
 class Measure(InFolder):
@@ -71,8 +91,10 @@ class Measure(InFolder):
                 '== serve_bench: not built: serve_bench, crashfs',
                 '== memory: not built: crashfs',
                 '== states: not built: crashfs',
+                '== sets: not built: crashfs',
                 'past: first_bench: kept: 41.200 MB, past (at most 40)',
-                '1 rows within, 1 past; not built: second_bench, serve_bench, memory, ' 'states',
+                '1 rows within, 1 past; not built: second_bench, serve_bench, memory, states, '
+                'sets',
             ],
         )
         self.assertEqual((told.returncode, told.stderr), (1, ''))
@@ -97,7 +119,7 @@ class Measure(InFolder):
         told = self.measure('cs_bench')
         self.assertEqual(told.returncode, 2)
         self.assertIn(
-            'cs_bench is none of first_bench, second_bench, serve_bench, memory, ' 'states\n',
+            'cs_bench is none of first_bench, second_bench, serve_bench, memory, states, ' 'sets\n',
             told.stderr,
         )
 
@@ -138,28 +160,119 @@ class States(Measure):
         self.assertIn('states failed: ', self.measure('states').stdout)
 
 
+class Sets(Measure):
+    """Rows of sets, of as few files as the second reading finds at once."""
+
+    def printed(self, lines: List[int]) -> str:
+        """What is printed of the rows with 4 files each and without acknowledged lines, of which
+        each must have so many lines."""
+        rows = [row._replace(says=0, files=4, lines=count) for row, count in zip(SET_ROWS, lines)]
+        with contextlib.redirect_stdout(io.StringIO()) as out:
+            tally = Tally()
+            tally.begin_benchmark('sets')
+            add_set_rows(Programs(Path(self.folder)), tally, tuple(rows))
+        return out.getvalue()
+
+    def test_each_way_to_find_sets_is_measured(self) -> None:
+        self.program('crashfs', ['#!/bin/sh', f'exec {READING} "$@"'])
+        printed = self.printed([16, 16, 1, 16_384])
+        self.assertNotIn('failed', printed)
+        verdict = r'(within|past) \(at most [\d.]+\)'
+        for row in SET_ROWS:
+            self.assertRegex(printed, rf'(?m)^{row.label}: [\d.]+ {row.unit}, {verdict}$')
+        self.assertRegex(printed, rf'(?m)^a class .*: memory: -?[\d.]+ bytes, {verdict}$')
+
+    def test_other_lines_than_those_of_all_sets_are_a_failure(self) -> None:
+        self.program('crashfs', ['#!/bin/sh', f'exec {READING} "$@"'])
+        printed = self.printed([15, 16, 1, 16_384])
+        self.assertEqual(printed.count('sets failed: '), 1)
+        self.assertIn(' printed 16 lines with status 0', printed)
+
+    def test_a_start_that_fails_has_no_row(self) -> None:
+        self.program('crashfs', ['#!/bin/sh', 'exit 4'])
+        printed = self.measure('sets').stdout
+        self.assertEqual(printed.count('sets failed: '), len(SET_ROWS))
+        self.assertIn('0 rows within, 0 past; failed: sets', printed)
+
+
 class Memory(InFolder):
     """A server is brought to each state, and its memory is read then."""
 
     def grown(self, fill) -> int:
         address = free_address()
-        with listening([FAKE, address, '9', 'forgets']) as server:
-            more, count = growth_of(server, lambda: fill(address))
+        with running_server([FAKE, address, '9', 'forgets']) as server:
+            more, count = measure_growth(server, lambda opened: fill(address, opened))
         # Not all: a system that lacks memory takes other pages of a server away meanwhile.
         self.assertGreater(more, KEPT // 2)
         return count
 
+    def test_a_server_of_another_version_is_refused(self) -> None:
+        address = free_address()
+        with running_server([FAKE, address, '9', 'unknown']):
+            with self.assertRaisesRegex(Refused, "the server speaks b'unknown', not 9P2000"):
+                fill_with_connections(address, 1, ExitStack())
+
+    def test_a_reply_without_its_end_is_a_fault(self) -> None:
+        version = message(101, b'\0\0\1\0' + text_field('9P2000'))
+        attached = message(105, 13 * b'q')
+        with socket.create_server(('127.0.0.1', 0)) as listener:
+            for end in range(len(attached)):
+                words = (listener, version + attached[:end])
+                threading.Thread(target=answer, args=words, daemon=True).start()
+                client = Client(f'127.0.0.1:{listener.getsockname()[1]}')
+                self.addCleanup(client.close)
+                with self.assertRaisesRegex(OSError, 'the server has ended the connection'):
+                    client.attach(0, '0/x')
+
     def test_connections_come_to_a_run_and_wait(self) -> None:
-        self.assertEqual(self.grown(lambda address: fill_with_connections(address, 3)), 3)
+        self.assertEqual(
+            self.grown(lambda address, opened: fill_with_connections(address, 3, opened)), 3
+        )
 
     def test_runs_are_spread_over_connections(self) -> None:
-        self.assertEqual(self.grown(lambda address: fill_with_runs(address, 7, 3)), 7)
+        self.assertEqual(
+            self.grown(lambda address, opened: fill_with_runs(address, 7, 3, opened)), 7
+        )
 
     def test_writes_go_on_until_one_is_refused(self) -> None:
-        self.assertEqual(self.grown(lambda address: fill_with_writes(address, 1_000)), 10)
+        self.assertEqual(
+            self.grown(lambda address, opened: fill_with_writes(address, 1_000, opened)), 10
+        )
+
+    def test_a_journal_that_takes_no_write_is_a_fault(self) -> None:
+        address = free_address()
+        with running_server([FAKE, address, '9', 'full']), ExitStack() as opened:
+            with self.assertRaisesRegex(Refused, 'no write was granted'):
+                fill_with_writes(address, 8, opened)
+
+    def test_connections_are_closed_after_a_fault(self) -> None:
+        clients: List[Client] = []
+
+        def connect(address: str) -> Client:
+            if len(clients) == 3:
+                raise OSError('no more')
+            clients.append(Client(address))
+            return clients[-1]
+
+        address = free_address()
+        with running_server([FAKE, address, '9', 'forgets']) as server:
+            with mock.patch('measuring.memory.Client', connect):
+                with self.assertRaisesRegex(OSError, 'no more'):
+                    measure_growth(server, lambda opened: fill_with_runs(address, 7, 4, opened))
+        self.assertEqual([client.stream.fileno() for client in clients], [-1] * 3)
 
     def test_writes_end_where_none_is_refused(self) -> None:
-        self.assertEqual(self.grown(lambda address: fill_with_writes(address, 8)), 8)
+        self.assertEqual(
+            self.grown(lambda address, opened: fill_with_writes(address, 8, opened)), 8
+        )
+
+
+class Servers(unittest.TestCase):
+    def test_a_server_that_closes_its_output_before_it_ends_has_a_status(self) -> None:
+        words = ['sh', '-c', 'exec >&-; sleep 0.2; exit 7']
+        with self.assertRaisesRegex(OSError, "sh does not listen: '', status 7"):
+            with running_server(words):
+                pass
 
 
 class Addresses(unittest.TestCase):
@@ -188,6 +301,6 @@ class Processors(InFolder):
             self.assertFalse(set(servers) & set(clients))
 
     def test_only_programs_are_benchmarks(self) -> None:
-        names = Programs(TOOLS.parent).benchmarks()
+        names = Programs(TOOLS.parent).benchmark_names()
         self.assertIn('serve_bench', names)
         self.assertNotIn('cs_bench', names)

@@ -15,10 +15,10 @@ from crashfs_tools.checker.findings.read_trees import entries_of
 from crashfs_tools.common.entry import Entries
 from crashfs_tools.common.trace import KINDS, Chmod, Chown, Trace
 from crashfs_tools.disks.disk import Crash, Disk, digest_of
-from crashfs_tools.disks.filesystems import missing_requirement, filesystems_of
-from crashfs_tools.disks.levers import Lever
+from crashfs_tools.disks.filesystems import missing_requirement, filesystems_by_names
+from crashfs_tools.disks.flushes import FlushKind
 from crashfs_tools.disks.moments import Moment
-from crashfs_tools.reading import read
+from crashfs_tools.reading import parse_trace
 from crashfs_tools.reading.every import every_set
 from crashfs_tools.reading.order import Order, Profiles
 from crashfs_tools.reading.states import States
@@ -30,25 +30,25 @@ from measuring.disk_sessions import (
     table_lines,
     trace_text,
 )
-from measuring.disks import Measurement, parsed_words
-from measuring.random_sessions import session
+from measuring.disks import Measurement, parse_words
+from measuring.random_sessions import draw_session
 
 from .support import PATIENCE, TOOLS, InFolder, needed
 
 
 def disk_of(tree: Entries, says: int) -> Disk:
     """A disk that one crash left, after so many acknowledged lines."""
-    return Disk(tree, digest_of(tree), [Crash(Moment(1, says, says, 5), Lever.NOTHING)])
+    return Disk(tree, digest_of(tree), [Crash(Moment(1, says, says, 5), FlushKind.NOTHING)])
 
 
 def disks_of(trace: Trace, profile: str) -> List[Disk]:
     """A disk for each of the first sets that a profile may leave."""
-    reading = read(trace_text(trace).encode())
+    reading = parse_trace(trace_text(trace).encode())
     states, profiles = States(reading), Profiles(reading)
     return [
         disk_of(entries_of(states.tree(one)), states.count_says(one))
         for one in every_set(Order(reading))
-        if profile in profiles.names(one)
+        if profile in profiles.names_allowing(one)
     ][:100]
 
 
@@ -56,9 +56,9 @@ class Sessions(unittest.TestCase):
     def test_a_seed_gives_one_session_and_all_kinds_are_drawn(self) -> None:
         found = set()
         for seed in range(150):
-            trace = session(seed, OPERATIONS)
-            self.assertEqual(trace_text(trace), trace_text(session(seed, OPERATIONS)))
-            self.assertGreater(len(read(trace_text(trace).encode()).operations), 1)
+            trace = draw_session(seed, OPERATIONS)
+            self.assertEqual(trace_text(trace), trace_text(draw_session(seed, OPERATIONS)))
+            self.assertGreater(len(parse_trace(trace_text(trace).encode()).operations), 1)
             found.update(map(type, trace.operations))
         self.assertEqual(set(KINDS.values()) - found, {Chmod, Chown})
 
@@ -66,7 +66,7 @@ class Sessions(unittest.TestCase):
 class Judgements(unittest.TestCase):
     def test_states_are_inside_and_other_trees_are_not(self) -> None:
         for seed in range(20):
-            trace = session(seed, OPERATIONS)
+            trace = draw_session(seed, OPERATIONS)
             for name, profile in (('ext4', 'journal'), ('btrfs', 'blocks')):
                 disks = disks_of(trace, profile)
                 result = session_result(name, seed, trace, disks)
@@ -74,7 +74,7 @@ class Judgements(unittest.TestCase):
                 self.assertEqual(result.allowed[profile], len(disks))
 
     def test_a_tree_that_no_set_leaves_is_outside(self) -> None:
-        trace = session(3, OPERATIONS)
+        trace = draw_session(3, OPERATIONS)
         for disk in disks_of(trace, 'blocks')[:10]:
             odd = {**disk.tree, '/odd': disk.tree['/']}
             late = disk_of(disk.tree, 9)
@@ -86,7 +86,7 @@ class Judgements(unittest.TestCase):
     def test_what_only_a_weaker_profile_may_leave_is_outside_of_the_file_systems(self) -> None:
         outside = 0
         for seed in range(20):
-            trace = session(seed, OPERATIONS)
+            trace = draw_session(seed, OPERATIONS)
             disks = disks_of(trace, 'blocks')
             result = session_result('ext4', seed, trace, disks)
             self.assertEqual(result.allowed['blocks'], len(disks))
@@ -106,19 +106,28 @@ class Kept(InFolder):
 
     def seeds_done(self, *words: str) -> List[int]:
         given = ['--on', 'ext4', '--sessions', '3', *words, self.path('found')]
-        run = Measurement(parsed_words(given))
-        missing = {seed for _, seed in run.missing()}
-        self.assertEqual(missing, {1, 2, 3} - {one.seed for one in run.results()})
-        return [one.seed for one in run.results()]
+        run = Measurement(parse_words(given))
+        missing = {seed for _, seed in run.tasks_left()}
+        self.assertEqual(missing, {1, 2, 3} - {one.seed for one in run.read_results()})
+        return [one.seed for one in run.read_results()]
+
+    def test_counts_below_one_are_wrong_words(self) -> None:
+        for words in (['--jobs', '0'], ['--sessions', '0'], ['--operations', '-1']):
+            with self.subTest(words):
+                with contextlib.redirect_stderr(io.StringIO()) as printed:
+                    with self.assertRaises(SystemExit) as ended:
+                        parse_words([*words, self.path('found')])
+                self.assertEqual(ended.exception.code, 2)
+                self.assertIn('is not a number from 1', printed.getvalue())
 
     def test_a_session_with_another_number_of_operations_is_not_done(self) -> None:
-        run = Measurement(parsed_words(['--operations', '99', self.path('found')]))
-        run.keep(SessionResult('ext4', 1, operations=99))
-        run.keep(SessionResult('ext4', 2))
+        run = Measurement(parse_words(['--operations', '99', self.path('found')]))
+        run.save_result(SessionResult('ext4', 1, operations=99))
+        run.save_result(SessionResult('ext4', 2))
         # A line of a file that didn't say how many they are.
         old = SessionResult('ext4', 3).fields()
         del old['operations']
-        with run.path.open('a', encoding='utf-8') as file:
+        with run.results_path.open('a', encoding='utf-8') as file:
             file.write(json.dumps(old) + '\n')
         self.assertEqual(self.seeds_done(), [2, 3])
         self.assertEqual(self.seeds_done('--operations', '99'), [1])
@@ -140,7 +149,8 @@ class OnImages(InFolder):
         return ran.stdout
 
     @needed(
-        missing_requirement(filesystems_of(['ext4'])) is None, 'no root, loop devices or mkfs.ext4'
+        missing_requirement(filesystems_by_names(['ext4'])) is None,
+        'no root, loop devices or mkfs.ext4',
     )
     def test_a_session_is_made_once(self) -> None:
         words = ['--on', 'ext4', '--sessions', '1', '--operations', '3', '--jobs', '1']

@@ -7,7 +7,7 @@ from typing import List
 
 from crashfs_tools.reading.every import count_sets, every_set
 from crashfs_tools.reading.order import Order
-from crashfs_tools.reading.trace import read
+from crashfs_tools.reading.trace import parse_trace
 
 RIGHTS = '"owner":"a","group":"a","mode":"755"'
 FSYNC = '{"op":"fsync","path":"%s"}'
@@ -24,7 +24,7 @@ MKDIR = f'{{"op":"mkdir","path":"/d",{RIGHTS}}}'
 
 def order_of(profile: str, lines: List[str], version: int = 4) -> Order:
     header = f'{{"trace":{version},"profile":"{profile}","block":4096,{RIGHTS}}}'
-    return Order(read('\n'.join([header, *lines, '']).encode()))
+    return Order(parse_trace('\n'.join([header, *lines, '']).encode()))
 
 
 def kept_with_say(profile: str, lines: List[str], version: int = 4) -> List[int]:

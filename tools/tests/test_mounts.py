@@ -9,7 +9,7 @@ import signal
 import unittest
 
 from crashfs_tools.checker.address import Address
-from crashfs_tools.checker.command_line import address
+from crashfs_tools.checker.command_line import parse_address
 
 from .support import FAKE, PATIENCE, PYTHON_FOLDER
 from .test_check_command import InStore
@@ -154,11 +154,11 @@ class Mounts(InMounts):
         self.assertIn('--uname goes with --serve', ran.stderr)
 
     def test_an_address_is_a_host_and_a_port(self):
-        self.assertEqual(address('[::1]:5640'), Address('::1', 5640))
-        self.assertEqual(Address('::1', 5640).numeric(), '::1')
+        self.assertEqual(parse_address('[::1]:5640'), Address('::1', 5640))
+        self.assertEqual(Address('::1', 5640).ip_address(), '::1')
         for text in ('x', ':1', 'x:', 'x:0', 'x:65536', 'x:port'):
             with self.assertRaises(argparse.ArgumentTypeError, msg=text):
-                address(text)
+                parse_address(text)
 
 
 class Stops(InMounts):

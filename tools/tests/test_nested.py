@@ -8,7 +8,7 @@ from types import SimpleNamespace
 from unittest import mock
 
 from crashfs_tools.checker.findings import nested as nested_module
-from crashfs_tools.checker.findings.nested import Nested, RecoveryRecorder
+from crashfs_tools.checker.findings.nested import SecondCrashTrials, RecoveryRecorder
 from crashfs_tools.checker.findings.second_crashes import Recovery
 from crashfs_tools.checker.report.report import CheckReport
 from crashfs_tools.checker.report.text import ReportText
@@ -130,14 +130,14 @@ class Faults(InFolder):
         checker = SimpleNamespace(
             recovery=SimpleNamespace(words=['true']),
             environment=dict(os.environ),
-            says=SimpleNamespace(path=lambda count: acknowledged),
+            acknowledged_lines=SimpleNamespace(write_file=lambda count: acknowledged),
             timeout=PATIENCE,
         )
         trials = SimpleNamespace(guard=None, new_checker=lambda: checker)
         state = SimpleNamespace(number=3, says=0)
         with mock.patch.object(nested_module, 'RECORD', recorder):
             with self.assertRaises(Refused) as refused:
-                RecoveryRecorder(trials).record(state, self.folder, self.path('t.trace'))
+                RecoveryRecorder(trials).run_recorder(state, self.folder, self.path('t.trace'))
         return str(refused.exception)
 
     def test_a_recorder_without_a_trace_has_a_fault_whatever_was_printed(self):
@@ -170,6 +170,19 @@ class Counted(unittest.TestCase):
             self.assertEqual(ReportText(report).lines()[1:], ['  ' + line])
 
 
+class Tried(InFolder):
+    def test_states_that_were_not_tried_are_not_counted(self):
+        plan = read_plan(LISTED)
+        trials = SimpleNamespace(
+            plan=plan,
+            try_all=lambda results: results.outcomes.update({0: Outcome(GOOD), 3: Outcome(GOOD)}),
+            planned=SimpleNamespace(trace=self.write('r.trace', '{"trace":3}\n')),
+            program=SimpleNamespace(is_unproved=False),
+        )
+        recovery = SecondCrashTrials(1).try_recovery(trials, plan.state(5), Outcome(GOOD))
+        self.assertEqual((recovery.state, recovery.tried_count, recovery.failing_count), (5, 2, 0))
+
+
 class Chosen(unittest.TestCase):
     def test_each_cause_and_each_last_operation_is_tried_before_others(self):
         plan = read_plan(LISTED)
@@ -177,18 +190,21 @@ class Chosen(unittest.TestCase):
         outcomes[2] = Outcome(BAD, 'lost: row 1')
         results = Results(plan, outcomes)
         findings = SimpleNamespace(
-            plan=plan, results=results, by_state=results.outcomes_by_state({})
+            plan=plan, results=results, outcomes_by_state=results.outcomes_by_state({})
         )
         for count in (1, 2, 5, 6, 9, 20):
-            nested = Nested(count)
-            chosen = [state.number for state in nested.chosen_states(findings)]
+            nested = SecondCrashTrials(count)
+            chosen = [state.number for state in nested.choose_states(findings)]
             self.assertEqual(len(chosen), len(set(chosen)))
             self.assertEqual(len(chosen), min(count, 9))
             if count >= 6:
                 self.assertEqual(
-                    nested.seen,
+                    nested.seen_features,
                     set().union(
-                        *(Nested.features_of(findings, plan.state(number)) for number in outcomes)
+                        *(
+                            SecondCrashTrials.features_of(findings, plan.state(number))
+                            for number in outcomes
+                        )
                     ),
                 )
             if count == 1:

@@ -13,8 +13,26 @@ OPENS = [
     '1 clone(child_stack=0x7f, flags=CLONE_VM|CLONE_FS|CLONE_FILES|CLONE_THREAD) = 2',
 ]
 
+# An access control list that gives the owner read and write, and nobody else anything.
+LIST = '\2\0\0\0' + ''.join(
+    f'{tag}\0{rights}' + 5 * '\0' for tag, rights in ('\1\6', '\4\0', ' \0')
+)
+
 # (what is shown, the log behind the opens, the operations)
 CASES = [
+    *[
+        (
+            f'an access control list that is set while the sync runs is not covered: {call}',
+            [
+                f'2 {call}, "system.posix_acl_access", "{LIST}", 28, 0 <unfinished ...>',
+                '1 fsync(3</d/f> <unfinished ...>',
+                f'2 <... {call.partition("(")[0]} resumed>) = 0',
+                '1 <... fsync resumed>) = 0',
+            ],
+            ['fsync /f', 'chmod /f 600'],
+        )
+        for call in ('fsetxattr(3</d/f>', 'setxattr("/d/f"')
+    ],
     (
         'a change of another file that began before the sync had ended stands before it',
         [

@@ -10,9 +10,9 @@ from .support import FAKE, TOOLS, InFolder, needs_strace, needs_version_3
 SAVE = f"""
 import sys
 sys.path.insert(0, {str(TOOLS)!r})
-from crashfs_tools.common.command import write_whole
+from crashfs_tools.common.command import write_whole_file
 for version in (1, 2):
-    write_whole('report.json', ['version ', f'{{version}}\\n'])
+    write_whole_file('report.json', ['version ', f'{{version}}\\n'])
     print('saved', version, flush=True)
 """
 # The file is whole, and not older than what was printed.

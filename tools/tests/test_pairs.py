@@ -10,7 +10,7 @@ from crashfs_tools.checker.running.results import Head, Results
 from crashfs_tools.checker.running.runner import BAD, GOOD, NO_ANSWER, Outcome
 from crashfs_tools.checker.states.plan import (
     Offsets,
-    MicroOperation,
+    PlannedMicroOperation,
     Needs,
     Plan,
     PlanError,
@@ -63,7 +63,7 @@ class Listed(unittest.TestCase):
     def test_operations_and_states_are_read(self):
         plan = read_plan(LISTED)
         self.assertEqual(
-            plan.operations[0], MicroOperation(0, 'create_dir_entry', '/a line 3', 'file', 2)
+            plan.operations[0], PlannedMicroOperation(0, 'create_dir_entry', '/a line 3', 'file', 2)
         )
         self.assertEqual(plan.operations[2].text, 'op 2 write_block /a b 0 12 4')
         self.assertEqual(plan.operations[3].text, 'op 3 move_dir_entry /a b /c\nd')
@@ -89,7 +89,7 @@ class Listed(unittest.TestCase):
     def test_a_window_has_the_numbers_places_says_and_lines_of_its_session(self):
         plan = read_listed(LISTED, Offsets(100, 40, 7, (0, 11, 12, 0, 14, 15)))
         self.assertEqual(
-            plan.operations[3], MicroOperation(43, 'move_dir_entry', '/a b', '/c\nd', 14)
+            plan.operations[3], PlannedMicroOperation(43, 'move_dir_entry', '/a b', '/c\nd', 14)
         )
         self.assertEqual(plan.state(109), State(109, 'hole', (1, 5), 8, 108))
         self.assertEqual(plan.state_text(plan.state(109)), 'hole 41 45')
@@ -99,7 +99,7 @@ class Listed(unittest.TestCase):
 
     def test_equal_trees_are_tried_once_for_each_number_of_says(self):
         self.assertEqual(
-            Results(read_plan(LISTED)).trials,
+            Results(read_plan(LISTED)).own_numbers,
             {
                 Trial(0, 0): 0,
                 Trial(1, 0): 1,

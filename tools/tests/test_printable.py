@@ -5,8 +5,8 @@ import sys
 import unittest
 from unittest import mock
 
-from crashfs_tools.common.command import LINE_LETTERS, print_line
-from crashfs_tools.common.printable import print_utf8, printable
+from crashfs_tools.common.command import LINE_CHARACTERS, print_line
+from crashfs_tools.common.printable import set_utf8_streams, escape_unprintable
 
 
 class Printable(unittest.TestCase):
@@ -20,12 +20,12 @@ class Printable(unittest.TestCase):
             ('\u2028\U000e0041', '\\u2028\\U000e0041'),
             ('caf\udcff', 'caf\\xff'),
         ]:
-            self.assertEqual(printable(shown), wanted)
+            self.assertEqual(escape_unprintable(shown), wanted)
 
     def test_letters_of_any_language_and_what_is_allowed_stay(self):
         for text in ['Zürich', '東京', 'שלום', '👍', '\ufffd', 'a\\n b']:
-            self.assertEqual(printable(text), text)
-        self.assertEqual(printable('a\n\tb\x1b', '\n\t'), 'a\n\tb\\x1b')
+            self.assertEqual(escape_unprintable(text), text)
+        self.assertEqual(escape_unprintable('a\n\tb\x1b', '\n\t'), 'a\n\tb\\x1b')
 
     def test_a_line_has_an_end_however_long_a_number_is(self):
         path = '/'.join(['n' * 255] * 16)
@@ -36,7 +36,7 @@ class Printable(unittest.TestCase):
             if length is None:
                 self.assertEqual(line, f'crashfs-check: {text}\n')
             else:
-                self.assertLess(len(line), LINE_LETTERS + 100)
+                self.assertLess(len(line), LINE_CHARACTERS + 100)
                 self.assertTrue(line.startswith('crashfs-check: no JSON: 999'))
                 self.assertTrue(line.endswith('99!\n'))
 
@@ -45,7 +45,7 @@ class Printable(unittest.TestCase):
             printed = io.BytesIO()
             stream = io.TextIOWrapper(printed, encoding=encoding)
             with mock.patch.object(sys, 'stdout', stream):
-                print_utf8()
+                set_utf8_streams()
                 print('東京 \udcff', end='', file=sys.stdout, flush=True)
             self.assertEqual(printed.getvalue(), '東京 \\udcff'.encode())
 

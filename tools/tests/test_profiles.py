@@ -9,12 +9,13 @@ from types import SimpleNamespace
 from typing import Any, Dict, List, Set, Tuple
 
 from crashfs_tools.checker.report.text import profiles_text
-from crashfs_tools.checker.states.plan import Planned
+from crashfs_tools.checker.states.plan import PlannedTrace, PlanError, SetProfiles
 from crashfs_tools.checker.states.planning import Planner
+from crashfs_tools.checker.states.read_plan import read_plan
 from crashfs_tools.common.command import Refused
-from crashfs_tools.reading import StateList, read
+from crashfs_tools.reading import StateList, parse_trace
 from crashfs_tools.reading.every import every_set
-from crashfs_tools.reading.order import orders_in
+from crashfs_tools.reading.order import orders_by_profile
 
 from .support import EXAMPLES, FAKE, InFolder
 from .test_all_states import OPTIONS, trace_texts
@@ -32,27 +33,27 @@ TreeAndCount = Tuple[object, int]
 
 def allowed_trees(text: str) -> Dict[TreeAndCount, Set[str]]:
     """The profiles of each tree and number of lines, by all sets."""
-    reading = read(text.encode())
+    reading = parse_trace(text.encode())
     trees = StateList(reading).trees
     found: Dict[TreeAndCount, Set[str]] = {}
-    for name, order in orders_in(reading).items():
+    for name, order in orders_by_profile(reading).items():
         if reading.version < 3:
-            order = order.acknowledged_first(reading)
+            order = order.with_earlier_lines(reading)
         for one in every_set(order):
             found.setdefault((trees.digest(one), trees.count_says(one)), set()).add(name)
     return found
 
 
 class Planning(InFolder):
-    def planned(self, text: str, profile: str = '', program: Any = None) -> Planned:
+    def planned(self, text: str, profile: str = '', program: Any = None) -> PlannedTrace:
         options: Any = SimpleNamespace(
             **OPTIONS, has_every=True, most_states=20_000, profile=profile, draw_count=50
         )
         guard: Any = SimpleNamespace(directory=self.temporary, environment=None)
         return Planner(options, program or Reader(), guard).plan(self.write('a.trace', text))
 
-    def trees_of(self, text: str, planned: Planned) -> Dict[TreeAndCount, Set[str]]:
-        trees, plan = StateList(read(text.encode())).trees, planned.plan
+    def trees_of(self, text: str, planned: PlannedTrace) -> Dict[TreeAndCount, Set[str]]:
+        trees, plan = StateList(parse_trace(text.encode())).trees, planned.plan
         return {
             (trees.digest(plan.kept[one.number]), one.says): set(plan.profile_names_of(one))
             for one in plan.states
@@ -89,9 +90,37 @@ class Planning(InFolder):
         wanted = tuple(0b01 if one == 0b1 else 0b11 for one in kept)
         self.assertEqual(planned.plan.profiles.of_sets, wanted)
 
+    def test_profiles_in_another_order_are_those_of_the_second_reading(self) -> None:
+        program = Printing()
+        program.step = -1
+        planned = self.planned(REMOVED, program=program)
+        self.assertEqual(planned.plan.profiles, self.planned(REMOVED).plan.profiles)
+
+
+class Listings(unittest.TestCase):
+    def test_a_state_with_other_profiles_than_the_first_makes_no_plan(self) -> None:
+        def line(number: int, **more: object) -> str:
+            numbers = {'state': number, 'end': number, 'says': 0, 'same': number}
+            return json.dumps({**numbers, 'kind': 'prefix', **more})
+
+        names = ['blocks', 'ordered']
+        first = line(0, profiles=names)
+        plan = read_plan('\n'.join([first, line(1, profiles=names[1:])]))
+        self.assertEqual(plan.profiles, SetProfiles(tuple(names), (3, 2)))
+        for lines in (
+            (first, line(1, profiles=['journal'])),
+            (first, line(1)),
+            (line(0), line(1, profiles=names)),
+        ):
+            with self.assertRaisesRegex(PlanError, '^crashfs list printed: .*"state": 1'):
+                read_plan('\n'.join(lines))
+
 
 class Printing(Reader):
-    """A program that prints profiles: it says that the set of the first place is no ordered one."""
+    """A program that prints profiles: it says that the set of the first place is no ordered one.
+    With the step -1 their names are in the order of the second reading backwards."""
+
+    step = 1
 
     def output_of(self, words: List[str], _environment: Any = None) -> str:
         lines = super().output_of(words).splitlines()
@@ -102,7 +131,8 @@ class Printing(Reader):
             if 'state' in fields:
                 is_first = fields.get('end', 0) == 1 or fields.get('places') == [0]
                 is_first = is_first and fields['kind'] != 'hole'
-                fields['profiles'] = ['blocks'] if is_first else ['blocks', 'ordered']
+                names = ['blocks'] if is_first else ['blocks', 'ordered']
+                fields['profiles'] = names[:: self.step]
             found.append(json.dumps(fields))
         return '\n'.join(found)
 
@@ -205,7 +235,7 @@ class Reports(InFolder):
         def text(are_all: bool = True, **under: int) -> str:
             sets = {name: frozenset((it,) for it in range(count)) for name, count in under.items()}
             most = max(under.values())
-            group = SimpleNamespace(under=sets, tried=sets, count=most)
+            group = SimpleNamespace(states_by_profile=sets, tried_states=sets, count=most)
             found: Any = group
             return profiles_text(found, are_all)
 

@@ -2,13 +2,16 @@
 
 import os
 import sys
+import threading
 import unittest
 from types import SimpleNamespace
 
 from crashfs_tools.checker.states.layout import read_trees
+from crashfs_tools.common.forked_reading import ForkedReading
+from crashfs_tools.common.guard import time_limit
 from crashfs_tools.common.program import BUILT, Crashfs, ProgramFault, program_of_tools
 
-from .support import InFolder
+from .support import EXAMPLES, PATIENCE, InFolder
 
 # An archive whose first block of zeros ends one of the pieces in which tarfile reads, and whose
 # last piece comes late.
@@ -41,11 +44,11 @@ with tarfile.open(fileobj=sys.stdout.buffer, mode='w|', format=tarfile.USTAR_FOR
 class Archives(InFolder):
     def test_an_archive_is_read_to_its_end(self):
         program = self.write('crashfs', f'#!{sys.executable} -S\n{LATE}', 0o755)
-        tree = Crashfs(program).tree('a.trace', 0)
+        tree = Crashfs(program).tree_of_state('a.trace', 0)
         self.assertEqual(list(tree), ['/a'])
 
     def test_an_entry_that_is_in_no_state_is_a_fault_of_the_program(self):
-        request = SimpleNamespace(words=[], lead=0)
+        request = SimpleNamespace(options=[], number_offset=0)
         planned = SimpleNamespace(requests=lambda wanted: [request])
         for name in ('x', '-1', '1_0'):
             program = Crashfs(
@@ -58,6 +61,25 @@ class Archives(InFolder):
                 self.assertEqual(next(trees)[0], 0)
                 with self.assertRaisesRegex(ProgramFault, f"'{name}' is no number of a state"):
                     next(trees)
+
+
+class SecondReading(InFolder):
+    def test_a_fault_that_fills_its_pipe_is_read(self):
+        name = 'n' * (1 << 17)
+        rights = '"owner":"u","group":"g","mode":"644"'
+        line = f'{{"op":"creat","path":"/{name}",{rights}}}'
+        trace = self.write('long.trace', f'{{"trace":1,{rights}}}\n{line}\n')
+        with time_limit(60), self.assertRaises(ProgramFault) as raised:
+            Crashfs.second_reading().output_of(['list', '--trace', trace])
+        self.assertEqual(raised.exception.status, 1)
+        self.assertTrue(raised.exception.text.endswith(f': the path "/{name}"'))
+
+    def test_all_that_is_printed_on_both_outputs_comes_back(self):
+        lines = ''.join(f'{{"op":"say","text":"{number}"}}\n' for number in range(1_000))
+        header = '{"trace":1,"owner":"u","group":"g","mode":"755"}\n'
+        trace = self.write('says.trace', header + lines)
+        listed = Crashfs.second_reading().output_of(['list', '--trace', trace, '--json'])
+        self.assertEqual(listed.count('\n'), 1_000 + 1_001)
 
 
 class Faults(unittest.TestCase):
@@ -95,6 +117,21 @@ class Places(InFolder):
             self.path('src', 'crashfs'),
         ):
             self.assertEqual(program_of_tools(library), built)
+
+
+class Left(unittest.TestCase):
+    """The second reading runs in a fork, and what it printed is read no longer."""
+
+    def test_it_ends_once_nobody_reads(self) -> None:
+        trace = str(EXAMPLES / 'sqlite' / 'full.trace')
+        child = ForkedReading(['tar', '--trace', trace, '--states', '0-80'])
+        self.addCleanup(child.kill)
+        child.stdout.close()
+        child.stderr.close()
+        has_ended = threading.Thread(target=child.wait, daemon=True)
+        has_ended.start()
+        has_ended.join(PATIENCE)
+        self.assertFalse(has_ended.is_alive())
 
 
 if __name__ == '__main__':

@@ -9,7 +9,7 @@ from unittest import mock
 
 from crashfs_tools.checker.states import layout as layouts
 from crashfs_tools.checker.states.layout import Archive, trees_of_small_plan
-from crashfs_tools.checker.states.plan import Planned
+from crashfs_tools.checker.states.plan import PlannedTrace
 from crashfs_tools.common.command import Refused
 from crashfs_tools.common.program import BUILT, Crashfs, ProgramFault
 
@@ -59,18 +59,18 @@ class Starts(Listing):
 
 
 class Archived(Listing):
-    def trees(self, planned: Planned) -> Any:
-        return trees_of_small_plan(Crashfs(FAKE, unproved=True), planned, {})
+    def trees(self, planned: PlannedTrace) -> Any:
+        return trees_of_small_plan(Crashfs(FAKE, is_unproved=True), planned, {})
 
     def test_each_state_of_a_small_plan_has_its_tree(self) -> None:
         planned = self.planned(STORE)
-        program, trees = Crashfs(FAKE, unproved=True), self.trees(planned)
+        program, trees = Crashfs(FAKE, is_unproved=True), self.trees(planned)
         # No program is started for trees that are kept.
         layout = Archive(Crashfs('/none'), planned, self.temporary, {}, trees)
         for state in planned.plan.listed:
             ((number, directory),) = layout.states({state.number})
             (request,) = planned.requests([state.number])
-            ((_, tree),) = program.trees(request.words)
+            ((_, tree),) = program.trees(request.options)
             with layout.laid_out(number, directory):
                 found = {
                     f'/{name}': (os.stat(os.path.join(directory, name)).st_size)

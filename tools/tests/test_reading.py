@@ -6,8 +6,8 @@ import subprocess
 import unittest
 from pathlib import Path
 
-from crashfs_tools.reading import ReadingFault, plan_of, read
-from crashfs_tools.reading.listing import listing
+from crashfs_tools.reading import ReadingFault, make_plan, parse_trace
+from crashfs_tools.reading.listing import plain_listing
 from crashfs_tools.reading.plan import different_places, file_sets, read_picks
 
 from .case_runs import Runner
@@ -32,12 +32,12 @@ def row(name):
 
 
 def listed(text, picks=(), **options):
-    return ''.join(listing(plan_of(read(text.encode()), True, picks), **options))
+    return ''.join(plain_listing(make_plan(parse_trace(text.encode()), True, picks), **options))
 
 
 def fault_of(text):
     try:
-        read(text.encode('utf-8', 'surrogateescape'))
+        parse_trace(text.encode('utf-8', 'surrogateescape'))
     except ReadingFault as fault:
         return str(fault).replace('trace line ', '')
     return None
@@ -54,8 +54,8 @@ class Rows(unittest.TestCase):
         text = text.replace(',"note":"main (kv.py:85)"', '').replace(
             '"trace":3,"profile":"blocks","block":4096', '"trace":1'
         )
-        self.assertEqual(len(plan_of(read(text.encode()), holes=True).states), 25)
-        plan = plan_of(read(text.encode()), True)
+        self.assertEqual(len(make_plan(parse_trace(text.encode()), has_holes=True).states), 25)
+        plan = make_plan(parse_trace(text.encode()), True)
         lacking = [
             name
             for name, places in plan.states
@@ -76,7 +76,7 @@ class Rows(unittest.TestCase):
 
     def test_two_paths_of_a_file_are_two_files_of_a_state(self):
         def contents(name, number):
-            plan = plan_of(read(row(name).encode()), True)
+            plan = make_plan(parse_trace(row(name).encode()), True)
             tree = plan.trees.tree(plan.states[number][1])
             return {path: item.content for path, item in tree.items() if path != '/'}
 
@@ -91,30 +91,32 @@ class Rows(unittest.TestCase):
         self.assertIn('op 1 write_block 0 0 510 4\n', listed(text))
 
     def test_a_change_is_listed_with_the_oldest_path_that_its_file_has(self):
-        text = listed(row('row46.trace'), lines=True)
+        text = listed(row('row46.trace'), has_lines=True)
         self.assertIn('op 3 link_dir_entry /m 0 line 4\n', text)
         self.assertIn('op 6 write_block 0 0 1 1 line 7 /m\n', text)
         renamed = row('row46.trace').replace(
             '{"op":"unlink","path":"/t"}', '{"op":"rename","from":"/t","to":"/z"}'
         )
-        self.assertIn(' line 7 /z\n', listed(renamed, lines=True))
-        text = listed(row('row47.trace'), lines=True)
+        self.assertIn(' line 7 /z\n', listed(renamed, has_lines=True))
+        text = listed(row('row47.trace'), has_lines=True)
         self.assertIn('op 0 write_block 0 0 0 1 line 4 /f\n', text)
 
     def test_a_sync_of_a_range_takes_away_what_it_covers_from_the_files_family(self):
-        sets = list(different_places(file_sets(plan_of(read(row('row45.trace').encode())))))
+        sets = list(
+            different_places(file_sets(make_plan(parse_trace(row('row45.trace').encode()))))
+        )
         self.assertIn([0, 1, 3, 4, 5], sets)
         self.assertNotIn([0, 5], sets)
 
     def test_a_set_of_the_files_family_is_given_once(self):
         """The second write is synced and needs the first, so that both prefixes leave the same."""
-        sets = different_places(file_sets(plan_of(read(NEEDS_LOST.encode()))))
+        sets = different_places(file_sets(make_plan(parse_trace(NEEDS_LOST.encode()))))
         self.assertEqual(list(sets), [[0], [0, 1, 3]])
 
     def test_a_sync_after_a_prefix_has_not_ended_in_it(self):
         text = HEADERS[3] + A + '{"op":"write","path":"/a","offset":0,"text":"row"}\n' + B
         text += '{"op":"fsync","path":"/a"}\n{"op":"say","text":"row"}\n'
-        sets = different_places(file_sets(plan_of(read(text.encode()))))
+        sets = different_places(file_sets(make_plan(parse_trace(text.encode()))))
         self.assertEqual(list(sets), [[0], [0, 3]])
 
 
@@ -146,7 +148,7 @@ class Digests(unittest.TestCase):
         )
         for text in [hidden, alike, *(RandomTrace(3, seed).text() for seed in range(60))]:
             try:
-                plan = plan_of(read(text.encode()), True)
+                plan = make_plan(parse_trace(text.encode()), True)
             except ReadingFault:
                 continue
             trees = [
@@ -220,7 +222,7 @@ class Faults(unittest.TestCase):
             + B
             + ('{"op":"link","from":"/a","to":"/c"}\n' '{"op":"rename","from":"/a","to":"/c"}\n')
         )
-        self.assertEqual(len(read(text.encode()).operations), 3)
+        self.assertEqual(len(parse_trace(text.encode()).operations), 3)
 
     def test_json_is_read_as_strictly_as_the_program_reads_it(self):
         say = HEADERS[1] + '{"op":"say","text":%s}'
@@ -256,10 +258,10 @@ class Faults(unittest.TestCase):
         says = HEADERS[1] + '{"op":"say","text":""}\n' * 1025
         self.assertEqual(fault_of(says), 'too many micro-operations')
         many = HEADERS[1] + A + '{"op":"write","path":"/a","offset":0,"bytes":"00"}\n'
-        self.assertEqual(len(plan_of(read(many.encode()), holes=True).states), 7)
+        self.assertEqual(len(make_plan(parse_trace(many.encode()), has_holes=True).states), 7)
         wide = HEADERS[1] + ''.join(CREAT % f'/{number}' for number in range(200))
         with self.assertRaisesRegex(ReadingFault, '^plan too large$'):
-            plan_of(read(wide.encode()), holes=True)
+            make_plan(parse_trace(wide.encode()), has_holes=True)
 
     def test_picks_are_arrays_of_places(self):
         self.assertEqual(read_picks(b'[0,1]\r\n\n[]\n'), [[0, 1], []])

@@ -1,19 +1,34 @@
 """What goes wrong in a recording: one line says it, and whether a trace is written."""
 
+import errno
 import os
 import signal
 import subprocess
 import sys
+import tempfile
+import time
 import unittest
 from unittest import mock
 
 from crashfs_tools.common import limits, own_faults
 from crashfs_tools.common.guard import Stopped
 from crashfs_tools.recorder import main
-from crashfs_tools.recorder.mapped_files import MAPPED
+from crashfs_tools.recorder.log_stream import LogStream
+from crashfs_tools.recorder.mapped_files import MAPPED, MappedFiles
+from crashfs_tools.recorder.stopped_processes import is_stopped
+from crashfs_tools.recorder.strace_run import StraceRun
 from crashfs_tools.common.trace import Start
 
-from .support import FAKE, TOOLS, as_strace, needs_strace, needs_version_3, recording_of
+from .support import (
+    FAKE,
+    PATIENCE,
+    TOOLS,
+    InFolder,
+    as_strace,
+    needs_strace,
+    needs_version_3,
+    recording_of,
+)
 from .test_record_command import InRecordings
 
 RECORD = str(TOOLS / 'crashfs-record')
@@ -47,10 +62,22 @@ class WithoutStrace(InRecordings):
                 )
                 self.assertFalse(os.path.exists(self.path('out.trace')))
 
+    def test_a_log_whose_last_change_is_before_the_start_is_converted(self):
+        log = [
+            f'7 unlink("{self.path("d")}/old") = 0',
+            '7 write(1<pipe:[7]>, "up\n", 3) = 3',
+            '7 +++ exited with 0 +++',
+        ]
+        self.write('log', ''.join(as_strace(line) + '\n' for line in log))
+        words = ('--no-say', '--begin-after', 'up', '--from-log', 'log')
+        ran = self.run_tool('crashfs-record', *words, 'd', 'out.trace')
+        self.assertEqual(ran.returncode, 0, ran.stderr)
+        self.assertEqual(len(self.read('out.trace').splitlines()), 1)
+
     def fails_in(self, function, error, *words):
         """The status and what is printed if a function fails by a fault of ours."""
         with mock.patch(function, side_effect=error), mock.patch('sys.stderr') as shown:
-            with mock.patch.object(main, 'stop_by_exception'):
+            with mock.patch.object(main, 'raise_on_stop_signals'):
                 status = main.main(['--no-say', '--from-log', self.path('log'), *words])
         return status, ''.join(call.args[0] for call in shown.write.call_args_list)
 
@@ -106,7 +133,7 @@ class WithoutStrace(InRecordings):
             told,
             '/: the start tree leaves out 1 of its files and directories: a trace has 2 at most',
         )
-        self.assertEqual(recording.differing, {'/c'})
+        self.assertEqual(recording.differing_paths, {'/c'})
 
     def test_mappings_of_32_bit_programs_are_known(self):
         line = '7 mmap2(NULL, 4096, PROT_READ|PROT_WRITE, MAP_SHARED, 3</d/f>, 0) = 0xf7000000'
@@ -119,6 +146,81 @@ class WithoutStrace(InRecordings):
                 line = f'{sys.executable} -S {RECORD} --help {closed}'
                 ran = subprocess.run(['sh', '-c', line], check=False, capture_output=True)
                 self.assertEqual(ran.returncode, 0)
+
+
+class Copies(InFolder):
+    """Copies of mapped files that can't be read, or not by their path."""
+
+    def test_an_unlinked_file_is_not_taken_for_the_one_that_has_its_path(self):
+        path = self.write('file', 'old')
+        with open(path, encoding='ascii') as file:
+            os.unlink(path)
+            self.write('file', 'new')
+            shown = f'{file.fileno()}<{path}>(deleted)'
+            line = as_strace(
+                f'{os.getpid()} mmap(NULL, 9, PROT_READ, MAP_SHARED, {shown}, 0) = 0x7'
+            )
+            mapped = MappedFiles(self.folder, lambda path: False)
+            mapped.note_mapping(line, 1)
+            mapped.make_last_copy(2)
+        self.assertEqual(mapped.file_copies.copies[0].bytes_by_number, {0: b'old'})
+
+    def test_a_copy_that_fails_is_raised_at_the_end_and_command_continues(self):
+        mapped = mock.Mock()
+        mapped.copy_changed_files.side_effect = OSError(5, 'Input/output error', 'f')
+        child = subprocess.Popen(['sleep', str(PATIENCE)])
+        self.addCleanup(child.wait)
+        self.addCleanup(child.kill)
+        stream = LogStream(self.folder, None, mapped)
+        stream.start()
+        with open(stream.pipe, 'w', encoding='ascii') as pipe:
+            child.send_signal(signal.SIGSTOP)
+            while not is_stopped(child.pid):
+                time.sleep(0.001)
+            pipe.write(f'{child.pid} --- stopped by SIGSTOP ---\n')
+        with self.assertRaisesRegex(OSError, 'Input/output error'):
+            stream.finish()
+        self.assertFalse(is_stopped(child.pid))
+        mapped.make_last_copy.assert_called_once_with(1)
+
+
+class Descriptors(InFolder):
+    def test_output_that_can_not_be_written_leaves_no_pipe_open(self):
+        reading, writing = os.pipe()
+        self.addCleanup(os.close, reading)
+        os.write(writing, b'a')
+        os.close(writing)
+        ends = os.pipe2(os.O_NONBLOCK | os.O_CLOEXEC)
+        run = StraceRun([], mock.Mock(), mock.Mock(), mock.Mock())
+        with open('/dev/full', 'w', encoding='ascii') as full, mock.patch('sys.stdout', full):
+            with mock.patch('os.pipe2', return_value=ends):
+                with self.assertRaisesRegex(OSError, 'standard output'):
+                    run.copy_output(mock.Mock(), reading)
+        for end in ends:
+            with self.assertRaises(OSError):
+                os.fstat(end)
+
+    def test_a_pipe_that_can_not_be_opened_is_raised_before_the_log_is_awaited(self):
+        stream = LogStream(self.folder, None, None)
+        fault = OSError(errno.EMFILE, 'Too many open files')
+        with mock.patch('os.open', side_effect=fault):
+            with self.assertRaisesRegex(OSError, 'Too many open files'):
+                stream.start()
+
+    def test_a_log_is_read_whole_however_late_it_begins(self):
+        for seconds in (0, 0.2):
+            stream = LogStream(tempfile.mkdtemp(dir=self.folder), None, None)
+            stream.start()
+            time.sleep(seconds)
+            with open(stream.pipe, 'w', encoding='ascii') as pipe:
+                time.sleep(seconds)
+                pipe.write('7 +++ exited with 0 +++\n')
+            self.assertEqual(stream.finish().ended_threads, [7])
+
+    def test_a_log_that_nobody_began_is_empty(self):
+        stream = LogStream(self.folder, None, None)
+        stream.start()
+        self.assertEqual(stream.finish().calls, [])
 
 
 @needs_strace

@@ -77,7 +77,7 @@ class Stops(InRecordings):
         self.wait_until(
             lambda: os.path.exists(self.path('trapped')), 'COMMAND has the signal', child
         )
-        time.sleep(strace_run.SAME_STOP)
+        time.sleep(strace_run.SAME_SIGNAL_SECONDS)
         child.terminate()
         _, err = child.communicate(timeout=PATIENCE)
         self.assertEqual(child.returncode, 3)

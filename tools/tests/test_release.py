@@ -18,8 +18,8 @@ from typing import Dict, Set
 
 from building.order import crates_below, libraries, uses_by_crate
 from crashfs_tools import VERSION
-from releasing.archives import control_of, for_debian, write_package, write_tarball
-from releasing.layout import TOP, Item, Items, items_with
+from releasing.archives import control_text, with_debian_files, write_package, write_tarball
+from releasing.layout import TOP, Item, Items, release_items
 from releasing.linking import kit_version
 from releasing.statements import (
     BUILT,
@@ -87,7 +87,7 @@ class Statements(InFolder):
             },
         )
         plain = Provenance('1', 'c', 'k', SECONDS)
-        self.assertEqual((plain.gate, plain.objects), (NOT_RUN, BUILT))
+        self.assertEqual((plain.gate, plain.object_origin), (NOT_RUN, BUILT))
 
     def test_the_checksums_are_checked_by_sha256sum(self) -> None:
         paths = [Path(self.write(name, name)) for name in ('b', 'a')]
@@ -181,7 +181,7 @@ class Linked(unittest.TestCase):
 @lru_cache(maxsize=1)
 def released() -> Items:
     """The files of a release of a made-up program."""
-    return items_with(PROGRAM, b'built')
+    return release_items(PROGRAM, b'built')
 
 
 @needs_git
@@ -350,7 +350,7 @@ class Archives(InFolder):
             for it in Path(self.path('root', 'usr')).rglob('*')
             if not it.is_dir()
         }
-        self.assertEqual(found, set(for_debian(self.items, '1', SECONDS)))
+        self.assertEqual(found, set(with_debian_files(self.items, '1', SECONDS)))
         subprocess.run(
             ['md5sum', '--quiet', '--check', 'DEBIAN/md5sums'], cwd=self.path('root'), check=True
         )
@@ -359,10 +359,10 @@ class Archives(InFolder):
     def test_the_installed_size_counts_whole_units(self) -> None:
         for sizes, units in (((), 0), ((1,), 1), ((1024,), 1), ((1025, 1), 3)):
             items = {str(at): Item(b'x' * size) for at, size in enumerate(sizes)}
-            self.assertIn(f'\nInstalled-Size: {units}\n', control_of('1', items))
+            self.assertIn(f'\nInstalled-Size: {units}\n', control_text('1', items))
 
     def test_the_package_says_that_there_is_no_licence(self) -> None:
-        items = for_debian(self.items, '1', SECONDS)
+        items = with_debian_files(self.items, '1', SECONDS)
         text = items['share/doc/crashfs/copyright'].content.decode()
         self.assertEqual(items['share/doc/crashfs/changelog.gz'].content[4:8], bytes(4))
         self.assertIn('\nCopyright: 2023 the Bavrikste maintainers\nLicense: none-given\n', text)

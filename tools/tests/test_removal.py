@@ -121,6 +121,20 @@ class Removes(InFolder):
         self.assertEqual(self.read('top.left/other/file'), 'x')
         self.assertEqual(os.listdir(self.path('top.left')), ['other'])
 
+    def test_a_directory_beside_that_is_given_stays_for_later(self):
+        beside = self.path('beside')
+        for name in ('first', 'second'):
+            os.makedirs(self.path(name, 'inner'))
+            self.assertTrue(remove_tree(self.path(name), trash=beside))
+            self.assertEqual(os.listdir(beside), [])
+        self.assertEqual(sorted(os.listdir(self.folder)), ['beside', 'tmp'])
+
+    def test_nothing_is_left_beside_what_can_not_be_moved(self):
+        os.makedirs(self.path('top', 'inner'))
+        with mock.patch.object(os, 'rename', side_effect=OSError(errno.EBUSY, 'mounted')):
+            self.assertFalse(remove_tree(self.path('top')))
+        self.assertEqual(sorted(os.listdir(self.folder)), ['tmp', 'top'])
+
     def test_names_as_long_as_they_may_be_are_removed(self):
         os.makedirs(self.path('top', 'n' * 255, 'm' * 255))
         self.assertTrue(remove_tree(self.path('top')))

@@ -8,10 +8,10 @@ from xml.dom import minidom
 
 from crashfs_tools.checker.findings.groups import Difference
 from crashfs_tools.checker.findings.second_crashes import Recovery
-from crashfs_tools.checker.findings.tree_diff import different_lines, nearest_good
+from crashfs_tools.checker.findings.tree_diff import difference_lines, nearest_good_state
 from crashfs_tools.checker.report.drawing import drawing_of
 from crashfs_tools.checker.report.junit import junit_lines
-from crashfs_tools.checker.report.page import page
+from crashfs_tools.checker.report.page import page_pieces
 from crashfs_tools.checker.report.json_report import json_pieces
 from crashfs_tools.checker.report.tap import tap_lines
 from crashfs_tools.checker.report.text import ReportText
@@ -45,7 +45,7 @@ class Pages(unittest.TestCase):
         return json.loads(re.search(r'const windows = (.*);\n', text)[1])
 
     def test_what_is_shown_is_text(self):
-        text = ''.join(page(odd_report()))
+        text = ''.join(page_pieces(odd_report()))
         self.assertEqual((text.count('<script>'), text.count('</script>')), (1, 1))
         self.assertIn('&lt;b&gt;&amp;', text)
         self.assertNotIn('<file>', text)
@@ -53,11 +53,11 @@ class Pages(unittest.TestCase):
 
     def test_a_name_does_not_end_the_script(self):
         text = HEADER + line('mkdir', '/<') + line('creat', '/</script>')
-        shown = ''.join(page(report_of(text, lambda files, says: '')))
+        shown = ''.join(page_pieces(report_of(text, lambda files, says: '')))
         self.assertEqual(shown.count('</script>'), 1)
 
     def test_an_entry_has_its_sentence_its_lines_and_what_was_printed(self):
-        text = ''.join(page(odd_report()))
+        text = ''.join(page_pieces(odd_report()))
         section = re.search('<section>.*?</section>', text, re.S)[0]
         self.assertIn('the directory / is never synced: fsync it between them', section)
         self.assertIn('first\n&lt;last&gt;', section)
@@ -67,15 +67,15 @@ class Pages(unittest.TestCase):
     def test_each_state_is_drawn_with_its_result(self):
         findings = odd_findings()
         hanging = next(iter(findings.plan.states)).number
-        findings.by_state[hanging] = Outcome(NO_ANSWER)
-        del findings.by_state[findings.plan.states[1].number]
-        (data,) = self.data(''.join(page(reported(findings))))
+        findings.outcomes_by_state[hanging] = Outcome(NO_ANSWER)
+        del findings.outcomes_by_state[findings.plan.states[1].number]
+        (data,) = self.data(''.join(page_pieces(reported(findings))))
         self.assertEqual(data, drawing_of(findings))
         self.assertEqual(data['prefixes'][:2], 'n-')
         signs = data['prefixes'] + ''.join(data['holes'])
         drawn = [one for one in findings.plan.states if one.family != 'pick']
         self.assertEqual(len(signs.replace(' ', '')), len(drawn))
-        found = map(findings.by_state.get, (one.number for one in drawn))
+        found = map(findings.outcomes_by_state.get, (one.number for one in drawn))
         failing = sum(one is not None and one.result == BAD for one in found)
         self.assertEqual(signs.count('b'), failing)
         trials = {one.trial for one in drawn}
@@ -90,7 +90,7 @@ class Pages(unittest.TestCase):
     def test_it_names_the_command_the_version_and_the_date(self):
         report = odd_report()
         report.head.command = ['/bin/check', 'a b', '<i>']
-        text = ''.join(page(report))
+        text = ''.join(page_pieces(report))
         (about,) = re.findall('<p class="about">(.*)</p>', text)
         self.assertIn(
             'COMMAND: /bin/check &#x27;a b&#x27; &#x27;&lt;i&gt;&#x27;; crashfs-check ', about
@@ -105,7 +105,7 @@ class Pages(unittest.TestCase):
         group.outcome = Outcome(BAD, 'lost: \x1b[31m\udcff', '\x1b[31m\n')
         shown = {
             'report': '\n'.join(ReportText(report).lines()),
-            'page': ''.join(page(report)),
+            'page': ''.join(page_pieces(report)),
             'junit': ''.join(junit_lines(report)),
             'tap': ''.join(tap_lines(report)),
             'json': ''.join(json_pieces(report)),
@@ -119,7 +119,7 @@ class Pages(unittest.TestCase):
     def test_what_second_crashes_left_is_shown(self):
         text = HEADER + line('creat', '/a')
         report = report_of(text, lambda files, says: '')
-        before = ''.join(page(report))
+        before = ''.join(page_pieces(report))
         self.assertIn(': none fails</p>', before)
         self.assertNotIn('second crash', before)
         group = odd_findings().groups[0]
@@ -129,7 +129,7 @@ class Pages(unittest.TestCase):
             Recovery(8, fault='its recording took too long'),
         ]
         self.assertEqual(report.status, 1)
-        after = ''.join(page(report))
+        after = ''.join(page_pieces(report))
         (counted,) = re.findall('<p class="summary">(1 recovery.*)</p>', after)
         self.assertEqual(counted, '1 recovery: 5 different states of a second crash, 2 fail')
         (section,) = re.findall('<section><h2>A crash during.*?</section>', after, re.S)
@@ -143,7 +143,7 @@ class Pages(unittest.TestCase):
         text = HEADER + ''.join(line('creat', f'/{number}') for number in range(100))
         report = report_of(text, lambda files, says: 'lost: one' if len(files) == 7 else '')
         self.assertGreater(report.counts.states, 5_000)
-        self.assertLess(len(''.join(page(report))), SIZE)
+        self.assertLess(len(''.join(page_pieces(report))), SIZE)
 
 
 class Differences(unittest.TestCase):
@@ -168,7 +168,7 @@ class Differences(unittest.TestCase):
             '/short': entry(b'abc'),
         }
         self.assertEqual(
-            list(different_lines(failing, good)),
+            list(difference_lines(failing, good)),
             [
                 '/a has 12 bytes in both; at byte 9 "old", in the good state "new"',
                 '/b (0 bytes) is only in the failing state',
@@ -183,11 +183,11 @@ class Differences(unittest.TestCase):
     def test_the_nearest_good_state_lacks_or_has_the_least_beside(self):
         findings = odd_findings()
         group, kept = findings.groups[0], findings.plan.kept
-        good = nearest_good(findings, group)
-        self.assertEqual(findings.by_state[good.number].result, GOOD)
+        good = nearest_good_state(findings, group)
+        self.assertEqual(findings.outcomes_by_state[good.number].result, GOOD)
         far = [
             bin(kept[state] ^ kept[group.example.number]).count('1')
-            for state, one in findings.by_state.items()
+            for state, one in findings.outcomes_by_state.items()
             if one.result == GOOD
         ]
         self.assertEqual(bin(kept[good.number] ^ kept[group.example.number]).count('1'), min(far))
@@ -195,7 +195,7 @@ class Differences(unittest.TestCase):
     def test_equal_files_are_said_to_be_so(self):
         findings = odd_findings()
         findings.groups[0].difference = Difference(3, [])
-        text = ''.join(page(reported(findings)))
+        text = ''.join(page_pieces(reported(findings)))
         self.assertIn('has the same files as state 3, which is good: other lines', text)
         self.assertNotIn('<ul class="differences">', text)
 
@@ -203,7 +203,7 @@ class Differences(unittest.TestCase):
         findings = odd_findings()
         findings.groups[0].difference = Difference(3, ['/<b> is only here'])
         report = reported(findings)
-        text = ''.join(page(report))
+        text = ''.join(page_pieces(report))
         self.assertIn('and state 3, which is good', text)
         self.assertIn('<li>/&lt;b&gt; is only here</li>', text)
         fields = json.loads(''.join(json_pieces(report)))
@@ -213,7 +213,7 @@ class Differences(unittest.TestCase):
 class JUnit(unittest.TestCase):
     def test_there_is_a_case_for_each_entry_and_one_for_the_others(self):
         report = odd_report()
-        report.began -= 8
+        report.begin -= 8
         suite = minidom.parseString(''.join(junit_lines(report))).documentElement
         cases = suite.getElementsByTagName('testcase')
         self.assertEqual(len(cases), len(report.groups()) + 1)
@@ -240,7 +240,7 @@ class JUnit(unittest.TestCase):
         report = odd_report()
         first = report.groups_of_windows[0][0]
         report.groups_of_windows[0] = [
-            replace(first, kept=None, lost=TraceLine(number, f'word {letter}'))
+            replace(first, kept_line=None, lost_line=TraceLine(number, f'word {letter}'))
             for number, letter in enumerate('abc')
         ]
         suite = minidom.parseString(''.join(junit_lines(report))).documentElement

@@ -23,7 +23,7 @@ class Resolves(unittest.TestCase):
         self.resolver = Resolver('/home2/me/d', INSIDE.get, OUTSIDE.get)
 
     def below(self, path: str, follows: bool = False):
-        return self.resolver.path_below(self.resolver.resolve(path, follows))
+        return self.resolver.path_below(self.resolver.resolve(path, follow_last_link=follows))
 
     def test_links_in_the_middle_are_followed(self):
         for path, wanted in (
@@ -55,20 +55,26 @@ class Resolves(unittest.TestCase):
             self.assertEqual((self.below(path), self.below(path, True)), (left, followed), path)
 
     def test_a_link_may_lead_out_and_back(self):
-        self.assertEqual(self.resolver.resolve('/home2/me/d/back/a', False), '/home2/d/s/a')
+        self.assertEqual(
+            self.resolver.resolve('/home2/me/d/back/a', follow_last_link=False), '/home2/d/s/a'
+        )
         self.assertEqual(self.below('/home2/me/d/mid/l/a'), None)
-        self.assertEqual(self.resolver.resolve('/home2/elsewhere/a', False), '/home2/me/d/s/a')
+        self.assertEqual(
+            self.resolver.resolve('/home2/elsewhere/a', follow_last_link=False), '/home2/me/d/s/a'
+        )
 
     def test_links_that_lead_nowhere_end(self):
         for path in ('/home2/me/d/loop/a', '/home2/me/d/one/a', '/home2/me/d/two/'):
-            self.assertIsNone(self.resolver.resolve(path, False))
+            self.assertIsNone(self.resolver.resolve(path, follow_last_link=False))
         self.assertEqual(self.below('/home2/me/d/loop'), '/loop')
         self.assertIsNone(self.below('/home2/me/d/loop', True))
 
     def test_a_directory_that_is_the_root(self):
         resolver = Resolver('/', {'/l': '/s'}.get, {}.get)
         for path, wanted in (('/', '/'), ('/a', '/a'), ('/l/a', '/s/a'), ('/..', '/')):
-            self.assertEqual(resolver.path_below(resolver.resolve(path, False)), wanted)
+            self.assertEqual(
+                resolver.path_below(resolver.resolve(path, follow_last_link=False)), wanted
+            )
 
 
 if __name__ == '__main__':

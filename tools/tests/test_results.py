@@ -13,19 +13,19 @@ from typing import Any, Dict, List, Tuple
 from unittest import mock
 
 from crashfs_tools.common.guard import Stopped
-from crashfs_tools.reading import read
+from crashfs_tools.reading import parse_trace
 from crashfs_tools.reading.every import count_sets
 from crashfs_tools.reading.order import Order
 from inventory.results import results_part, row_cells, table_lines
 from measuring import stores
-from measuring.store_rows import STORES, ResultsFile, disks_of, keys
-from measuring.stores import Check, Session, sessions, version_of
+from measuring.store_rows import STORES, ResultsFile, disk_counts, session_keys
+from measuring.stores import Session, SessionCheck, find_sessions, installed_version
 
 from .support import FAKE, InFolder
 
 # Committed traces are smaller, and those with at most so many sets are counted again.
 MOST_BYTES, MOST_SETS = 150_000, 2_000
-ROWS: List[Dict[str, Any]] = ResultsFile().rows()
+ROWS: List[Dict[str, Any]] = ResultsFile().read_rows()
 # The options of a check that say what is tried besides states.
 DISK_WORDS = ('--time-limit', '--prefixes', '--disks')
 
@@ -51,15 +51,15 @@ def row(**changes: Any) -> Dict[str, Any]:
 
 class Data(unittest.TestCase):
     def test_each_session_has_its_scripts_and_each_row_its_session(self) -> None:
-        for one in sessions([]):
+        for one in find_sessions([]):
             for name in ('record.sh', 'check.sh'):
                 self.assertTrue((one.path / name).exists(), one.key)
-        self.assertLessEqual({one['key'] for one in ROWS}, set(keys()))
-        self.assertEqual(len(keys()), len(set(keys())))
+        self.assertLessEqual({one['key'] for one in ROWS}, set(session_keys()))
+        self.assertEqual(len(session_keys()), len(set(session_keys())))
 
     def test_committed_traces_are_small_and_of_sessions(self) -> None:
         for trace in STORES.glob('*/*.trace'):
-            self.assertIn(f'{trace.parent.name}/{trace.stem}', keys())
+            self.assertIn(f'{trace.parent.name}/{trace.stem}', session_keys())
             self.assertLessEqual(trace.stat().st_size, MOST_BYTES, trace)
 
     def test_states_and_sets_of_small_rows_are_those_of_their_traces(self) -> None:
@@ -67,7 +67,7 @@ class Data(unittest.TestCase):
         for one in ROWS:
             trace = STORES / f'{one["key"]}.trace'
             if one['is_whole'] and one['sets'] <= MOST_SETS and trace.exists():
-                reading = read(trace.read_bytes())
+                reading = parse_trace(trace.read_bytes())
                 order = Order(reading)
                 self.assertEqual(order.count, one['micro_operations'], one['key'])
                 self.assertEqual(count_sets(order), one['sets'], one['key'])
@@ -114,10 +114,12 @@ class Tables(unittest.TestCase):
 class Rows(InFolder):
     def test_results_keep_the_order_of_the_sessions(self) -> None:
         kept = ResultsFile(Path(self.path('results.json')))
-        for key in (keys()[2], keys()[0], keys()[2]):
-            kept.put(row(key=key, tried=len(kept.rows())))
-        self.assertEqual([one['key'] for one in kept.rows()], [keys()[0], keys()[2]])
-        self.assertEqual(kept.rows()[1]['tried'], 2)
+        for key in (session_keys()[2], session_keys()[0], session_keys()[2]):
+            kept.put_row(row(key=key, tried=len(kept.read_rows())))
+        self.assertEqual(
+            [one['key'] for one in kept.read_rows()], [session_keys()[0], session_keys()[2]]
+        )
+        self.assertEqual(kept.read_rows()[1]['tried'], 2)
 
     def test_disks_count_what_is_outside_the_model(self) -> None:
         fields = {
@@ -129,15 +131,15 @@ class Rows(InFolder):
                 ],
             },
         }
-        self.assertEqual(disks_of(fields), {'ext4': {'trees': 3, 'failing': 2, 'outside': 1}})
+        self.assertEqual(disk_counts(fields), {'ext4': {'trees': 3, 'failing': 2, 'outside': 1}})
 
     @unittest.skipIf(shutil.which('yes') is None, 'there is no yes')
     def test_rows_are_what_a_check_says_today(self) -> None:
         for name in ('config/durable', 'config/synced'):
-            (session,) = sessions([name])
+            (session,) = find_sessions([name])
             words = argparse.Namespace(record=False, disks=None, jobs=2, time_limit=None)
-            with mock.patch.object(stores, 'MORE', ['--crashfs', FAKE]):
-                made = Check(session, words, Path(self.path(''))).row()
+            with mock.patch.object(stores, 'MORE_OPTIONS', ['--crashfs', FAKE]):
+                made = SessionCheck(session, words, Path(self.path(''))).make_row()
             (kept,) = (one for one in ROWS if one['key'] == name)
             report, seen = (
                 kept['report'][: len(made['report'])],
@@ -153,20 +155,20 @@ class Rows(InFolder):
 
 class Limited(InFolder):
     def test_disks_have_a_check_of_their_own_if_the_time_for_the_states_is_limited(self) -> None:
-        (session,) = sessions(['config/durable'])
+        (session,) = find_sessions(['config/durable'])
         called: List[List[str]] = []
 
-        def output_of(words: List[str]) -> str:
+        def run_command(words: List[str]) -> str:
             called.append(words)
             if '--json' in words:
                 Path(words[words.index('--json') + 1]).write_text('{"disks":%d}' % len(called))
             return ''
 
         words = argparse.Namespace(record=False, disks='ext4', jobs=1, time_limit='5')
-        with mock.patch.object(stores, 'output_of', side_effect=output_of):
-            with mock.patch.object(stores, 'row_of', return_value=row()):
-                with mock.patch.object(stores, 'disks_of', side_effect=lambda one: one['disks']):
-                    made = Check(session, words, Path(self.path(''))).row()
+        with mock.patch.object(stores, 'run_command', side_effect=run_command):
+            with mock.patch.object(stores, 'row_of_check', return_value=row()):
+                with mock.patch.object(stores, 'disk_counts', side_effect=lambda one: one['disks']):
+                    made = SessionCheck(session, words, Path(self.path(''))).make_row()
         _, first, second = called
         self.assertEqual([word for word in first if word in DISK_WORDS], ['--time-limit'])
         self.assertEqual([word for word in second if word in DISK_WORDS], ['--prefixes', '--disks'])
@@ -177,15 +179,15 @@ class NoRows(unittest.TestCase):
     def measured(self, *words: str) -> Tuple[int, str]:
         """The status of `measure stores`, which has no row to write, and what it says."""
         said = io.StringIO()
-        with contextlib.redirect_stderr(said), mock.patch.object(stores, 'stop_by_exception'):
-            with mock.patch.object(ResultsFile, 'put', side_effect=AssertionError):
+        with contextlib.redirect_stderr(said), mock.patch.object(stores, 'raise_on_stop_signals'):
+            with mock.patch.object(ResultsFile, 'put_row', side_effect=AssertionError):
                 return stores.main(list(words)), said.getvalue()
 
     def test_packages_that_a_session_needs_and_lacks_are_named(self) -> None:
         def version(package: str) -> str:
             return '' if package == 'python3-lmdb' else '1'
 
-        with mock.patch.object(stores, 'version_of', side_effect=version):
+        with mock.patch.object(stores, 'installed_version', side_effect=version):
             status, said = self.measured('lmdb/rows', 'lmdb/new')
         wanted = [
             f'lmdb/{name}: no result: not installed: python3-lmdb' for name in ('rows', 'new')
@@ -195,13 +197,13 @@ class NoRows(unittest.TestCase):
     def test_a_session_that_is_not_recorded_or_checked_has_its_reason(self) -> None:
         for tool, reason in [('record.sh', 'record.sh made no trace'), ('', 'made no report')]:
             words = ['--record'] if tool else []
-            with mock.patch.object(stores, 'output_of', return_value=''):
+            with mock.patch.object(stores, 'run_command', return_value=''):
                 status, said = self.measured(*words, 'config/place')
             self.assertEqual(status, 1)
             self.assertRegex(said, f'^config/place: no result: .*{reason}\n$')
 
     def test_a_stop_is_one_line_and_its_status(self) -> None:
-        with mock.patch.object(stores, 'output_of', side_effect=Stopped(signal.SIGTERM)):
+        with mock.patch.object(stores, 'run_command', side_effect=Stopped(signal.SIGTERM)):
             ended = self.measured('config/place', 'config/rename')
         self.assertEqual(ended, (143, 'measure stores: stopped by SIGTERM\n'))
 
@@ -213,7 +215,7 @@ class NoRows(unittest.TestCase):
 
 class Versions(unittest.TestCase):
     def test_a_package_that_is_not_installed_has_no_version(self) -> None:
-        self.assertEqual(version_of('no-such-package'), '')
+        self.assertEqual(installed_version('no-such-package'), '')
 
     def test_what_debian_adds_is_left_out(self) -> None:
         for given, wanted in [
@@ -223,13 +225,23 @@ class Versions(unittest.TestCase):
         ]:
             ran = mock.Mock(stdout=f'install ok installed {given}'.encode())
             with mock.patch.object(stores.subprocess, 'run', return_value=ran):
-                self.assertEqual(version_of('it'), wanted)
+                self.assertEqual(installed_version('it'), wanted)
+
+    def test_a_package_of_two_architectures_has_one_version(self) -> None:
+        printed = 'deinstall ok config-files 1.1-1\n' + 2 * 'install ok installed 1.2-3\n'
+
+        def run(words: List[str], **_: Any) -> Any:
+            end_of_line = words[words.index('-f') + 1].partition('${Version}')[2]
+            return mock.Mock(stdout=printed.replace('\n', end_of_line).encode())
+
+        with mock.patch.object(stores.subprocess, 'run', run):
+            self.assertEqual(installed_version('it'), '1.2')
 
     def test_sessions_are_chosen_by_folder_or_key(self) -> None:
-        self.assertEqual([one.key for one in sessions(['config/place'])], ['config/place'])
-        self.assertEqual({one.folder for one in sessions(['lmdb'])}, {'lmdb'})
-        self.assertEqual(sessions(['nothing']), [])
-        self.assertIsInstance(sessions([])[0], Session)
+        self.assertEqual([one.key for one in find_sessions(['config/place'])], ['config/place'])
+        self.assertEqual({one.folder for one in find_sessions(['lmdb'])}, {'lmdb'})
+        self.assertEqual(find_sessions(['nothing']), [])
+        self.assertIsInstance(find_sessions([])[0], Session)
 
 
 if __name__ == '__main__':

@@ -7,7 +7,7 @@ import threading
 import unittest
 from unittest import mock
 
-from crashfs_tools.checker.running.recoveries import CommandRecovery
+from crashfs_tools.checker.running.recoveries import CommandRecovery, StandardStreams
 from crashfs_tools.checker.running.runner import (
     BAD,
     GOOD,
@@ -16,6 +16,7 @@ from crashfs_tools.checker.running.runner import (
     CheckEnded,
     Checker,
 )
+from crashfs_tools.common.command import Refused
 
 from .support import FAKE, PATIENCE, TOOLS, InFolder
 from .test_check_command import InStore
@@ -103,6 +104,15 @@ class Runs(InRuns):
                 with self.assertRaises(CheckEnded):
                     self.run_once('sleep 60', life=life)
             os.close(life)
+
+    def test_what_is_gone_is_named_the_program_or_the_file_of_the_lines(self):
+        lines = self.write('lines', '')
+        for program, path, gone in (
+            ('/nowhere/true', lines, '/nowhere/true'),
+            ('/bin/true', self.path('none'), self.path('none')),
+        ):
+            with self.assertRaisesRegex(Refused, f'^{gone}: No such file or directory$'):
+                CommandRecovery([program]).start({}, StandardStreams(path, 1))
 
     def test_the_own_directory_stays(self):
         before = os.getcwd()

@@ -75,7 +75,7 @@ class Clients(Served):
 
     def test_clients_of_states_before_and_after_the_rename_of_a_directory(self) -> None:
         """A trace of version 4: at the end `/t`, with a symbolic link in it, is `/d`."""
-        if PROGRAM is None or not PROGRAM.reads_version(4):
+        if PROGRAM is None or not PROGRAM.can_read_version(4):
             self.skipTest('the program reads no trace of version 4')
         server = self.server('--connections', '2', trace=MOVED)
         for state, there, gone, target in (('0', 't', 'd', 'f'), ('3', 'd', 't', 'x')):

@@ -164,11 +164,12 @@ class LinuxAtOnce(Served):
         self.assertEqual(replies, ['Rwalk', 'Rwalk', 'Rwstat', 'Rerror', 'Rwalk'])
         self.assertIn('0 <- Tremove tag 1 fid 4294967294\n0 -> Rremove tag 1\n', errors)
 
-    def test_a_new_session_has_no_directories_of_the_old_one(self) -> None:
-        words = ['walk 0 5', VERSION, ANN, 'walk 0 1 f', 'wstat 1 name=g,muid=ann', 'walk 0 3 g']
-        *replies, errors = self.at_once(words)
-        self.assertEqual(replies[-1], 'Rwalk')
-        self.assertNotIn(' fid 5 ', errors.partition(VERSION)[2].partition('\n')[2][200:])
+    def test_a_new_session_has_its_own_attach_and_directories(self) -> None:
+        """Its rename finds the directory that was walked to since, as there was one attach."""
+        words = ['walk 0 5', VERSION, ANN, 'walk 0 5', 'walk 0 1 f', 'wstat 1 name=g,muid=ann']
+        *replies, errors = self.at_once([*words, 'walk 0 2 f'])
+        self.assertEqual(replies[-3:], ['Rwalk', 'Rwstat', 'Rerror'])
+        self.assertIn('0 <- Tremove tag 1 fid 4294967294\n0 -> Rremove tag 1\n', errors)
 
 
 @needs_program

@@ -3,7 +3,7 @@
 import random
 import unittest
 
-from crashfs_tools.common.sparse import GAP_BYTES, PAGE_BYTES, SparseBytes, has_many_zeros
+from crashfs_tools.common.sparse import GAP_BYTES, PAGE_BYTES, SparseBytes
 
 
 def change(chance: random.Random, sparse: SparseBytes, whole: bytearray) -> None:
@@ -72,12 +72,6 @@ class Sparse(unittest.TestCase):
         sparse.resize(10)
         sparse.resize(100)
         self.assertEqual(bytes(sparse), b'x' * 10 + bytes(90))
-
-    def test_many_zeros_are_half_of_a_large_files_pages(self):
-        page, zeros = b'x' * PAGE_BYTES, bytes(PAGE_BYTES)
-        self.assertTrue(has_many_zeros((page + zeros) * 8))
-        self.assertFalse(has_many_zeros((page + zeros) * 8 + page))
-        self.assertFalse(has_many_zeros(zeros * 8))
 
 
 if __name__ == '__main__':

@@ -5,14 +5,16 @@ import os
 import shutil
 import subprocess
 import sys
+import tempfile
 import time
 import unittest
+from pathlib import Path
 from typing import Dict
 from unittest import mock
 
 from crashfs_tools.common.trace import Header, Sync, Trace
 from crashfs_tools.common.trace_read import read_trace
-from crashfs_tools.recorder import stacks, summary
+from crashfs_tools.recorder import source_lines, stacks, summary
 from crashfs_tools.recorder.progress import CallProgress
 from crashfs_tools.recorder.strace_run import StraceRun
 from crashfs_tools.recorder.strace_log import read_log
@@ -104,6 +106,16 @@ class Frames(unittest.TestCase):
         (frame,) = stacks.program_frames(['/a/lsm(os.(*File).Write+0x5) [0xc22a9]'])
         self.assertEqual(frame, ('os.(*File).Write', ('/a/lsm', 0xC22A9)))
 
+    def test_a_program_that_is_cut_has_no_parts(self):
+        with open(sys.executable, 'rb') as whole, tempfile.NamedTemporaryFile() as part:
+            self.assertNotEqual(source_lines.read_segments(whole.name), [])
+            for length in (0, 3, 4, 5, 6, 40, 64, 100):
+                with self.subTest(length=length):
+                    whole.seek(0)
+                    part.truncate(0)
+                    os.pwrite(part.fileno(), whole.read(length), 0)
+                    self.assertEqual(source_lines.read_segments(part.name), [])
+
     def test_operations_without_a_note_are_counted(self):
         trace = Trace(Header('u', 'u', 0o755), operations=[Sync(), Sync()], notes={0: 'a.c:1 f'})
         (line,) = summary.lines_on_missing_notes(trace)
@@ -156,9 +168,8 @@ class Stacks(InFolder):
         """The note of each operation."""
         shutil.rmtree(self.path('d'), ignore_errors=True)
         os.mkdir(self.path('d'))
-        ran = self.run_tool(
-            'crashfs-record', '--no-say', '--stacks', 'd', 'out.trace', '--', *command
-        )
+        options = '--no-say', '--stacks', '--keep-log', 'log'
+        ran = self.run_tool('crashfs-record', *options, 'd', 'out.trace', '--', *command)
         self.assertEqual(ran.returncode, 0, ran.stderr)
         self.printed = [line for line in ran.stderr.splitlines() if '--stacks' in line]
         trace = read_trace(self.read('out.trace'))
@@ -191,6 +202,23 @@ class Stacks(InFolder):
                 self.assertRegex(notes['write /f 0 x'], f'^{wanted}')
                 self.assertNotIn('no source line', ''.join(self.printed))
 
+    def test_a_script_s_name_may_be_no_text(self):
+        notes = self.notes(sys.executable, self.write(os.fsdecode(b'k\xff.py'), SCRIPT))
+        self.assertEqual(notes['rename /f /g'], 'k?.py:8 main < k?.py:9 <module>')
+
+    @needs_compiler
+    @needs_addr2line
+    def test_a_program_may_be_in_a_folder_of_any_name(self):
+        for folder in ('\u00e9', os.fsdecode(b'\xff')):
+            with self.subTest(folder):
+                os.mkdir(self.path(folder))
+                program = self.path(folder, 'kv')
+                line = ['cc', '-w', '-g', '-O0', '-o', program, str(PROGRAMS / 'kv.c')]
+                subprocess.run(line, check=True)
+                self.assertRegex(self.notes(program)['write /f 0 x'], f'^{IN_C}')
+                log = Path(self.path('log')).read_bytes()
+                self.assertIn(b' > ' + os.fsencode(program) + b'(', log)
+
     @needs_compiler
     def test_what_has_no_source_line_is_reported(self):
         program = self.path('kv')
@@ -215,7 +243,7 @@ class WhileItRuns(unittest.TestCase):
         for is_terminal in (True, False):
             with mock.patch('sys.stderr', io.StringIO()) as out:
                 out.isatty = lambda: is_terminal
-                progress = StraceRun([], mock.Mock(), mock.Mock(), mock.Mock()).progress()
+                progress = StraceRun([], mock.Mock(), mock.Mock(), mock.Mock()).progress_lines()
             self.assertEqual(isinstance(progress, CallProgress), is_terminal)
 
 

@@ -58,7 +58,7 @@ class Starts(InFolder):
         self.assertEqual(len(self.starts()), 1)
         for number, tree in trees.items():
             self.assertEqual(tree.pop('/').data, None)
-            self.assertEqual(tree, program.tree(self.path('config.trace'), number))
+            self.assertEqual(tree, program.tree_of_state(self.path('config.trace'), number))
         self.assertEqual(set(trees), {0, 3})
 
 

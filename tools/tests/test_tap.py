@@ -36,7 +36,7 @@ def log_report(cause: str = CAUSE) -> CheckReport:
 def known_failures(report: CheckReport) -> AcceptedFailures:
     """The report's first entry as a known failure."""
     entry = report.groups()[0].as_accepted._replace(why='issue #7')
-    return AcceptedFailures('known.json', [entry], datetime.date(2026, 11, 29))
+    return AcceptedFailures([entry], datetime.date(2026, 11, 29))
 
 
 def stopped(report: CheckReport) -> CheckReport:
@@ -76,7 +76,7 @@ class Points(unittest.TestCase):
                 '# lost: the log',
                 *details,
                 f'#   state {group.example.number} of a.trace',
-                f'ok 2 - all other states ({report.counts.good})',
+                f'ok 2 - all other states ({report.counts.good_count})',
             ],
         )
 
@@ -175,6 +175,19 @@ class SecondCrashes(InRecoveries):
             [suite.get(key) for key in ('tests', 'failures')], [f'{tests}', f'{tests - 1}']
         )
         self.assertEqual(suite[0].get('name'), 'lost: a=2 is not there')
+
+    def test_one_that_is_accepted_is_called_so(self) -> None:
+        lines = {'lost': 'write /table', 'kept': 'truncate /log', 'why': 'a reason'}
+        for until, status, words in [
+            ('', 0, 'accepted a reason'),
+            ('2020-01-31', 1, 'accepted until 2020-01-31: a reason (this day has passed)'),
+        ]:
+            known = [{'cause': 'lost: a=2 is not there', **lines, 'until': until}]
+            path = self.write('known.json', json.dumps(known))
+            ran = self.nested('--nested', '2', '--accept', path, '--html', 'r.html')
+            self.assertEqual((ran.returncode, ran.stderr), (status, ''), ran.stdout)
+            self.assertIn(f' --state 4/5\n    {words}\n    state 4, then a crash ', ran.stdout)
+            self.assertIn(f'<li>{words}</li>\n<li>state 4, then', self.read('r.html'))
 
 
 if __name__ == '__main__':

@@ -10,7 +10,7 @@ from typing import List, Tuple
 
 from crashfs_tools.common import limits
 from crashfs_tools.common.program import Crashfs
-from crashfs_tools.reading import plan_of, read
+from crashfs_tools.reading import make_plan, parse_trace
 from crashfs_tools.recorder.directory import scan_directory
 
 from .support import EXAMPLE_TRACES, EXAMPLES, FAKE, InFolder, needed
@@ -81,7 +81,7 @@ class Wanted:
     """The states of a trace, by the second reading."""
 
     def __init__(self, text):
-        self.plan = plan_of(read(text.encode()), holes=True)
+        self.plan = make_plan(parse_trace(text.encode()), has_holes=True)
 
     def __len__(self):
         return len(self.plan.states)
@@ -164,7 +164,7 @@ class Archives(InFolder):
         self.assertGreater(sizes[0], 1_000_000)
 
     def skip_without_version_4(self):
-        if not Crashfs(self.program).reads_version(4):
+        if not Crashfs(self.program).can_read_version(4):
             self.skipTest('the program reads no trace of version 4')
 
     def test_a_file_in_pieces_has_its_long_name_for_python_too(self):

@@ -12,9 +12,9 @@ from typing import Dict, Iterator, List, Optional
 from unittest import mock
 
 from testing import crates, examples, main, tools_tests
-from testing.at_once import Part, parts_at_once, run_parts
-from testing.crates import LEFT_CRATES, LEFT_TESTS, Crate, crates_with_tests
-from testing.examples import EXAMPLES, Files, script_examples, try_examples, try_scripts
+from testing.at_once import Part, most_parts_at_once, run_parts
+from testing.crates import GATE_CRATES, GATE_TESTS, Crate, crates_with_tests
+from testing.examples import EXAMPLES, Files, script_examples, run_examples, run_scripts
 from testing.outcome import Outcome
 
 from .support import InFolder
@@ -25,9 +25,9 @@ OK = 'test tests::a::one ... ok\n'
 
 class Crates(unittest.TestCase):
     def counts(self, printed: str, left: Optional[Dict[str, str]] = None) -> List[int]:
-        found = crates.outcome_of(Crate('low', 2, 9, left or {}), printed)
+        found = crates.parse_outcome(Crate('low', 2, 9, left or {}), printed)
         self.assertEqual(found.output != '', found.failed > 0)
-        return [found.passed, found.failed, len(found.left)]
+        return [found.passed, found.failed, len(found.not_run)]
 
     def test_a_test_that_is_not_named_has_failed(self) -> None:
         self.assertEqual(self.counts(OK + 'test tests::a::two ... ok\n'), [2, 0, 0])
@@ -43,15 +43,17 @@ class Crates(unittest.TestCase):
         self.assertEqual(self.counts(f'test {SLOW} ... FAILED\n', left), [0, 1, 1])
 
     def test_what_passed_is_not_printed(self) -> None:
-        found = crates.outcome_of(Crate('low', 2, 9), OK + 'test tests::a::two ... FAILED\nwhy\n')
+        found = crates.parse_outcome(
+            Crate('low', 2, 9), OK + 'test tests::a::two ... FAILED\nwhy\n'
+        )
         lines = ['low: results of 2 of 2 tests', 'test tests::a::two ... FAILED', 'why']
         self.assertEqual(found.output.splitlines(), lines)
 
     def test_what_is_left_to_the_gate_exists(self) -> None:
         known = {crate.name: crate for crate in crates_with_tests()}
-        self.assertLessEqual(set(LEFT_CRATES), set(known))
-        for name, tests in LEFT_TESTS.items():
-            self.assertEqual(known[name].left, tests)
+        self.assertLessEqual(set(GATE_CRATES), set(known))
+        for name, tests in GATE_TESTS.items():
+            self.assertEqual(known[name].gate_tests, tests)
 
 
 class Tools(unittest.TestCase):
@@ -65,19 +67,20 @@ class Tools(unittest.TestCase):
             ),
             ('Ran 9 tests in 1.2s\n\nFAILED (failures=1, errors=2, skipped=3)\n', 1, (3, 3, 3)),
             ('Ran 1 test in 0.1s\n\nFAILED (unexpected successes=1)\n', 1, (0, 1, 0)),
+            ('Ran 9 tests in 1.2s\n\nOK (skipped=2, expected failures=1)\n', 0, (7, 0, 2)),
             ('ImportError: no such module\n', 1, (0, 1, 0)),
             ('Ran 9 tests in 1.2s\n\nOK\n', 2, (8, 1, 0)),
         ]
         for printed, status, counts in rows:
             with self.subTest(printed):
-                found = tools_tests.outcome_of(printed, status)
+                found = tools_tests.parse_outcome(printed, status)
                 self.assertEqual((found.passed, found.failed, found.skipped), counts)
                 self.assertEqual(found.output, printed if counts[1] else '')
 
     def test_what_is_skipped_is_named_once_with_its_reason(self) -> None:
         line = 'fish is not there: the tests that need it are skipped\n'
-        found = tools_tests.outcome_of(f'{line}{line}Ran 3 tests in 1s\n\nOK (skipped=2)\n', 0)
-        self.assertEqual(found.left, ['2 tests of the tools: fish is not there'])
+        found = tools_tests.parse_outcome(f'{line}{line}Ran 3 tests in 1s\n\nOK (skipped=2)\n', 0)
+        self.assertEqual(found.not_run, ['2 tests of the tools: fish is not there'])
 
 
 FAKE_RT = """#!/bin/sh
@@ -98,7 +101,7 @@ class Examples(InFolder):
         path = f'{self.folder}:{os.environ["PATH"]}'
         files, names = next(iter(script_examples().items()))
         with mock.patch.dict(os.environ, PATH=path):
-            return try_scripts(files, names)
+            return run_scripts(files, names)
 
     def test_each_script_has_its_files(self) -> None:
         self.assertEqual(
@@ -129,23 +132,23 @@ class Examples(InFolder):
 
     def test_without_a_program_the_lists_are_those_of_the_second_reading(self) -> None:
         with mock.patch.object(examples.Crashfs, 'find', return_value=None):
-            alone, with_rt = try_examples(False), try_examples(True)
-        self.assertEqual((alone.passed, alone.failed, len(alone.left)), (2, 0, 1))
-        self.assertEqual((with_rt.passed, with_rt.failed, with_rt.left), (2, 0, []))
-        self.assertIn('4 examples', alone.left[0])
+            alone, with_rt = run_examples(False), run_examples(True)
+        self.assertEqual((alone.passed, alone.failed, len(alone.not_run)), (2, 0, 1))
+        self.assertEqual((with_rt.passed, with_rt.failed, with_rt.not_run), (2, 0, []))
+        self.assertIn('4 examples', alone.not_run[0])
 
     def test_with_a_program_it_prints_all_examples(self) -> None:
         path = self.write('crashfs', '#!/bin/sh\necho another list\n', 0o755)
         with mock.patch.object(examples.Crashfs, 'find', return_value=examples.Crashfs(path)):
-            found = try_examples(False)
-        self.assertEqual((found.passed, found.failed, found.left), (0, 6, []))
+            found = run_examples(False)
+        self.assertEqual((found.passed, found.failed, found.not_run), (0, 6, []))
 
 
 class AtOnce(unittest.TestCase):
     def test_there_is_a_place_for_each_processor_that_has_memory(self) -> None:
         rows = [(4, 24, 4), (4, 7.5, 2), (4, 1, 1), (1, 100, 1), (2, 6, 2)]
         for processors, gigabytes, count in rows:
-            self.assertEqual(parts_at_once(processors, gigabytes), count)
+            self.assertEqual(most_parts_at_once(processors, gigabytes), count)
 
     def test_parts_run_at_once_and_each_has_its_outcome(self) -> None:
         both = threading.Barrier(2)
@@ -174,18 +177,18 @@ class Main(unittest.TestCase):
     def run_main(self, found: List[Outcome], rt: Optional[str]) -> List[str]:
         """The lines that the command prints for these outcomes, and its status."""
 
-        def all_outcomes(has_rt: bool, count: int) -> Iterator[Outcome]:
+        def run_all_parts(has_rt: bool, count: int) -> Iterator[Outcome]:
             return iter(found)
 
         printed, errors = io.StringIO(), io.StringIO()
-        with mock.patch.object(main, 'all_outcomes', all_outcomes), mock.patch.object(
+        with mock.patch.object(main, 'run_all_parts', run_all_parts), mock.patch.object(
             main.shutil, 'which', return_value=rt
         ), mock.patch('sys.argv', ['test']), redirect_stdout(printed), redirect_stderr(errors):
             status = main.main()
         return [*printed.getvalue().splitlines(), str(status)]
 
     def test_the_last_line_counts_all(self) -> None:
-        lines = self.run_main([Outcome('a', 2), Outcome('b', 3, left=['one: why'])], 'rt')
+        lines = self.run_main([Outcome('a', 2), Outcome('b', 3, not_run=['one: why'])], 'rt')
         self.assertEqual(lines[:2], ['a: 2 passed, 0 s', 'b: 3 passed, 0 s'])
         self.assertIn('not run: one: why', lines)
         self.assertTrue(any('cs_growth_tests' in line for line in lines))

@@ -11,8 +11,8 @@ import threading
 import unittest
 from typing import List
 
-from gating.provers import Prover, ancestors, kind_of_work, provers_below
-from gating.times import Share, Shares, add_sample, sample_until_end, table_of
+from gating.provers import Prover, process_and_ancestors, kind_of_work, provers_below
+from gating.times import Share, Shares, add_sample, sample_until_end, format_table
 
 from .support import PATIENCE, TOOLS, InFolder
 
@@ -39,15 +39,15 @@ class Sums(unittest.TestCase):
             self.assertEqual(kind_of_work(words, folder), kind)
 
     def test_ancestors_end_where_no_more_are_known(self) -> None:
-        self.assertEqual(list(ancestors(3, {3: 2, 2: 1, 1: 0})), [3, 2, 1])
-        self.assertEqual(list(ancestors(4, {3: 2})), [])
+        self.assertEqual(list(process_and_ancestors(3, {3: 2, 2: 1, 1: 0})), [3, 2, 1])
+        self.assertEqual(list(process_and_ancestors(4, {3: 2})), [])
 
     def test_the_table_sums_by_crate_and_the_largest_is_first(self) -> None:
         shares: Shares = {}
         add_sample(shares, [[prover(1, 2.0)], [prover(2, 1.0, 'b')]], 12.0)
         add_sample(shares, [[prover(1, 4.0), prover(3, 1.0)], [prover(4, 9.0, 'b', 'edits')]], 16.0)
         self.assertEqual(
-            table_of(shares, 60.0).splitlines(),
+            format_table(shares, 60.0).splitlines(),
             [
                 'crate\tproof\ttests\tedits\tprograms\tall\tlongest wall\tmost MB',
                 'b\t1\t0\t9\t0\t10\t6\t5',

@@ -2,15 +2,18 @@
 
 import unittest
 
+from crashfs_tools.checker.findings.advice import torn_advice
 from crashfs_tools.checker.findings.torn import kept_part
 from crashfs_tools.checker.states.read_plan import read_plan
+from crashfs_tools.common.trace_lines import TraceLine
 
-from .test_groups import THIRD, line, plan_text, write
+from .test_groups import THIRD, line, plan_text, rename, write
 
 
 class KeptPart(unittest.TestCase):
-    def plan(self, *writes):
-        text = THIRD + line('creat', '/f') + ''.join(writes)
+    def plan(self, *writes, version=3):
+        header = THIRD.replace('"trace":3', f'"trace":{version}')
+        text = header + line('creat', '/f') + ''.join(writes)
         return read_plan(plan_text(text, picks=False))
 
     def test_a_file_that_grows_has_its_length_or_some_of_its_bytes(self):
@@ -32,6 +35,39 @@ class KeptPart(unittest.TestCase):
         plan = self.plan(write('/f', 'x' * 8192), write('/f', 'y' * 4096, 2048))
         self.assertEqual(
             kept_part(plan, 0b011111, 4), 'bytes 0 to 2,047 of its 4,096, not bytes 2,048 to 4,095'
+        )
+
+    def test_in_version_4_a_file_may_grow_in_part(self):
+        plan = self.plan(write('/f', 'x'), write('/f', 'y' * 9000, 1), version=4)
+        for places, wanted in [
+            ([3], 'a part of its length, not its bytes or the rest of its length'),
+            (
+                [3, 5],
+                'a part of its length and bytes 0 to 4,094 of its 9,000, not bytes 4,095 to 8,999 '
+                'or the rest of its length',
+            ),
+            ([3, 5, 6, 7], 'a part of its length and its bytes, not the rest of its length'),
+            ([5], 'bytes 0 to 4,094 of its 9,000, not bytes 4,095 to 8,999 or its length'),
+            ([5, 6, 7], 'its bytes, not its length'),
+            ([3, 4], 'its length, not its bytes (zeros)'),
+        ]:
+            kept = sum(1 << place for place in [0, 1, 2, *places])
+            self.assertEqual(kept_part(plan, kept, 4), wanted)
+
+    def test_in_version_4_a_truncate_and_a_rename_have_parts(self):
+        cut = line('truncate', '/f', length=100)
+        plan = self.plan(write('/f', 'x' * 9000), cut, version=4)
+        zeros = 'the zeros after its new end'
+        self.assertEqual(kept_part(plan, 0b0111111, 4), f'{zeros}, not its length')
+        self.assertEqual(kept_part(plan, 0b1011111, 4), f'its length, not {zeros}')
+        plan = self.plan(line('mkdir', '/d'), rename('/f', '/d/f'), version=4)
+        self.assertEqual(kept_part(plan, 0b0111, 4), 'both names')
+        self.assertEqual(
+            torn_advice(TraceLine(4, 'rename', '/f', '/d/f'), 'both names').lines(),
+            [
+                'line 4 (rename /f to /d/f) was torn: a crash kept both names',
+                'no sync helps: a rename within one directory is one change',
+            ],
         )
 
 

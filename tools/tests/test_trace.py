@@ -20,15 +20,15 @@ from crashfs_tools.common.trace import (
     Start,
     StartLink,
     Trace,
-    TraceError,
     Truncate,
     Unlink,
     Write,
 )
-from crashfs_tools.common.trace_read import read_trace, replay
-from crashfs_tools.common.trace_lines import read_text
+from crashfs_tools.common.trace_fields import TraceError
+from crashfs_tools.common.trace_read import read_trace, tree_at_end
+from crashfs_tools.common.trace_lines import parse_trace_text
 from crashfs_tools.common.tree import Tree
-from crashfs_tools.recorder.comparison import ByProgram, Replayed, lines_on_differences
+from crashfs_tools.recorder.comparison import ProgramReader, ReplayReader, lines_on_differences
 from crashfs_tools.recorder.directory import Scan
 
 from .support import EXAMPLES, FAKE, InFolder
@@ -116,17 +116,17 @@ class Traces(unittest.TestCase):
             self.assertEqual('\n'.join(read_trace(text).lines()) + '\n', text)
 
     def test_two_paths_of_a_file_are_one_file(self):
-        tree = replay(LINKED.split('\n'))
+        tree = tree_at_end(LINKED.split('\n'))
         self.assertEqual(sorted(tree.entries), ['/', '/d', '/d/f', '/h'])
         self.assertEqual(tree.entries['/d/f'].data, b'\xc3\xa9 "\n'.ljust(4094, b'\0') + b'a\0\0')
         self.assertIs(tree.entries['/d/f'], tree.entries['/h'])
         # A size and a block, a size and two blocks, a say, a link, an unlink, and no rename.
         self.assertEqual((tree.micro_operations, tree.records), (8, 5))
-        small = replay(LINKED.replace('4096', '512').split('\n'))
+        small = tree_at_end(LINKED.replace('4096', '512').split('\n'))
         self.assertEqual(small.micro_operations, 8)
 
     def test_files_with_holes_and_symbolic_links_are_below_a_renamed_directory(self):
-        tree = replay(MOVED.split('\n'))
+        tree = tree_at_end(MOVED.split('\n'))
         self.assertEqual(sorted(tree.entries), ['/', '/e', '/e/f', '/e/g', '/e/l', '/m'])
         data = tree.entries['/e/f'].data
         self.assertEqual(
@@ -162,7 +162,7 @@ class Traces(unittest.TestCase):
             (1, limits.FILE_BYTES, 'fsync_range /a, 16,777,216 bytes at 1'),
             (0, 4096, 'fsync_range /a, 4,096 bytes at 0'),
         ]:
-            (found,) = read_text(line % (offset, length)).operations.values()
+            (found,) = parse_trace_text(line % (offset, length)).operations.values()
             self.assertEqual(found.text, shown)
 
     def test_what_is_no_trace_is_refused_with_its_line(self):
@@ -189,22 +189,24 @@ class Traces(unittest.TestCase):
     def test_a_replay_refuses_what_the_tree_has_not(self):
         text = LINKED + '{"op":"unlink","path":"/nothing"}\n'
         with self.assertRaisesRegex(ValueError, f'^line {text.count(chr(10))}: '):
-            replay(text.split('\n'))
+            tree_at_end(text.split('\n'))
         with self.assertRaises(TraceError):
-            replay([])
+            tree_at_end([])
 
     def test_the_micro_operations_are_as_many_as_the_program_lists(self):
         listed = example('store.list').count('op ')
-        self.assertEqual(replay(example('store.trace').split('\n')).micro_operations, listed)
+        self.assertEqual(tree_at_end(example('store.trace').split('\n')).micro_operations, listed)
 
     def test_the_last_state_is_that_of_the_last_prefix(self):
         for name in EXAMPLE_TRACES:
             path = str(EXAMPLES / name)
-            self.assertEqual(Replayed().entries(path), ByProgram(Crashfs(FAKE)).entries(path))
+            self.assertEqual(
+                ReplayReader().read_entries(path), ProgramReader(Crashfs(FAKE)).read_entries(path)
+            )
 
     def test_modes_and_owners_are_counted_where_they_change(self):
         again = RIGHTS + '{"op":"chmod","path":"/b","mode":"600"}\n'
-        tree = replay(again.split('\n'))
+        tree = tree_at_end(again.split('\n'))
         self.assertEqual(tree.micro_operations, 4)
         entry = tree.entries['/b']
         self.assertEqual((entry.owner, entry.group, entry.mode), ('bob', 'staff', 0o600))
@@ -239,7 +241,7 @@ class Traces(unittest.TestCase):
             with self.subTest(operation):
                 self.assertIn(told, tree.fault(operation) or 'no fault')
         self.assertIsNone(tree.fault(Write('/d/f', limits.FILE_BYTES - 1, b'x')))
-        self.assertEqual(tree.new_fault(deep), f'{deep[:-2]} is no directory of the trace')
+        self.assertEqual(tree.creation_fault(deep), f'{deep[:-2]} is no directory of the trace')
 
     def test_the_root_is_never_removed_renamed_or_replaced(self):
         for version, operation in [
@@ -258,13 +260,13 @@ class Traces(unittest.TestCase):
                     self.assertIsNotNone(tree.fault(operation))
         for root in ('{"op":"rmdir","path":"/"}', '{"op":"rename","from":"/","to":"/a"}'):
             with self.assertRaisesRegex(ValueError, '^line 2: / is the root$'):
-                replay([MOVED.split('\n', maxsplit=1)[0], root])
+                tree_at_end([MOVED.split('\n', maxsplit=1)[0], root])
 
     def test_differences_are_reported_but_for_paths_that_are_reported_already(self):
         def scan(*entries: Start) -> Scan:
             return Scan(Header('u', 'u', 0o755), list(entries))
 
-        last = Replayed().entries(str(EXAMPLES / 'store.trace'))
+        last = ReplayReader().read_entries(str(EXAMPLES / 'store.trace'))
         self.assertEqual(sorted(last), ['/log', '/table'])
         log = Start('/log', 'kv', 'kv', 0o640, b'')
         table = Start('/table', 'kv', 'kv', 0o640, b'a=2\n')
@@ -304,7 +306,7 @@ class Fake(InFolder):
             (8, {'b': ('ann', 0o600)}),
         ]:
             words = ['--trace', trace, '--holes', '--state', str(state)]
-            with self.subTest(state), Crashfs(FAKE).archive(words) as members:
+            with self.subTest(state), Crashfs(FAKE).open_archive(words) as members:
                 found = {path: (one.owner, one.mode) for path, one in members if path}
                 self.assertEqual(found, wanted)
 

@@ -4,11 +4,12 @@ from __future__ import annotations
 
 import unittest
 
-from crashfs_tools.common.trace import Creat, Say, TraceError, fields_of_lines
-from crashfs_tools.common.trace_read import read_numbered
+from crashfs_tools.common.trace import Creat, Say
+from crashfs_tools.common.trace_fields import TraceError, parse_lines
+from crashfs_tools.common.trace_read import read_trace_with_numbers
 from crashfs_tools.common.trace_lines import (
     is_large_trace,
-    read_text,
+    parse_trace_text,
     root_owner,
     with_syncs,
     without_says,
@@ -23,17 +24,17 @@ TEXT = f'\n{HEADER}\n \t\n{CREAT}\r\n{SAY}\n\n'
 
 class Lines(unittest.TestCase):
     def test_lines_keep_their_numbers(self) -> None:
-        numbers = [number for number, _ in fields_of_lines(TEXT.split('\n'))]
+        numbers = [number for number, _ in parse_lines(TEXT.split('\n'))]
         self.assertEqual(numbers, [2, 4, 5])
 
     def test_a_line_that_is_no_json_is_named(self) -> None:
         with self.assertRaisesRegex(TraceError, r'^line 2 is no line of a trace \(Expecting'):
-            list(fields_of_lines(['{}', 'x']))
+            list(parse_lines(['{}', 'x']))
         with self.assertRaisesRegex(TraceError, r'^line 1 is no line of a trace \(maximum'):
-            list(fields_of_lines(['[' * 200_000]))
+            list(parse_lines(['[' * 200_000]))
 
     def test_operations_are_in_words_and_acknowledged_texts_are_whole(self) -> None:
-        read = read_text(TEXT)
+        read = parse_trace_text(TEXT)
         self.assertEqual(
             {number: line.text for number, line in read.operations.items()},
             {4: 'creat /a', 5: f'say "{40 * "x"}.."'},
@@ -44,7 +45,7 @@ class Lines(unittest.TestCase):
         self.assertEqual(root_owner(TEXT.split('\n')), 'ann')
 
     def test_each_operation_has_the_number_of_its_line(self) -> None:
-        trace, numbers = read_numbered(TEXT)
+        trace, numbers = read_trace_with_numbers(TEXT)
         self.assertEqual(trace.operations, [Creat('/a', 'u', 'u', 0o644), Say('x' * 50)])
         self.assertEqual(numbers, [4, 5])
 

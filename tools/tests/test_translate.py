@@ -3,6 +3,8 @@
 import unittest
 from unittest import mock
 
+from crashfs_tools.common.trace import Start
+
 from .support import needs_version_3, operations_of, recording_of, short
 from .translated_calls import CASES, FILE, OPEN_F
 from .translated_syncs import SYNCS
@@ -88,6 +90,71 @@ class Calls(unittest.TestCase):
             '1 openat(AT_FDCWD</d>, "a", O_WRONLY|O_CREAT, 0666) = 3</d/a>',
         ]
         self.assertEqual(recording_of(log).trace.operations[0].mode, 0o640)
+
+
+class WorkingDirectories(unittest.TestCase):
+    """A process stays in its working directory when that is renamed."""
+
+    def assert_operations(self, log, wanted, start=(), ignored=None):
+        recording = recording_of(log, start, ignored)
+        self.assertEqual([short(one) for one in recording.trace.operations], wanted)
+        return [str(one) for one in recording.troubles]
+
+    def test_a_directory_that_is_renamed_away_takes_its_processes_along(self):
+        for rename, paths_back in (
+            ('rename("/d/o", "/out/p")', ('/d/o', '../../d/o')),
+            ('renameat2(AT_FDCWD</d/o>, "../o", AT_FDCWD</d/o>, "../../out/p", 0)', ('../../d/o',)),
+            ('rename("../o", "../p.tmp")', ('../o',)),
+        ):
+            for path_back in paths_back:
+                log = [
+                    '1 mkdir("o", 0755) = 0',
+                    '1 chdir("o") = 0',
+                    f'1 {rename} = 0',
+                    '1 mkdir("/d/o", 0755) = 0',
+                    '1 mkdir("sub", 0755) = 0',
+                    '1 rmdir("sub") = 0',
+                    f'1 rmdir("{path_back}") = 0',
+                ]
+                with self.subTest(rename, back=path_back):
+                    wanted = ['mkdir /o', 'rmdir /o', 'mkdir /o', 'rmdir /o']
+                    troubles = self.assert_operations(
+                        log, wanted, [], lambda path: path.endswith('.tmp')
+                    )
+                    self.assertEqual(troubles, [])
+
+    def test_a_process_below_a_directory_that_is_renamed_away_goes_along(self):
+        start = [Start('/o', 'u', 'u', 0o755, None), Start('/o/p', 'u', 'u', 0o755, None)]
+        log = [
+            '1 chdir("o/p") = 0',
+            '1 rename("/d/o", "/out/o") = 0',
+            '1 mkdir("../../x", 0755) = 0',
+            '1 mkdir("/d/y", 0755) = 0',
+        ]
+        self.assertEqual(
+            self.assert_operations(log, ['mkdir /y'], start),
+            ['/o: a directory with entries was renamed out of the directory (after line 3)'],
+        )
+
+    def test_exchanged_directories_take_their_processes_along(self):
+        start = [Start(path, 'u', 'u', 0o755, None) for path in ('/a', '/b', '/b/c')]
+        for first, second, wanted in (
+            ('/d/a', '/d/b/c', ['mkdir /b/x', 'mkdir /x']),
+            ('/d/b/c', '/d/a', ['mkdir /x', 'mkdir /b/x']),
+            ('/d/a', '/out/c', ['mkdir /x']),
+            ('/out/c', '/d/b/c', ['mkdir /b/x']),
+        ):
+            log = [
+                f'1 chdir("{first}") = 0',
+                '1 clone(child_stack=NULL, flags=SIGCHLD) = 2',
+                f'2 chdir("{second}") = 0',
+                f'1 renameat2(AT_FDCWD</d>, "{first}", AT_FDCWD</d>, "{second}", RENAME_EXCHANGE)'
+                ' = 0',
+                '1 mkdir("../x", 0755) = 0',
+                '2 mkdir("../x", 0755) = 0',
+            ]
+            with self.subTest(first, second=second):
+                self.assertNotEqual(self.assert_operations(log, wanted, start), [])
 
 
 if __name__ == '__main__':

@@ -101,6 +101,16 @@ class Version4(unittest.TestCase):
         tree.apply(Truncate('/d/f', 1))
         self.assertEqual((tree.micro_operations, tree.steps_of_version_4), (1, 8))
 
+    def test_renames_before_the_version_changes_are_records_of_it(self) -> None:
+        tree = tree_4('blocks')
+        tree.version = 3
+        for operation in (Rename('/d/f', '/e/f'), Rename('/e/f', '/e/g'), Link('/e/g', '/d/f')):
+            tree.apply(operation)
+        self.assertEqual(tree.records, 6)
+        tree.version = 4
+        self.assertEqual(tree.records, 7)
+        self.assertEqual(sorted(set(tree.files.values())), [0, 1, 2, 3, 4])
+
     def test_what_a_trace_cant_have(self) -> None:
         for operation, fault in [
             (Rename('/d', '/d/x'), '/d/x is below /d'),

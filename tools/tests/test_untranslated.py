@@ -25,6 +25,11 @@ TROUBLES: List[Tuple[str, List[str], List[str]]] = [
         FILE,
         [OPEN_F, '1 fallocate(3</d/f>, FALLOC_FL_INSERT_RANGE, 0, 4096) = 0'],
     ),
+    (
+        '/: a process whose parent is not in the log',
+        [],
+        ['1 chdir("/d") = 0', '3 clone(child_stack=NULL, flags=SIGCHLD) = 3'],
+    ),
     ('/: io_submit: what is done by it is not in the log', [], ['1 io_submit(0x7f, 1, [{}]) = 1']),
     (
         '/f: a file of O_TMPFILE that was synced before it had this name',
@@ -116,6 +121,10 @@ TROUBLES: List[Tuple[str, List[str], List[str]]] = [
             ('/l', 'symlink("f", "l") = ?'),
             ('/l', 'symlinkat("f", AT_FDCWD</d>, "l") = ?'),
             ('/f', 'truncate("f", 1) = ?'),
+            ('/n', 'openat(AT_FDCWD</d>, "n", O_WRONLY|O_CREAT, 0666) = ?'),
+            ('/n', 'openat2(5</d>, "n", {flags=O_RDWR|O_CREAT, mode=0600}, 24) = ?'),
+            ('/f', 'open("f", O_WRONLY|O_TRUNC <unfinished ...>) = ?'),
+            ('/f', 'creat("f", 0666) = ?'),
             ('/f', 'fchownat(5</d/f>, "", 1, 1, AT_EMPTY_PATH) = ?'),
             ('/f', 'copy_file_range(5</etc/a>, NULL, 6</d/f>, NULL, 9, 0) = ?'),
         )
@@ -175,6 +184,34 @@ TROUBLES: List[Tuple[str, List[str], List[str]]] = [
         [],
         ['1 openat(AT_FDCWD</d>, "a", O_RDONLY) = 3</d/a>'],
     ),
+    (
+        '/l: a symbolic link whose target is not in the log was made',
+        [],
+        ['1 symlink("abc"..., "l") = 0'],
+    ),
+    (
+        '/f: writev: its bytes are not in the log; its later',
+        FILE,
+        [OPEN_F, '1 writev(3</d/f>, [{iov_base="a", iov_len=1}, ...], 40) = 40'],
+    ),
+    (
+        '/f: a file of O_TMPFILE whose bytes are not in the log',
+        [],
+        [
+            '1 openat(AT_FDCWD</d>, ".", O_RDWR|O_TMPFILE, 0644) = 3</d/#7>(deleted)',
+            '1 sendfile(3</d/#7>(deleted), 4</etc/a>, NULL, 5) = 5',
+            '1 linkat(3</d/#7>(deleted), "", AT_FDCWD</d>, "f", AT_EMPTY_PATH) = 0',
+        ],
+    ),
+    (
+        '/f: ftruncate is left out: a file of more than 16777216 bytes',
+        FILE,
+        [
+            OPEN_F,
+            '1 ftruncate(3</d/f>, 1099511627776000) = 0',
+            '1 fallocate(3</d/f>, FALLOC_FL_KEEP_SIZE|FALLOC_FL_PUNCH_HOLE, 0, 99999999999999) = 0',
+        ],
+    ),
 ]
 
 
@@ -210,6 +247,13 @@ NOTES: List[Tuple[str, List[str], List[str]]] = [
         [OPEN_F, '1 sync_file_range2(3</d/f>, SYNC_FILE_RANGE_WRITE, 0, 0) = 0'],
     ),
     ('/f: it gets the mode bits 4000, beyond 777', FILE, ['1 chmod("f", 04644) = 0']),
+    ('/s: it gets the mode bits 1000, beyond 777', [], ['1 mkdir("s", 03777) = 0']),
+    ('/f: it gets the mode bits 2000, beyond 777', [], ['1 mknod("f", S_IFREG|02644) = 0']),
+    (
+        '/f: it gets the mode bits 6000, beyond 777',
+        [],
+        ['1 openat(AT_FDCWD</d>, "f", O_WRONLY|O_CREAT, 06755) = 3</d/f>'],
+    ),
     (
         '/f: sync_file_range: it promises nothing of a crash, and is left out (after line 2, '
         '2 times)',
@@ -249,9 +293,40 @@ class Troubles(unittest.TestCase):
             self.assertEqual([one.where for one in recording.troubles], ['/s'])
             self.assertEqual(recording.trace.operations, [])
 
+    def test_a_cut_open_that_changes_nothing_is_not_reported(self):
+        for line in (
+            'openat(AT_FDCWD</d>, "f", O_WRONLY|O_CREAT, 0666) = ?',
+            'openat(AT_FDCWD</d>, "f", O_RDONLY) = ?',
+            'openat(AT_FDCWD</d>, "n", O_RDONLY) = ?',
+            'openat(AT_FDCWD</d>, "n", O_WRONLY|O_TRUNC) = ?',
+            'openat(AT_FDCWD</d>, ".", O_RDWR|O_TMPFILE, 0600) = ?',
+            'openat(AT_FDCWD</d>, "/etc/n", O_WRONLY|O_CREAT, 0666) = ?',
+        ):
+            with self.subTest(line):
+                self.assertEqual(list(recording_of(['1 ' + line], FILE).troubles), [])
+
+    def test_a_cut_open_of_a_link_names_the_file(self):
+        link = StartSymlink('/l', 'u', 'u', 'f')
+        for flags, wanted in (('', ['/f']), ('|O_NOFOLLOW', [])):
+            line = f'1 openat(AT_FDCWD</d>, "l", O_WRONLY|O_TRUNC{flags}) = ?'
+            recording = recording_of([line], [*FILE, link])
+            self.assertEqual([one.where for one in recording.troubles], wanted)
+
+    def test_an_open_whose_path_strace_cut_is_reported_if_it_may_change_a_file(self):
+        for line, wanted in (
+            ('openat(AT_FDCWD</d>, "f"..., O_RDWR|O_TRUNC) = 3', ['/']),
+            ('creat(0x7fff0000, 0666) = 3', ['/']),
+            ('openat(AT_FDCWD</d>, "f"..., O_RDWR) = 3', []),
+            ('openat(AT_FDCWD</d>, "/etc/n", O_RDWR|O_CREAT, 0666) = 3', []),
+            ('openat(AT_FDCWD</d>, "f"..., O_RDWR|O_CREAT, 0666) = 3</d/f>', []),
+        ):
+            with self.subTest(line):
+                recording = recording_of(['1 ' + line], FILE)
+                self.assertEqual([one.where for one in recording.troubles], wanted)
+
     def test_both_names_of_a_cut_rename_may_differ_at_the_end(self):
         recording = recording_of(['1 rename("f", "b") = ?'], FILE)
-        self.assertEqual(recording.differing, {'/b'})
+        self.assertEqual(recording.differing_paths, {'/b'})
 
 
 if __name__ == '__main__':

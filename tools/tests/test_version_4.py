@@ -9,21 +9,21 @@ import unittest
 from functools import lru_cache
 from typing import Dict, Iterator, List, Tuple
 
-from crashfs_tools.reading import Reading, ReadingFault, plan_of, read
-from crashfs_tools.reading.classes import Classes
+from crashfs_tools.reading import Reading, ReadingFault, make_plan, parse_trace
+from crashfs_tools.reading.classes import SetClasses
 from crashfs_tools.reading.every import count_sets, every_set
 from crashfs_tools.reading.micro import (
     ChangeSize,
     CreateEntry,
     DeleteEntry,
     LinkEntry,
-    Micro,
+    MicroOperation,
     MoveEntry,
     SetRights,
     WriteBlock,
 )
 from crashfs_tools.reading.names import DIRECTORY, Inode
-from crashfs_tools.reading.order import Order, Profiles, order_in, profile_names
+from crashfs_tools.reading.order import Order, Profiles, order_under, profile_names
 from crashfs_tools.reading.place_sets import places_of
 from crashfs_tools.reading.states import States
 
@@ -45,10 +45,10 @@ def readings(version: int) -> List[Tuple[str, Reading]]:
     for seed in range(TRACES):
         text = RandomTrace(version, seed).text()
         try:
-            found.append((text, read(text.encode())))
+            found.append((text, parse_trace(text.encode())))
         except ReadingFault:
             text = text[: text[:-1].rindex('\n') + 1]
-            found.append((text, read(text.encode())))
+            found.append((text, parse_trace(text.encode())))
     return found
 
 
@@ -89,8 +89,8 @@ class Rules(unittest.TestCase):
         for reading, members in small_ones():
             profiles = Profiles(reading)
             for name in ('blocks', 'ordered', 'journal'):
-                wanted = [one for one in members if name in profiles.names(one)]
-                order = order_in(reading, name)
+                wanted = [one for one in members if name in profiles.names_allowing(one)]
+                order = order_under(reading, name)
                 self.assertEqual(list(every_set(order)), wanted)
                 self.assertEqual(count_sets(order), len(wanted))
                 halves += len(order.units)
@@ -105,24 +105,24 @@ class ByHand:
         self.rights = {Inode(DIRECTORY, it): one for it, one in reading.start_rights.items()}
         self.data: Dict[int, bytearray] = {}
         self.sizes: Dict[int, int] = {}
-        for file, data in reading.made_data.items():
-            self.data[file], self.sizes[file] = bytearray(data.whole()), data.length
+        for file, data in reading.initial_data.items():
+            self.data[file], self.sizes[file] = bytearray(data.all_bytes()), data.length
         kinds = {node.number: node for node in reading.start.values() if node.kind != DIRECTORY}
         for operation in reading.operations:
             if isinstance(operation, CreateEntry) and operation.node.kind != DIRECTORY:
                 kinds[operation.node.number] = operation.node
         self.files = kinds
-        for file, rights in reading.made_rights.items():
+        for file, rights in reading.initial_rights.items():
             self.rights[kinds[file]] = rights
 
-    def do(self, operation: Micro) -> None:
+    def do(self, operation: MicroOperation) -> None:
         if isinstance(operation, CreateEntry):
             assert operation.entries[0] not in self.entries
             self.entries[operation.entries[0]] = operation.node
             self.rights[operation.node] = operation.rights
         elif isinstance(operation, LinkEntry):
             there = self.entries.get(operation.entries[0])
-            assert there is None or operation.half == 1 and there.kind != DIRECTORY
+            assert there is None or operation.rename_half == 1 and there.kind != DIRECTORY
             self.entries[operation.entries[0]] = operation.node
         elif isinstance(operation, DeleteEntry):
             assert self.entries.pop(operation.entries[0]) == operation.node
@@ -130,8 +130,8 @@ class ByHand:
         elif isinstance(operation, MoveEntry):
             self.move(operation)
         elif isinstance(operation, SetRights):
-            node = Inode(DIRECTORY, operation.directory or 0)
-            file = operation.file
+            node = Inode(DIRECTORY, operation.directory_number or 0)
+            file = operation.file_number
             self.rights[node if file is None else self.files[file]] = operation.rights
         else:
             self.change(operation)
@@ -147,18 +147,18 @@ class ByHand:
     def has_entries(self, directory: Inode) -> bool:
         return any(number == directory.number for number, _ in self.entries)
 
-    def change(self, operation: Micro) -> None:
-        if operation.file is None:
+    def change(self, operation: MicroOperation) -> None:
+        if operation.file_number is None:
             return
-        data = self.data.setdefault(operation.file, bytearray())
+        data = self.data.setdefault(operation.file_number, bytearray())
         if isinstance(operation, ChangeSize):
-            if operation.length < self.sizes.get(operation.file, 0):
+            if operation.length < self.sizes.get(operation.file_number, 0):
                 del data[operation.length :]
-            self.sizes[operation.file] = operation.length
+            self.sizes[operation.file_number] = operation.length
         elif isinstance(operation, WriteBlock):
-            end = operation.begin + len(operation.data)
+            end = operation.file_offset + len(operation.data)
             data.extend(bytes(max(0, end - len(data))))
-            data[operation.begin : end] = operation.data
+            data[operation.file_offset : end] = operation.data
 
     def tree(self) -> Dict[str, Shown]:
         """Each entry by the path that leads up from it to the root: all have one."""
@@ -216,7 +216,7 @@ class Trees(unittest.TestCase):
             for places in members:
                 tree = repr(shown_tree(states, places)), states.count_says(places)
                 seen.setdefault(tree, places)
-            found = list(Classes(reading, Order(reading)).different())
+            found = list(SetClasses(reading, Order(reading)).different_sets())
             self.assertEqual(found, list(seen.values()))
             different += len(found)
         self.assertGreater(different, 2000)
@@ -230,7 +230,7 @@ class OnADirectory(InFolder):
             top = self.path(str(number))
             for line in text.splitlines():
                 Calls(top).do(json.loads(line))
-            plan = plan_of(reading)
+            plan = make_plan(reading)
             wanted = {
                 path: (kind, mode if kind != 'symlink' else '777', data)
                 for path, (kind, _, _, mode, data) in shown_tree(
@@ -244,7 +244,7 @@ class OnADirectory(InFolder):
         for seed in range(TRACES):
             text = RandomTrace(4, seed).text()
             try:
-                read(text.encode())
+                parse_trace(text.encode())
             except ReadingFault:
                 refused += 1
                 *lines, last = text.splitlines()

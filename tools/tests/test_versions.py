@@ -7,9 +7,10 @@ import unittest
 from typing import Optional
 
 from crashfs_tools.common.entry import Entry
+from crashfs_tools.common.trace import Truncate
 from crashfs_tools.recorder.comparison import entry_differences
 
-from .support import TOOLS, needs_strace, recording_of
+from .support import FAKE, TOOLS, needs_strace, recording_of
 from .test_record_command import InRecordings
 from .translated_calls import FILE, IN_DIRECTORY, OPEN_F
 
@@ -123,6 +124,17 @@ class Versions(InRecordings):
         self.assertIn('the trace has version 4 (--trace-version 4): ', ran.stderr)
         self.assertEqual(self.operations()[-1], '{"op":"fdatasync","path":"/old"}')
 
+    def test_the_program_is_asked_for_large_files_in_pieces(self):
+        log = self.path('log')
+        lines = f'#!/bin/sh\necho "$1 $2" >> {log}\nexec {FAKE} "$@"\n'
+        program = self.write('program', lines, 0o755)
+        for script, wanted in (('truncate -s 17M new', 'tar --sparse'), ('rm new', 'tar --trace')):
+            self.write('log', '')
+            ran = self.record(script, '--crashfs', program)
+            self.assertIn('its last state equals the directory (by crashfs tar)', ran.stderr)
+            self.assertIn(f'{wanted}\n', self.read('log'))
+            self.write('d/new', '')
+
     def test_the_profile_journal_needs_version_4(self):
         ran = self.record('echo 2 > new', '--profile', 'journal')
         self.assertEqual(ran.returncode, 0, ran.stderr)
@@ -181,10 +193,25 @@ class Needs(unittest.TestCase):
             with self.subTest(lines):
                 self.assertEqual(version_of(lines, start), 3)
 
+    def test_what_the_trace_lacks_needs_no_version_4(self):
+        name = 'n' * 256
+        for line in (f'symlink("a", "{name}") = 0', f'rename("s", "{name}") = 0'):
+            recording = recording_of(['1 ' + line], IN_DIRECTORY)
+            self.assertTrue(list(recording.troubles), line)
+            found = recording.trace.version, recording.tree.version, recording.newest_version_reason
+            self.assertEqual(found, (3, 3, ''), line)
+        self.assertFalse(recording.add_operation(Truncate('/none', 1 << 25)))
+        self.assertEqual(recording.trace.version, 3)
+        # What is in the trace by then keeps its version, and the reason.
+        self.assertTrue(recording.add_operation(Truncate('/s/f', 1 << 25)))
+        self.assertFalse(recording.add_operation(Truncate('/none', 1 << 25)))
+        self.assertEqual(recording.trace.version, 4)
+        self.assertIn('/s/f has more than', recording.newest_version_reason)
+
     def test_the_first_thing_that_needs_version_4_is_named(self):
         lines = ['1 symlink("a", "l") = 0', '1 rename("s", "t") = 0']
         recording = recording_of(lines, IN_DIRECTORY)
-        self.assertEqual(recording.new_version, '/l is a symbolic link')
+        self.assertEqual(recording.newest_version_reason, '/l is a symbolic link')
         self.assertEqual((recording.trace.version, recording.tree.version), (4, 4))
 
 

@@ -10,7 +10,7 @@ from crashfs_tools.checker.report.report import CheckReport
 from crashfs_tools.checker.report.text import ReportText
 from crashfs_tools.checker.running.results import Head, Results, known_states
 from crashfs_tools.checker.states.place_sets import places_of
-from crashfs_tools.checker.states.plan import Offsets, Planned
+from crashfs_tools.checker.states.plan import Offsets, PlannedTrace
 from crashfs_tools.checker.states.planning import Planner
 from crashfs_tools.checker.states.read_plan import read_plan
 from crashfs_tools.checker.states.steps import Session, Steps
@@ -18,8 +18,8 @@ from crashfs_tools.checker.states.windows import Windows
 from crashfs_tools.common import limits
 from crashfs_tools.common.command import Refused
 from crashfs_tools.common.program import ProgramFault
-from crashfs_tools.common.trace_lines import read_text
-from crashfs_tools.reading import ReadingFault, plan_of, read
+from crashfs_tools.common.trace_lines import parse_trace_text
+from crashfs_tools.reading import ReadingFault, make_plan, parse_trace
 from crashfs_tools.reading.listing import json_listing
 from crashfs_tools.reading.main import read_options
 from crashfs_tools.reading.plan import different_places, file_sets, lost_sets, read_picks
@@ -66,17 +66,17 @@ def log_of(count):
 class Reader:
     """The second reading in this process, in the place of the program."""
 
-    unproved = True
+    is_unproved = True
 
     @staticmethod
     def plan(options):
         with open(options['--trace'], 'rb') as file:
-            reading = read(file.read())
+            reading = parse_trace(file.read())
         picks = []
         if '--picks' in options:
             with open(options['--picks'], 'rb') as file:
                 picks = read_picks(file.read())
-        return plan_of(reading, '--holes' in options, picks)
+        return make_plan(reading, '--holes' in options, picks)
 
     def output_of(self, words, _environment=None):
         """What the program would print."""
@@ -90,7 +90,7 @@ class Reader:
         family = lost_sets if '--lost' in options else file_sets
         return ''.join(f'{places}\n' for places in different_places(family(plan)))
 
-    def whole_tree(self, words, _environment=None):
+    def tree_with_root(self, words, _environment=None):
         options = read_options(['tar', *words])
         plan = self.plan(options)
         tree = plan.trees.tree(plan.states[int(options['--state'])][1])
@@ -116,7 +116,7 @@ class InWindows(InStore):
         results = []
         for planned in windows.all_planned():
             known = known_states(results[-1].plan, planned.plan) if results else {}
-            results.append(Results(planned.plan, known=known))
+            results.append(Results(planned.plan, numbers_before=known))
         for name in os.listdir(self.temporary):
             os.unlink(os.path.join(self.temporary, name))
         return windows, results
@@ -133,7 +133,7 @@ class Tried(InWindows):
             for seed in range(4):
                 text = RandomTrace(version, seed).text()
                 try:
-                    read(text.encode())
+                    parse_trace(text.encode())
                 except ReadingFault:
                     continue  # Its last line has a fault.
                 yield f'{version} {seed}', text
@@ -141,7 +141,7 @@ class Tried(InWindows):
     def test_states_are_those_of_the_session_and_all_that_lie_within_a_window(self):
         windows = 0
         for name, text in self.sessions():
-            whole = read_plan(''.join(json_listing(plan_of(read(text.encode()), True))))
+            whole = read_plan(''.join(json_listing(make_plan(parse_trace(text.encode()), True))))
             with self.subTest(name):
                 _, results = self.windows(text, 5, quick=True)
                 windows += len(results)
@@ -151,7 +151,7 @@ class Tried(InWindows):
                     tried |= {
                         one.plan.kept[state.number] << one.plan.first_place
                         | (1 << one.plan.first_place) - 1
-                        for state in one.own
+                        for state in one.own_states
                     }
                     self.assert_all_within(one.plan, whole)
                 self.assertLessEqual(tried, {whole.kept[state.number] for state in whole.states})
@@ -180,11 +180,11 @@ class Tried(InWindows):
 
     def test_picks_are_allowed_sets_of_the_session(self):
         for name, text in self.sessions():
-            whole = read_plan(''.join(json_listing(plan_of(read(text.encode()), True))))
+            whole = read_plan(''.join(json_listing(make_plan(parse_trace(text.encode()), True))))
             with self.subTest(name):
                 for one in self.windows(text, 7)[1]:
                     lead = (1 << one.plan.first_place) - 1
-                    for state in one.own:
+                    for state in one.own_states:
                         kept = one.plan.kept[state.number] << one.plan.first_place | lead
                         self.assertTrue(whole.needs.is_allowed(kept), list(places_of(kept)))
 
@@ -206,11 +206,11 @@ class Tried(InWindows):
         sets = [
             one.plan.kept[state.number] << one.plan.first_place | (1 << one.plan.first_place) - 1
             for one in results
-            for state in one.own
+            for state in one.own_states
             if state.family != 'pick'
         ]
         self.assertEqual(len(sets), len(set(sets)))
-        self.assertTrue(any(one.known for one in results[1:]))
+        self.assertTrue(any(one.numbers_before for one in results[1:]))
 
 
 class Cuts(InWindows):
@@ -236,7 +236,7 @@ class Cuts(InWindows):
             [(one.line, one.tried) for one in windows.cut_off[:5]],
             [(2, 7), (3, 6), (4, 5), (5, 4), (6, 7)],
         )
-        lines = read_text(text).operations
+        lines = parse_trace_text(text).operations
         report = CheckReport(Head('a', '', [], lines=lines, cut_off=[(2, 7), (3, 6)]))
         self.assertEqual(
             ReportText(report).lines()[1:],
@@ -259,7 +259,7 @@ class Cuts(InWindows):
         windows = self.made(log_of(4), 8)
         steps, probe = Steps(windows.session), os.path.join(self.temporary, 'probe')
         refuse = mock.Mock(side_effect=Refused)
-        with mock.patch.multiple(windows.planner, has_few_states=refuse, prefix_plan=refuse):
+        with mock.patch.multiple(windows.planner, has_few_states=refuse, plan_prefixes=refuse):
             for ask in (
                 lambda: windows.has_few_states(steps, 3),
                 lambda: windows.needs_with_probe(probe, log_of(4)),
@@ -296,9 +296,9 @@ class Cuts(InWindows):
         text = HEADER + creat('/a') + write('/a', 5) + write('/a', 300 * 4096, 100)
         text += write('/a', 130 * 4096, 3)
         session = Session('a', text)
-        whole = read_plan(''.join(json_listing(plan_of(read(text.encode())))))
+        whole = read_plan(''.join(json_listing(make_plan(parse_trace(text.encode())))))
         cut, lines = Steps(session).trace_until(len(session.steps))
-        plan = read_plan(''.join(json_listing(plan_of(read(cut.encode())))))
+        plan = read_plan(''.join(json_listing(make_plan(parse_trace(cut.encode())))))
         self.assertEqual(
             [(one.text, lines[one.line - 1]) for one in plan.operations],
             [(one.text, one.line) for one in whole.operations],
@@ -312,14 +312,14 @@ class Shown(InWindows):
     def test_progress_says_which_part_of_the_session_it_is(self):
         _, results = self.windows(log_of(12), 9)
         planned = [
-            Planned('', [], one.plan, Offsets(operations=one.plan.first_place), is_last)
+            PlannedTrace('', [], one.plan, Offsets(operations=one.plan.first_place), is_last)
             for one, is_last in ((results[0], False), (results[1], True))
         ]
         self.assertEqual(
-            [one.part_text() for one in planned],
+            [one.window_text() for one in planned],
             ['micro-operations 0 to 8: ', 'micro-operations 9 to 17: '],
         )
-        self.assertEqual(Planned('', [], results[0].plan).part_text(), '')
+        self.assertEqual(PlannedTrace('', [], results[0].plan).window_text(), '')
 
 
 class Limits(InWindows):
@@ -336,7 +336,7 @@ class Limits(InWindows):
     def test_a_window_has_no_more_states_than_a_plan_takes(self):
         text = HEADER + ''.join(creat(f'/{number}') for number in range(200))
         with self.assertRaisesRegex(ReadingFault, 'plan too large'):
-            plan_of(read(text.encode()), True)
+            make_plan(parse_trace(text.encode()), True)
         _, (window, *_) = self.windows(text, limits.MICRO_OPERATIONS, quick=True)
         self.assertLessEqual(len(window.plan.listed), limits.STATES)
         self.assertGreater(len(window.plan.operations), 170)

@@ -4,6 +4,12 @@
 import json
 import re
 import unittest
+from unittest import mock
+
+from crashfs_tools.checker import checking
+from crashfs_tools.checker.options import Options
+from crashfs_tools.checker.running.progress import Progress
+from crashfs_tools.common.guard import Guard
 
 from .support import FAKE
 from .test_windows import InWindows, log_of, said, sync
@@ -71,6 +77,32 @@ class Reports(InWindows):
         self.assertEqual(ran.returncode, 1, ran.stderr)
         untried = re.sub(' *tried: .*\n', '', whole.stdout)
         self.assertEqual(ran.stdout, untried)
+
+    def test_if_one_shard_has_all_windows_nothing_comes_after_them(self):
+        for part, words in ((1, ['--fail-fast']), (2, [])):
+            json_file = f'{part}.json'
+            words += ['--shard', f'{part}/2', '--json', json_file]
+            self.check('--window', '12', *words, self.trace)
+        for names in (('1.json', '2.json'), ('2.json', '1.json')):
+            ran = self.run_tool('crashfs-check', '--merge', *names)
+            first = ran.stdout.splitlines()[0]
+            self.assertRegex(first, r' in 4 windows, .*; [0-9,]+ not tried \(stopped by the first')
+            self.assertNotIn('micro-operation ', first)
+
+    def test_what_is_saved_in_between_says_whether_the_session_goes_on(self):
+        saved = []
+        options = Options(self.trace, [self.command], jobs=1, unproved=True, json='r.json')
+        options.window, options.prefixes = 12, True
+        with mock.patch.multiple(
+            checking,
+            SAVE_SECONDS=0,
+            write_whole_file=lambda _, pieces, __: saved.append(json.loads(''.join(pieces))),
+        ):
+            with Guard('crashfs-check', may_reap=False) as guard:
+                checking.check_trace(options, guard, Progress(None))
+        found = {len(one['windows']): one['has_rest'] for one in saved}
+        self.assertGreater(len(found), 2)
+        self.assertEqual(found, {count: count < max(found) for count in range(1, len(found) + 1)})
 
     def test_a_stopped_check_goes_on_in_its_window(self):
         whole = self.check('--window', '12', self.trace)

@@ -4,6 +4,28 @@ from .translated_calls import FILE, IN_DIRECTORY, OPEN_F, TWO_FILES
 
 SYNCS = [
     (
+        'a sync of everything covers the mode of a directory',
+        IN_DIRECTORY,
+        [
+            '1 openat(AT_FDCWD</d>, "s", O_RDONLY|O_DIRECTORY) = 4</d/s>',
+            '1 fchmod(4</d/s>, 0700) = 0',
+            '1 sync() = 0',
+            '1 fdatasync(4</d/s>) = 0',
+        ],
+        ['chmod /s 700', 'sync', 'fsync /s'],
+    ),
+    (
+        'what is moved over a mapping unmaps it, though it is not followed itself',
+        FILE,
+        [
+            OPEN_F,
+            '1 mmap(NULL, 5, PROT_READ, MAP_SHARED, 3</d/f>, 0) = 0x20000',
+            '1 mremap(0x10000, 4096, 4096, MREMAP_MAYMOVE|MREMAP_FIXED, 0x20000) = 0x20000',
+            '1 msync(0x20000, 4096, MS_SYNC) = 0',
+        ],
+        [],
+    ),
+    (
         'a copy inside the kernel has the bytes of its source',
         TWO_FILES,
         [

@@ -9,7 +9,7 @@ from pathlib import Path
 from typing import Callable, List, Optional, Sequence, Union
 
 from crashfs_tools.checker.checking import check_trace
-from crashfs_tools.checker.options import NAME, TIMEOUT, Options, processors
+from crashfs_tools.checker.options import NAME, TIMEOUT, Options, processor_count
 from crashfs_tools.checker.running.progress import Progress
 from crashfs_tools.common.command import Refused
 from crashfs_tools.common.guard import Guard
@@ -40,38 +40,57 @@ def check(
     crashfs: Optional[PathLike] = None,
     unproved: bool = False,
 ) -> Report:
-    """Runs a recovery in the crash states of a trace, and returns the report.
+    """Runs a recovery in the crash states of a trace, and returns the report. No progress is shown.
 
-    recovery is a function (RecoveryOf), or a command: a list of words, or a text that is one
-    program. A command runs in a directory that has the files as the crash left them, with the
+    recovery is a function (RecoveryOf), or a command: a list of words, not empty, or a text that is
+    one program. A command runs in a directory that has the files as the crash left them, with the
     acknowledged lines on its standard input. A function is called in a fork of this process.
 
-    The options are those of crashfs-check. time_limit needs the main thread; once it has passed,
-    the report has what was tried. Refused is raised for bad input, and if the recovery fails though
-    nothing is lost. Any other fault is raised too, and then there is no report."""
+    The options are those of crashfs-check. jobs is one for each processor by default; every goes
+    with no families, prefixes or quick; fail_fast ends the check at an accepted failure too.
+    time_limit needs the main thread, and takes SIGALRM, whose handler it replaces, and its timer;
+    once it has passed, the report has what was tried.
+
+    Refused is raised for bad input, and if the recovery fails though nothing is lost. Any other
+    fault is raised too, and then there is no report."""
     options = Options(os.fspath(trace), every=every, families=families, prefixes=prefixes)
     options.quick, options.profile, options.unproved = quick, profile, unproved
-    options.jobs, options.nested, options.fail_fast = jobs or processors(), nested, fail_fast
+    options.jobs, options.nested, options.fail_fast = jobs or processor_count(), nested, fail_fast
     options.time_limit, options.timeout = time_limit, timeout
-    options.crashfs, options.accept, options.cache = map(path_of, (crashfs, accept, cache))
+    options.crashfs, options.accept, options.cache = map(path_text, (crashfs, accept, cache))
     options.json = options.html = '-'  # The report keeps what they need; nothing is written.
     set_recovery(options, recovery)
+    return run_check(options)
+
+
+def run_check(options: Options) -> Report:
+    """Runs a check with these options, which have their recovery, and returns its report. An
+    exception that ends the check before it has a report is raised; Refused as in
+    refuse_every_with_families()."""
+    refuse_every_with_families(options)
     with Guard(NAME, may_reap=False) as guard:
         checked = check_trace(options, guard, Progress(io.StringIO()), has_states=True)
-    if checked.end is not None:
-        raise checked.end.__cause__ or checked.end
+    if checked.exception is not None:
+        raise checked.exception.__cause__ or checked.exception
     return Report(checked.report, checked.mode)
 
 
-def path_of(path: Optional[PathLike]) -> Optional[str]:
-    """A path as text; None stays None."""
+def path_text(path: Optional[PathLike]) -> Optional[str]:
+    """A path as text; None for None."""
     return None if path is None else os.fspath(path)
+
+
+def refuse_every_with_families(options: Options) -> None:
+    """Refused if the options have `every` but ask only for families of states, which don't go
+    together."""
+    if options.every is not None and not options.has_every:
+        raise Refused('every goes with no families, prefixes or quick')
 
 
 def set_recovery(options: Options, recovery: Union[RecoveryOf, Sequence[str]]) -> None:
     """Writes a recovery into the options: a list of words, or a text that is one program, as
-    COMMAND; a function as one that gets its directory as a Path. Refused for a function with the
-    options nested or cache, which need a command."""
+    COMMAND; a function as one that gets its directory as a Path. Refused for a function if the
+    options have nested or cache, which need a command: set these before."""
     if isinstance(recovery, Sequence):
         options.command = [recovery] if isinstance(recovery, str) else list(recovery)
         return
@@ -82,7 +101,7 @@ def set_recovery(options: Options, recovery: Union[RecoveryOf, Sequence[str]]) -
 
     @functools.wraps(function)
     def call(directory: str, lines: List[str]) -> object:
-        """Calls the function with the directory as a Path; what it raises is passed on."""
+        """Calls the function with the directory as a Path. What it raises passes."""
         return function(Path(directory), lines)
 
     options.function = call

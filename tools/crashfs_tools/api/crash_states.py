@@ -14,13 +14,13 @@ from crashfs_tools.checker.checking import refuse_unreadable
 from crashfs_tools.checker.options import NAME, Options
 from crashfs_tools.checker.running.results import Results, known_states
 from crashfs_tools.checker.states.layout import lay_out
-from crashfs_tools.checker.states.plan import Plan, Planned
+from crashfs_tools.checker.states.plan import Plan, PlannedTrace
 from crashfs_tools.common.entry import Entries
 from crashfs_tools.common.guard import Guard
 from crashfs_tools.common.program import Crashfs
 from crashfs_tools.common.removal import remove_tree
 
-from .checks import path_of
+from .checks import path_text, refuse_every_with_families
 from .reports import PathLike
 
 
@@ -39,7 +39,8 @@ class CrashState:
     def laid_out(self) -> Iterator[Path]:
         """Lays the state out in a new temporary directory, and yields its path. Modes are those of
         the state, but all belongs to this process's user. The directory is removed at the end of
-        the `with`, whatever was done in it; each use makes a new one."""
+        the `with`, whatever was done in it, except what is mounted there; each use makes a new one.
+        OSError if it can't be made. The umask of the process is 0 while it is filled."""
         folder = tempfile.mkdtemp(prefix='crashfs-state-')
         try:
             directory = os.path.join(folder, str(self.number))
@@ -49,8 +50,9 @@ class CrashState:
             remove_tree(folder)
 
     def files(self) -> Dict[str, bytes]:
-        """The bytes of each file, by its path below the directory, without a slash in front.
-        Directories and symbolic links are left out."""
+        """A copy of the bytes of each file, whole, also of one that is mostly zeros, by its path
+        below the directory, without a slash in front. Directories and symbolic links are left
+        out."""
         return {
             path.lstrip('/'): bytes(entry.data)
             for path, entry in self.tree.items()
@@ -69,31 +71,40 @@ def states(
     crashfs: Optional[PathLike] = None,
     unproved: bool = False,
 ) -> Iterator[CrashState]:
-    """Yields each different crash state of a trace: those that crashfs-check lists by these
-    options, also if it would try only some of them to save time. Nothing is read, and nothing
-    raised, before the first state is asked for. Then Refused for a trace that can't be read or has
-    a fault."""
+    """Yields each different crash state of a trace, ascending by number: those that crashfs-check
+    lists by these options, also if it would try only some of them to save time.
+
+    Nothing is read, and nothing raised, before the first state is asked for: then Refused for a
+    trace that can't be read or has a fault, for an unknown profile, or for every with families,
+    prefixes or quick. ProgramFault or PlanError if `crashfs` fails. Temporary files stay until the
+    last state is passed, or the iterator is closed."""
     options = Options(os.fspath(trace), every=every, families=families, prefixes=prefixes)
     options.quick, options.profile = quick, profile
-    options.crashfs, options.unproved = path_of(crashfs), unproved
+    options.crashfs, options.unproved = path_text(crashfs), unproved
+    refuse_every_with_families(options)
     refuse_unreadable(os.fspath(trace))
-    program = Crashfs.program_or_reading(options.crashfs, unproved)
+    program = Crashfs.find_or_second_reading(options.crashfs, unproved)
     with Guard(NAME, may_reap=False) as guard:
         checked = CheckedTrace(options, program, guard)
         before: Optional[Plan] = None
         for planned in checked.all_planned():
-            known = known_states(before, planned.plan) if before else {}
-            yield from states_of(checked, planned, Results(planned.plan, known=known))
+            numbers_before = known_states(before, planned.plan) if before else {}
+            yield from states_of_window(
+                checked, planned, Results(planned.plan, numbers_before=numbers_before)
+            )
             before = planned.plan
 
 
-def states_of(checked: CheckedTrace, planned: Planned, results: Results) -> Iterator[CrashState]:
-    """The states of one window that its results would try, each with its files, ascending: of equal
-    states one, and none that the window before has. ProgramFault if `crashfs` fails."""
+def states_of_window(
+    checked: CheckedTrace, planned: PlannedTrace, results: Results
+) -> Iterator[CrashState]:
+    """Yields the states of one window, ascending, each with its files: one for each trial, and none
+    that the window before has. The results must be of the same plan. ProgramFault if `crashfs`
+    fails: the states before that were yielded."""
     texts = checked.lines.acknowledged
-    for request in planned.requests(results.trials.values()):
-        trees = checked.program.trees(request.words, checked.guard.environment)
-        for own, tree in trees:
-            state = planned.plan.state(own + request.lead)
+    for request in planned.requests(results.own_numbers.values()):
+        trees = checked.program.trees(request.options, checked.guard.environment)
+        for own_number, tree in trees:
+            state = planned.plan.state(own_number + request.number_offset)
             profiles = planned.plan.profile_names_of(state)
             yield CrashState(state.number, texts[: state.says], profiles, tree)

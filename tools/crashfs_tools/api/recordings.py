@@ -72,9 +72,12 @@ def record(
     acknowledged. The content of the directory before it is the start tree.
 
     The options are those of crashfs-record, and acknowledged is its --say-fd. environment is that
-    of the session; None is that of this process. Refused is raised if no trace is written, or a
-    signal stops crashfs-record; the directory stays as the session left it. If the session fails,
-    or the trace lacks something, the recording isn't complete (Recording)."""
+    of the session and of crashfs-record; None is that of this process. It waits until the session
+    has ended, without a limit.
+
+    Refused is raised if no trace is written, so that an old one stays, or if a signal stops
+    crashfs-record, which may have written it; the directory is as the session left it. If the
+    session fails, or the trace lacks something, the recording isn't complete (Recording)."""
     words = [word for glob in ignore for word in ('--ignore', glob)]
     words += ['--mapped'] if mapped else []
     words += ['--stacks'] if stacks else []
@@ -83,15 +86,16 @@ def record(
     words += ['--block', str(block)] if block is not None else []
     words += [word for name in acknowledged for word in ('--say-fd', name)]
     words += [] if isinstance(session, Sequence) else ['--say-fd', str(LINES)]
-    words += [os.fspath(directory), os.fspath(trace), '--', *command_of(session)]
+    words += [os.fspath(directory), os.fspath(trace), '--', *session_command(session)]
     return run_recorder(words, environment)
 
 
 def run_recorder(words: List[str], environment: Optional[Mapping[str, str]]) -> Recording:
-    """Runs crashfs-record by its arguments, of which the one before `--` is the trace, and waits
-    for its end. The session reads nothing, and what it prints on standard output goes nowhere.
-    Refused, with all lines of standard error, if no trace is written, or a signal stopped it."""
-    ran = subprocess.run(
+    """Runs crashfs-record with these arguments, of which the one before the first `--` is the
+    trace, and waits for its end. An environment of None is that of this process. The session reads
+    nothing, and its standard output is dropped. Refused, with all lines of standard error, if no
+    trace is written or a signal stopped it; OSError if it can't be started."""
+    finished = subprocess.run(
         [sys.executable, '-S', '-c', RECORD, *words],
         stdin=subprocess.DEVNULL,
         stdout=subprocess.DEVNULL,
@@ -99,28 +103,40 @@ def run_recorder(words: List[str], environment: Optional[Mapping[str, str]]) -> 
         env=None if environment is None else dict(environment),
         check=False,
     )
-    messages = [
-        line.partition('crashfs-record: ')[2] or line
-        for line in ran.stderr.decode('utf-8', 'replace').splitlines()
-    ]
-    if ran.returncode not in (COMPLETE, NOTED, INCOMPLETE):
-        raise Refused('\n'.join(messages) or f'crashfs-record: status {ran.returncode}')
+    lines = finished.stderr.decode('utf-8', 'replace').splitlines()
+    messages = [line.removeprefix('crashfs-record: ') for line in lines]
+    if finished.returncode not in (COMPLETE, NOTED, INCOMPLETE):
+        raise Refused('\n'.join(messages) or f'crashfs-record: status {finished.returncode}')
     trace = Path(words[words.index('--') - 1])
-    return Recording(trace, ran.returncode != INCOMPLETE, messages)
+    return Recording(trace, finished.returncode != INCOMPLETE, messages)
 
 
-def command_of(session: Union[SessionOf, Sequence[str]]) -> List[str]:
-    """A session as a command: its words, of which a text is one. For a function, one that calls it
-    in a new Python, with the descriptor LINES for acknowledged lines. Refused for a lambda, a
-    function inside another one, and one of `python -c` or of an interactive Python: a new Python
-    can't find these by file and name."""
+def session_command(session: Union[SessionOf, Sequence[str]]) -> List[str]:
+    """The words of a command that runs a session: those of a list, a text as its only word, or
+    words that call a function in a new Python, with the descriptor LINES for acknowledged lines.
+    Refused for a function that a new Python can't find by file and name: a lambda, a function
+    inside another one, one of `python -c` or of an interactive Python, or one without
+    source_path()."""
     if isinstance(session, Sequence):
         return [session] if isinstance(session, str) else list(session)
-    path, name = inspect.getsourcefile(session), session.__qualname__
-    module = session.__module__
+    path, name = source_path(session), getattr(session, '__qualname__', repr(session))
     if path is None or '<' in name:
         raise Refused(f'{name} is no function of a module: a new Python can not call it')
+    module = session.__module__
     if module == '__main__' and not os.path.isfile(path):
         raise Refused(f'{name} was not read from a file: a new Python can not call it')
-    python = [sys.executable, '-c', START, os.path.abspath(path), module, name, *sys.path]
+    # The new Python is in another directory.
+    folders = [os.path.abspath(folder) for folder in sys.path]
+    python = [sys.executable, '-c', START, os.path.abspath(path), module, name, *folders]
     return ['sh', '-c', WITH_LINES, 'sh', *python]
+
+
+def source_path(session: SessionOf) -> Optional[str]:
+    """The path of the source file of a function or class. None for a method of an object, since a
+    new Python has no such object, and for a callable without a source, such as a partial."""
+    if inspect.ismethod(session) and not inspect.isclass(session.__self__):
+        return None
+    try:
+        return inspect.getsourcefile(session)
+    except (OSError, TypeError):
+        return None

@@ -11,7 +11,7 @@ from crashfs_tools.checker.findings.accepted_failures import AcceptedFailure
 from crashfs_tools.checker.report.counts import counts_by_profile
 from crashfs_tools.checker.report.report import CheckReport
 from crashfs_tools.checker.report.text import ReportText
-from crashfs_tools.common.command import write_whole
+from crashfs_tools.common.command import write_whole_file
 from crashfs_tools.common.trace_lines import TraceLine
 
 PathLike = Union[str, 'os.PathLike[str]']
@@ -64,7 +64,8 @@ class Report:
     value again: keep what you use often."""
 
     def __init__(self, found: CheckReport, mode: int = 0o600) -> None:
-        """mode is that of files that are written: who may not read the trace may not read them."""
+        """mode has all rights that a file of the report may get: who may not read the trace may not
+        read it."""
         self._found = found
         self._mode = mode
         self._text = ReportText(found)
@@ -83,13 +84,16 @@ class Report:
 
     @property
     def failures(self) -> List[Entry]:
-        """The entries that are no accepted failures."""
+        """The entries that are no accepted failures. If there are none, the status may be 1 or 3
+        nevertheless: for second crashes (nested), or for what wasn't tried."""
         return [entry for entry in self.entries if entry.accepted is None]
 
     @property
     def states(self) -> List[StateOutcome]:
-        """The outcome of each state that was tried, or is equal to one that was. Empty if the check
-        didn't keep the outcomes; check() does."""
+        """The outcome of each state that was tried, or is equal to one that was, ascending by their
+        numbers. A state that the window before has too isn't listed again, and states of second
+        crashes (nested) aren't at all. Empty if the check didn't keep the outcomes; check() does.
+        """
         return [
             StateOutcome(
                 state.number, state.says, outcome.result, outcome.cause, outcome.output, profiles
@@ -104,12 +108,14 @@ class Report:
 
     @property
     def operations(self) -> Dict[int, TraceLine]:
-        """The operations of the trace in words, by the numbers of their lines."""
+        """The operations of the trace in words, by the numbers of their lines; none if the check
+        ended before the first state was tried."""
         return dict(self._found.head.lines)
 
     @property
     def profiles(self) -> List[str]:
-        """The profiles for which the report says which of them allow an entry's states."""
+        """The names of the trace's profiles, which the entries and states have; none if the plan
+        doesn't say which profiles allow its states."""
         return list(self._found.profiles)
 
     def __str__(self) -> str:
@@ -117,46 +123,53 @@ class Report:
         return '\n'.join(self.lines)
 
     def write_json(self, path: PathLike) -> None:
-        """Writes the file of --json, for other tools, --merge and --resume. An OSError if it can't
-        be written: then the file is as it was."""
+        """Writes the file of --json, for other tools, --merge and --resume; `-` is standard output.
+        Only those who may read the trace may read the file. An OSError if it can't be written: then
+        an old file stays, unless only the sync of its directory failed. The check must have kept
+        what the file has, as check() does."""
         from crashfs_tools.checker.report.json_report import json_pieces
 
         self._write(path, json_pieces)
 
     def write_junit(self, path: PathLike) -> None:
-        """Writes the report as JUnit XML. It raises what write_json() does."""
+        """Writes the report as JUnit XML. `-`, the file's rights, an old file and an OSError are as
+        in write_json()."""
         from crashfs_tools.checker.report.junit import junit_lines
 
         self._write(path, junit_lines)
 
     def write_tap(self, path: PathLike) -> None:
-        """Writes the report in the Test Anything Protocol. It raises what write_json() does."""
+        """Writes the report in the Test Anything Protocol. `-`, the file's rights, an old file and
+        an OSError are as in write_json()."""
         from crashfs_tools.checker.report.tap import tap_lines
 
         self._write(path, tap_lines)
 
     def write_html(self, path: PathLike) -> None:
-        """Writes the report as a page for a browser. It raises what write_json() does."""
-        from crashfs_tools.checker.report.page import page
+        """Writes the report as a page for a browser. `-`, the file's rights, an old file and an
+        OSError are as in write_json(). The picture of the states is empty if the check didn't keep
+        it; check() does."""
+        from crashfs_tools.checker.report.page import page_pieces
 
-        self._write(path, page)
+        self._write(path, page_pieces)
 
     def _write(self, path: PathLike, pieces: Callable[[CheckReport], Iterator[str]]) -> None:
-        """Replaces a file by these pieces of its text, readable only for those who may read the
-        trace. It is durable when this returns; an OSError leaves what was there."""
-        write_whole(os.fspath(path), pieces(self._found), self._mode)
+        """Replaces a file by these pieces of its text, durably, as write_whole_file(); only those
+        who may read the trace may read it."""
+        write_whole_file(os.fspath(path), pieces(self._found), self._mode)
 
     def _entry(self, group: Group) -> Entry:
-        """A group of states as an entry. Its lists are new ones, so a caller may change them."""
+        """A group of states as an entry. Its lists and dicts are new ones, so a caller may change
+        them."""
         return Entry(
             group.cause,
             self._text.details(group),
             [state.number for state in group.states],
             group.count,
             group.example.number,
-            group.lost,
-            group.kept,
+            group.lost_line,
+            group.kept_line,
             dict(group.advice.syncs),
             counts_by_profile(group),
-            group.accepted,
+            group.accepted_entry,
         )

@@ -3,6 +3,7 @@
 from __future__ import annotations
 
 import importlib
+import importlib.machinery
 import importlib.util
 import os
 import sys
@@ -14,8 +15,9 @@ from .recordings import LINES
 
 
 def acknowledge(line: str) -> None:
-    """Writes an acknowledged line to the descriptor that crashfs-record follows, in one write.
-    ValueError, and nothing is written, if it has a line feed."""
+    """Writes an acknowledged line, which may be empty, to the descriptor that crashfs-record
+    follows, in one write. ValueError if it has a line feed: then nothing is written. OSError in a
+    process that doesn't have the descriptor, as after it was closed."""
     if '\n' in line:
         raise ValueError('an acknowledged line has no line feed')
     os.write(LINES, f'{line}\n'.encode('utf-8', 'surrogateescape'))
@@ -23,28 +25,31 @@ def acknowledge(line: str) -> None:
 
 def main(arguments: List[str]) -> None:
     """Calls a session's function with the current directory and acknowledge(). The arguments are
-    the path of its file, its module, its name, and where Python looks for modules. What the
-    function raises ends this Python with a traceback."""
+    the path of its file, its module, its name with dots, and the list that becomes sys.path. What
+    the import or the function raises ends this Python with a traceback; what the function returns
+    is dropped."""
     path, module, name, *sys.path = arguments
-    session: Any = reduce(getattr, name.split('.'), module_of(path, module))
+    session: Any = reduce(getattr, name.split('.'), load_module(path, module))
     session(Path.cwd(), acknowledge)
 
 
-def module_of(path: str, name: str) -> object:
-    """The module of a file, imported: by its name if that finds this very file, else from the file,
-    as a module without a package. So is a script that ran as `__main__`: here it has the name of
-    its file. What the import raises is passed on."""
+def load_module(path: str, name: str) -> object:
+    """Imports the module of a file: by its name, if that finds this file; else from the file, as a
+    module without a package, named as the file without its ending, also in sys.modules. So is a
+    script that ran as `__main__`. What the import raises passes; only after a ModuleNotFoundError
+    by the name the file is tried. If the name finds another file, that has run too."""
     try:
         module = importlib.import_module(name)
         # The `__main__` of this Python has no file.
-        found = getattr(module, '__file__', None) or ''
-        if os.path.realpath(found) == os.path.realpath(path):
+        module_path = getattr(module, '__file__', None) or ''
+        if os.path.realpath(module_path) == os.path.realpath(path):
             return module
     except ModuleNotFoundError:
         pass
-    spec = importlib.util.spec_from_file_location(Path(path).stem, path)
-    assert spec is not None and spec.loader is not None
-    made = importlib.util.module_from_spec(spec)
-    sys.modules[spec.name] = made
-    spec.loader.exec_module(made)
-    return made
+    loader = importlib.machinery.SourceFileLoader(Path(path).stem, path)
+    spec = importlib.util.spec_from_file_location(loader.name, path, loader=loader)
+    assert spec is not None
+    loaded_module = importlib.util.module_from_spec(spec)
+    sys.modules[spec.name] = loaded_module
+    loader.exec_module(loaded_module)
+    return loaded_module

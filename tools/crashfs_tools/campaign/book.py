@@ -9,7 +9,7 @@ from dataclasses import asdict, dataclass, field
 from pathlib import Path
 from typing import Dict, Iterable, List, Tuple
 
-from crashfs_tools.common.command import Refused, write_whole
+from crashfs_tools.common.command import Refused, write_whole_file
 
 from .sessions import Failure
 
@@ -65,8 +65,9 @@ class Book:
     faults: List[Tuple[int, str]] = field(default_factory=list)
 
     def save(self) -> None:
-        """Replaces the book's file as a whole; another run continues from it. OSError if that
-        fails: the old file stays then."""
+        """Replaces the book's file as a whole; another run continues from it. OSError as
+        write_whole_file() has it: the old file stays, unless only the sync of its directory failed.
+        """
         fields = {
             'crashfs-campaign': VERSION,
             'identity': self.identity,
@@ -75,7 +76,7 @@ class Book:
             'faults': self.faults,
             'entries': [{'key': key, **asdict(entry)} for key, entry in self.entries.items()],
         }
-        write_whole(str(self.path), [json.dumps(fields, indent=1), '\n'])
+        write_whole_file(str(self.path), [json.dumps(fields, indent=1), '\n'])
 
 
 def read_book(path: Path, identity: List[object], first_seed: int) -> Book:
@@ -93,9 +94,9 @@ def read_book(path: Path, identity: List[object], first_seed: int) -> Book:
             book.next_seed = max(first_seed, fields['next_seed'])
             book.sessions = fields['sessions']
             book.faults = [(seed, text) for seed, text in fields['faults']]
-            for words in fields['entries']:
-                key, failure = words.pop('key'), Failure(**words.pop('failure'))
-                book.entries[key] = KnownFailure(failure, **words)
+            for entry_fields in fields['entries']:
+                key, failure = entry_fields.pop('key'), Failure(**entry_fields.pop('failure'))
+                book.entries[key] = KnownFailure(failure, **entry_fields)
     except (ValueError, KeyError, TypeError, AttributeError) as error:
         raise Refused(f'{path} is no file of crashfs-campaign') from error
     if not is_same:
@@ -112,8 +113,9 @@ def failure_key(failure: Failure) -> str:
 
 
 def failures_by_key(failures: Iterable[Failure]) -> Dict[str, Failure]:
-    """The failures of a session by failure_key, in their order: the first one of each key."""
-    found: Dict[str, Failure] = {}
+    """The failures of a session by failure_key(), in their order; of those with one key the
+    first."""
+    first_failures: Dict[str, Failure] = {}
     for failure in failures:
-        found.setdefault(failure_key(failure), failure)
-    return found
+        first_failures.setdefault(failure_key(failure), failure)
+    return first_failures

@@ -3,7 +3,6 @@
 from __future__ import annotations
 
 import os
-import shutil
 import sys
 import time
 from pathlib import Path
@@ -13,17 +12,18 @@ from crashfs_tools.common.command import (
     Refused,
     folder_to_write,
     print_line,
-    standard_output,
-    write_whole,
+    flushed_output,
+    write_whole_file,
 )
-from crashfs_tools.common.guard import Stopped, stop_by_exception
+from crashfs_tools.common.guard import Stopped, raise_on_stop_signals
 from crashfs_tools.common.own_faults import print_own_fault
-from crashfs_tools.common.printable import print_utf8, printable
+from crashfs_tools.common.printable import set_utf8_streams, escape_unprintable
+from crashfs_tools.common.removal import remove_tree
 
 from .book import Book, KnownFailure, failures_by_key, read_book
 from .options import NAME, CampaignOptions, read_options
 from .report import length_text, page_text, report_lines, verdict_line
-from .sessions import Checked, Failure, Sessions
+from .sessions import SessionVerdict, Failure, Sessions
 from .shrinking import Shrinking
 
 SOME_FAIL, BAD_INPUT, NO_VERDICT = 1, 2, 3
@@ -33,7 +33,7 @@ EVERY_SECONDS = 60.0
 
 class Campaign:
     """A campaign: its sessions are tried one after another, and its book has what was found.
-    printed is when the last line was printed."""
+    print_time is when the last line was printed."""
 
     def __init__(self, options: CampaignOptions) -> None:
         """Makes the directory RESULTS if it isn't there, and reads the book of an earlier run in
@@ -50,30 +50,33 @@ class Campaign:
             raise Refused(f'{error.filename}: {error.strerror}') from error
         self.work = self.results / 'work'
         self.sessions = Sessions(options, self.work)
-        self.printed = time.monotonic()
+        self.print_time = time.monotonic()
 
     def run(self) -> None:
         """Tries the seeds that are left, in their order, up to the last one or until the time is
-        over; a session that has begun is finished. The folder `work` is emptied at first and
-        removed at the end, also after a stop. The seed during which a stop comes isn't saved as
-        tried, so the next run tries it again."""
-        begun, last = time.monotonic(), self.options.seeds[1]
-        shutil.rmtree(self.work, ignore_errors=True)
+        over; a session that has begun is finished. The folder `work` is made first, in the place of
+        an old one, and removed in the end in any case; OSError if it can't be made or removed.
+        Raises what try_seed() does: then the seed doesn't count as tried, and the next run tries it
+        again."""
+        begin_time, last_seed = time.monotonic(), self.options.seeds[1]
+        remove_tree(str(self.work))
         self.work.mkdir()
         try:
-            while self.book.next_seed <= last:
-                if time.monotonic() - begun >= self.options.time_limit:
+            while self.book.next_seed <= last_seed:
+                if time.monotonic() - begin_time >= self.options.time_limit:
                     return
                 self.try_seed(self.book.next_seed)
         finally:
-            shutil.rmtree(self.work, ignore_errors=True)
+            remove_tree(str(self.work))
 
     def try_seed(self, seed: int) -> None:
         """Records and checks the session of a seed, adds what is found to the book, and saves it. A
         session that can't be recorded, or whose check gives no whole verdict, is among the book's
-        faults and counts as tried. The failures that an incomplete check found count too."""
+        faults and counts as tried. The failures that an incomplete check found count too. It raises
+        what Sessions does, and OSError if RESULTS can't be written; the file of the book doesn't
+        have the seed then."""
         fault = self.sessions.record(seed)
-        checked = Checked(fault=fault) if fault else self.sessions.check(self.sessions.trace)
+        checked = SessionVerdict(fault=fault) if fault else self.sessions.check(self.sessions.trace)
         if checked.fault:
             self.book.faults.append((seed, checked.fault))
         for key, failure in failures_by_key(checked.failures).items():
@@ -81,56 +84,63 @@ class Campaign:
         self.book.sessions += 1
         self.book.next_seed = seed + 1
         self.book.save()
-        if time.monotonic() - self.printed >= EVERY_SECONDS:
+        if time.monotonic() - self.print_time >= EVERY_SECONDS:
             self.print_line(f'seed {seed}: {verdict_line(self.book)}')
 
     def print_line(self, line: str) -> None:
-        """Prints a line on standard error, after the command's name, and notes the time: try_seed
-        prints a line about progress if nothing was printed for EVERY_SECONDS."""
-        print_line(NAME, printable(line))
-        self.printed = time.monotonic()
+        """Prints a line on standard error, after the command's name, and sets print_time."""
+        print_line(NAME, escape_unprintable(line))
+        self.print_time = time.monotonic()
 
     def add_failure(self, seed: int, key: str, failure: Failure) -> None:
         """Counts a failure of the session that was recorded last, once for each key. Keeps this
         session, cut to the shortest part that fails so, if the failure is new, or if that part has
-        fewer acknowledged lines than the kept one. Prints a line if it keeps the session."""
+        fewer acknowledged lines than the kept one. Prints a line if it keeps the session. It raises
+        what Shrinking does."""
         shrinking = Shrinking(self.sessions, key)
-        known = self.book.entries.get(key)
-        if known is None:
-            entry = KnownFailure(failure, seed, len(self.book.entries) + 1)
-            self.keep(entry, seed, shrinking, shrinking.shortest_length())
-            self.book.entries[key] = entry
+        known_failure = self.book.entries.get(key)
+        if known_failure is None:
+            new_failure = KnownFailure(failure, seed, len(self.book.entries) + 1)
+            self.keep_session(new_failure, seed, shrinking, shrinking.shortest_length())
+            self.book.entries[key] = new_failure
             self.print_line(f'seed {seed}: new: {failure.cause}')
             return
-        known.sessions += 1
-        length = shrinking.shortest_length(known.most_lines)
-        if length:
-            self.keep(known, seed, shrinking, length)
-            self.print_line(f'seed {seed}: shorter: {length_text(known)}: {failure.cause}')
+        known_failure.sessions += 1
+        line_count = shrinking.shortest_length(known_failure.most_lines)
+        if line_count:
+            self.keep_session(known_failure, seed, shrinking, line_count)
+            self.print_line(f'seed {seed}: shorter: {length_text(known_failure)}: {failure.cause}')
 
-    def keep(self, entry: KnownFailure, seed: int, shrinking: Shrinking, length: int) -> None:
+    def keep_session(
+        self, entry: KnownFailure, seed: int, shrinking: Shrinking, line_count: int
+    ) -> None:
         """Keeps the session of a seed, up to so many acknowledged lines (0: all of it), as the
-        shortest one of a failure: writes its trace and its page over those that are there, and
-        notes it in the entry. If the check still finds the failure in the cut session, the entry
-        describes that one, else it stays."""
-        entry.kept_seed, entry.says, entry.shortest = seed, len(shrinking.says), length
-        kept = shrinking.keep(length, self.results / entry.trace, self.results / entry.page)
-        entry.failure = kept or entry.failure
+        shortest one of a failure: replaces the entry's trace and page, and notes the session in the
+        entry. If the check finds the failure in the cut session, the entry describes it as found
+        there. Raises what Shrinking.write_part() does."""
+        entry.kept_seed, entry.says, entry.shortest = seed, len(shrinking.says), line_count
+        cut_failure = shrinking.write_part(
+            line_count, self.results / entry.trace, self.results / entry.page
+        )
+        entry.failure = cut_failure or entry.failure
 
 
 def run_campaign(arguments: List[str]) -> int:
-    """Runs a campaign, prints its report, and returns the status, also after a stop. Refused input
-    is a line and the status BAD_INPUT. A wrong word, --help and --version end the program
-    (SystemExit). Any other error is raised, without a report: what was saved stays."""
+    """Runs a campaign, prints its report, and returns the status, also after a stop: from the
+    campaign's beginning on the first signal that stops a command does that, and later ones are
+    ignored. Refused input is a line and the status BAD_INPUT. A wrong word, --help and --version
+    end the program (SystemExit). Any other error is raised, without a report: what was saved
+    stays."""
     try:
         options = read_options(arguments)
+        campaign = Campaign(options)
+        # It may be in RESULTS, which is there now.
         if options.html is not None:
             folder_to_write(options.html)
-        campaign = Campaign(options)
     except Refused as refused:
-        print_line(NAME, str(refused))
+        print_line(NAME, escape_unprintable(str(refused)))
         return BAD_INPUT
-    stop_by_exception()
+    raise_on_stop_signals()
     stopped = None
     try:
         campaign.run()
@@ -138,21 +148,21 @@ def run_campaign(arguments: List[str]) -> int:
         stopped = stop
         print_line(NAME, f'stopped by {stop}')
     report_campaign(options, campaign.book)
-    return stopped.status if stopped else status_of(campaign.book)
+    return stopped.status if stopped else exit_status(campaign.book)
 
 
 def report_campaign(options: CampaignOptions, book: Book) -> None:
-    """Prints what was found on standard output, and writes the page if --html names one. OSError if
-    either can't be written."""
-    with standard_output():
+    """Prints what was found on standard output, and then writes the page if --html names one.
+    OSError if either can't be written."""
+    with flushed_output():
         print('\n'.join(report_lines(options, book)))
     if options.html is not None:
         folder = os.path.dirname(os.path.abspath(options.html))
-        write_whole(options.html, [page_text(options, book, folder)])
+        write_whole_file(options.html, [page_text(options, book, folder)])
 
 
-def status_of(book: Book) -> int:
-    """The exit status: SOME_FAIL if there is any failure, else NO_VERDICT if a session has no
+def exit_status(book: Book) -> int:
+    """The exit status: SOME_FAIL if any failure is known, else NO_VERDICT if a session has no
     verdict, else 0. What earlier runs found counts too."""
     if book.entries:
         return SOME_FAIL
@@ -161,9 +171,10 @@ def status_of(book: Book) -> int:
 
 def main(arguments: Optional[List[str]] = None) -> int:
     """Runs crashfs-campaign with these words, or those of its command line, and returns its status.
-    An error of its own is a line, and the status NO_VERDICT."""
+    The standard streams are UTF-8 from then on. An error of its own is a line, and the status
+    NO_VERDICT. SystemExit as from run_campaign()."""
     words = sys.argv[1:] if arguments is None else arguments
-    print_utf8()
+    set_utf8_streams()
     try:
         return run_campaign(words)
     except Exception as error:

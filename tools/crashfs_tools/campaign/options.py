@@ -58,13 +58,13 @@ class CampaignOptions:
     html: Optional[str]
 
     def identity(self) -> List[object]:
-        """What must be the same for a campaign to be continued: not the seeds, the time limit and
-        the page. campaign.json has it, in this order: a change makes all earlier campaigns other
-        ones."""
+        """What must be equal for a campaign to be continued: all but the seeds, the time limit and
+        the page. campaign.json has it in this order: with another order no earlier campaign could
+        be continued."""
         return [self.session, self.recovery, self.start, self.record, self.check]
 
 
-def seeds_of(text: str) -> Tuple[int, int]:
+def parse_seeds(text: str) -> Tuple[int, int]:
     """The first and the last seed of a range, as `1-100`. ArgumentTypeError if the text is no
     range, or if the first is greater than the last."""
     match = re.fullmatch(r'(\d+)-(\d+)', text)
@@ -73,7 +73,7 @@ def seeds_of(text: str) -> Tuple[int, int]:
     return int(match[1]), int(match[2])
 
 
-def positive_seconds(text: str) -> float:
+def parse_seconds(text: str) -> float:
     """A number of seconds above 0, as `1.5` or `inf`, which means no limit; ArgumentTypeError for
     any other text."""
     try:
@@ -85,7 +85,7 @@ def positive_seconds(text: str) -> float:
     return seconds
 
 
-def words_of(text: str) -> List[str]:
+def parse_words(text: str) -> List[str]:
     """The words of a text, quoted as for a shell; ArgumentTypeError if a quotation has no end."""
     try:
         return shlex.split(text)
@@ -108,13 +108,13 @@ def make_parser() -> argparse.ArgumentParser:
     parser.add_argument(
         '--seeds',
         metavar='A-B',
-        type=seeds_of,
+        type=parse_seeds,
         help='the seeds (default: 1-100; with --time-limit all from 1 on)',
     )
     parser.add_argument(
         '--time-limit',
         metavar='S',
-        type=positive_seconds,
+        type=parse_seconds,
         default=float('inf'),
         help='begin no session after S seconds',
     )
@@ -122,14 +122,14 @@ def make_parser() -> argparse.ArgumentParser:
     parser.add_argument(
         '--record',
         metavar='WORDS',
-        type=words_of,
+        type=parse_words,
         default=[],
         help='options of crashfs-record, in one argument',
     )
     parser.add_argument(
         '--check',
         metavar='WORDS',
-        type=words_of,
+        type=parse_words,
         default=[],
         help='options of crashfs-check, in one argument',
     )

@@ -9,7 +9,7 @@ import textwrap
 import time
 from typing import Iterator, List
 
-from crashfs_tools.common.printable import count_text, printable
+from crashfs_tools.common.printable import count_text, escape_unprintable
 from crashfs_tools.common.command import version_text
 
 from .book import Book, KnownFailure
@@ -20,7 +20,7 @@ COLUMNS = 100
 
 def verdict_line(book: Book) -> str:
     """The first line of the report: how many sessions were tried, how many different failures they
-    have, and how many of them have no verdict, if there are such."""
+    have, and, if there are any, how many sessions have no verdict."""
     entries = len(book.entries)
     verdict = 'none fails' if not entries else f'{entries} different failures'
     if entries == 1:
@@ -42,7 +42,7 @@ def length_text(entry: KnownFailure) -> str:
 
 def state_command(options: CampaignOptions, entry: KnownFailure) -> str:
     """The command, quoted for a shell, that lays out the failure's example: a failing state of the
-    kept trace."""
+    kept trace. If RESULTS is relative, it works only in the directory where the campaign ran."""
     trace = os.path.join(options.results, entry.trace)
     words = ['crashfs-check', *options.check, '--state', str(entry.failure.example), trace, '--']
     return shlex.join([*words, *options.recovery])
@@ -50,24 +50,25 @@ def state_command(options: CampaignOptions, entry: KnownFailure) -> str:
 
 def report_lines(options: CampaignOptions, book: Book) -> Iterator[str]:
     """The lines of the report: the verdict, each failure with its sentences and its command, and
-    the first 20 sessions without a verdict. Control characters are shown as escapes."""
+    the first 20 sessions without a verdict. Control characters are shown as escapes, but not in the
+    command, which may be copied."""
     yield verdict_line(book)
     for entry in book.entries.values():
-        yield f'  {printable(entry.failure.cause)}'
+        yield f'  {escape_unprintable(entry.failure.cause)}'
         yield (
             f'    in {count_text(entry.sessions, "session")}, first with seed {entry.seed}; '
             f'kept: {length_text(entry)}'
         )
         for line in entry.failure.text:
-            yield from folded_line(printable(line))
+            yield from folded_line(escape_unprintable(line))
         yield f'    {state_command(options, entry)}'
     for seed, text in book.faults[:20]:
-        yield from folded_line(printable(f'seed {seed}: {text}'))
+        yield from folded_line(escape_unprintable(f'seed {seed}: {text}'))
 
 
 def folded_line(line: str) -> List[str]:
     """A line as lines of COLUMNS letters at most, indented below their entry: the first by 4
-    letters, the others by 6."""
+    letters, the others by 6. Blanks at its ends are left out, and a blank line gives none."""
     return textwrap.wrap(line, COLUMNS, initial_indent='    ', subsequent_indent='      ')
 
 
@@ -97,7 +98,7 @@ def page_text(options: CampaignOptions, book: Book, folder: str) -> str:
 
 def about_lines(options: CampaignOptions, book: Book) -> Iterator[str]:
     """What the page says below its title: the two commands, the last seed that was tried, the
-    version and the date."""
+    version, and the date of now, in UTC."""
     yield f'SESSION: {shlex.join(options.session)}'
     yield f'RECOVERY: {shlex.join(options.recovery)}'
     date = time.strftime('%Y-%m-%d %H:%M:%S UTC', time.gmtime())
@@ -107,7 +108,7 @@ def about_lines(options: CampaignOptions, book: Book) -> Iterator[str]:
 def shown_text(text: str) -> str:
     """A text for the page, as HTML that shows it letter by letter: control characters as escapes,
     and no tag."""
-    return html.escape(printable(text))
+    return html.escape(escape_unprintable(text))
 
 
 def page_section(options: CampaignOptions, entry: KnownFailure, folder: str) -> str:

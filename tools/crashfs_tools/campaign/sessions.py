@@ -9,9 +9,10 @@ import subprocess
 import sys
 from dataclasses import dataclass, field
 from pathlib import Path
-from typing import Dict, List, Optional, Sequence, Tuple
+from typing import Any, Dict, List, Optional, Sequence, Tuple
 
 from crashfs_tools.common.program import last_line
+from crashfs_tools.common.removal import remove_tree
 
 from .options import CampaignOptions
 
@@ -19,6 +20,11 @@ TOOLS = Path(__file__).resolve().parents[2]
 SEED = 'CRASHFS_SEED'
 RECORDED = (0, 4)
 NONE_FAILS, SOME_FAIL = 0, 1
+# The results of states in the check's JSON.
+BAD, NO_ANSWER = 'bad', 'no answer'
+NO_ENTRY = 'what fails is no entry of its report, as of --nested'
+# A command that is asked to end, and hasn't after so long, is asked again.
+ENDING_SECONDS = 5.0
 # The version of the check's JSON that is read.
 REPORTS = (3, 4)
 
@@ -35,9 +41,9 @@ class Failure:
 
 
 @dataclass
-class Checked:
-    """What came of a session: its failures, and why it has no whole verdict; an empty text if it
-    has one."""
+class SessionVerdict:
+    """What the check of a session found: its failures, and why it has no whole verdict; an empty
+    text if it has one."""
 
     failures: List[Failure] = field(default_factory=list)
     fault: str = ''
@@ -48,49 +54,54 @@ class Sessions:
     trace is the file of the last recorded session, which the next one replaces."""
 
     def __init__(self, options: CampaignOptions, folder: Path) -> None:
-        """Nothing is made yet, and the folder needn't exist. child is the last command that was
-        started; None before the first."""
+        """Nothing is made yet, and the folder needn't exist."""
         self.options = options
         self.folder = folder
         self.trace = folder / 'session.trace'
-        self.child: Optional[subprocess.Popen[str]] = None
 
     def record(self, seed: int) -> str:
         """Records SESSION with a seed, in a new store: empty, or a copy of --start. Returns why
         there is no trace that can be checked; an empty text if there is one. A trace that can't say
-        all that happened counts as none. OSError if --start can't be copied."""
+        all that happened counts as none. OSError if the last store can't be removed, or --start
+        can't be copied."""
         store = self.folder / 'store'
-        shutil.rmtree(store, ignore_errors=True)
+        remove_tree(str(store))
         if self.options.start is None:
             store.mkdir()
         else:
             shutil.copytree(self.options.start, store, symlinks=True)
         words = [*self.options.record, str(store), str(self.trace), '--', *self.options.session]
         status, error_text = self.run_tool('crashfs-record', words, {SEED: str(seed)})
-        return '' if status in RECORDED else fault_of('crashfs-record', status, error_text)
+        return '' if status in RECORDED else fault_text('crashfs-record', status, error_text)
 
-    def check(self, trace: Path, page: Optional[Path] = None) -> Checked:
+    def check(self, trace: Path, page: Optional[Path] = None) -> SessionVerdict:
         """Checks a trace with RECOVERY. Returns the failures in its report, and a fault if there is
-        no whole verdict; the report of a check that ended early has what was found until then.
-        Writes the report as a page too, if one is named. OSError as from failures_in."""
+        no whole verdict, or if what fails isn't among them; the report of a check that ended early
+        has what was found until then. Writes the report as a page too, if one is named. It raises
+        what run_tool() and read_report() do, and KeyError if the report lacks a key."""
         report = self.folder / 'report.json'
         if report.exists():
             report.unlink()
         pages = [] if page is None else ['--html', str(page)]
         words = ['--json', str(report), *pages, *self.options.check, str(trace), '--']
         status, error_text = self.run_tool('crashfs-check', [*words, *self.options.recovery], {})
-        found = failures_in(report) if report.exists() else []
-        if status in (NONE_FAILS, SOME_FAIL):
-            return Checked(found)
-        return Checked(found, fault_of('crashfs-check', status, error_text))
+        fields = read_report(report) if report.exists() else {'windows': [], 'groups': []}
+        unanswered = unanswered_causes(fields)
+        failures = failures_in(fields, unanswered)
+        if status == NONE_FAILS or status == SOME_FAIL and failures:
+            return SessionVerdict(failures)
+        reason = f'no answer: {unanswered[0]}' if unanswered else error_text
+        reason = NO_ENTRY if status == SOME_FAIL else reason
+        return SessionVerdict(failures, fault_text('crashfs-check', status, reason))
 
     def run_tool(
         self, tool: str, words: Sequence[str], variables: Dict[str, str]
     ) -> Tuple[int, str]:
-        """Runs one of the two commands, with these variables in its environment too, and returns
-        its status and what it printed on standard error; the rest that it prints is dropped. If an
-        exception comes meanwhile, as by a stop, the command is terminated and waited for."""
-        self.child = subprocess.Popen(
+        """Runs one of the two commands to its end, without a time limit, with these variables added
+        to its environment. Returns its status and what it printed on standard error; other output
+        is dropped. If an exception comes meanwhile, as by a stop, the command is ended by
+        end_tool(). OSError if it can't be started."""
+        child = subprocess.Popen(
             [sys.executable, str(TOOLS / tool), *words],
             env={**os.environ, **variables},
             stdin=subprocess.DEVNULL,
@@ -100,27 +111,53 @@ class Sessions:
             errors='backslashreplace',
         )
         try:
-            _, error_text = self.child.communicate()
+            _, error_text = child.communicate()
         except BaseException:
-            self.child.terminate()
-            self.child.communicate()
+            end_tool(child)
             raise
-        return self.child.returncode, error_text
+        return child.returncode, error_text
 
 
-def failures_in(report: Path) -> List[Failure]:
-    """The entries of a report of crashfs-check. OSError if the report is of a version that isn't
-    known here; ValueError if it is no JSON."""
-    fields = json.loads(report.read_text('utf-8', 'surrogateescape'))
+def end_tool(child: subprocess.Popen[str]) -> None:
+    """Terminates one of the two commands, and waits for its end. If that takes more than
+    ENDING_SECONDS, it is terminated again: then crashfs-record kills SESSION."""
+    child.terminate()
+    try:
+        child.communicate(timeout=ENDING_SECONDS)
+    except subprocess.TimeoutExpired:
+        child.terminate()
+        child.communicate()
+
+
+def read_report(report: Path) -> Dict[str, Any]:
+    """The JSON of a report of crashfs-check. OSError if it can't be read, or if it is of a version
+    that isn't known here; ValueError if it is no JSON."""
+    fields: Dict[str, Any] = json.loads(report.read_text('utf-8', 'surrogateescape'))
     if fields.get('crashfs-check') not in REPORTS:
         raise OSError(f'{report} is a report of another version')
+    return fields
+
+
+def unanswered_causes(fields: Dict[str, Any]) -> List[str]:
+    """Why states of a report gave no answer: each cause once, in the order of the states, except
+    causes with which other states fail. KeyError if the report lacks a key."""
+    outcomes = [outcome for window in fields['windows'] for outcome in window['outcomes'].values()]
+    failing_causes = {cause for result, cause, _ in outcomes if result == BAD}
+    causes = [cause for result, cause, _ in outcomes if result == NO_ANSWER]
+    return [cause for cause in dict.fromkeys(causes) if cause not in failing_causes]
+
+
+def failures_in(fields: Dict[str, Any], unanswered: List[str]) -> List[Failure]:
+    """The entries of a report, without accepted ones, and without those whose cause is among
+    `unanswered`. KeyError if the report lacks a key."""
     return [
         Failure(entry['cause'], entry['text'], entry['example'], entry['different'])
         for entry in fields['groups']
+        if entry.get('accepted') is None and entry['cause'] not in unanswered
     ]
 
 
-def fault_of(tool: str, status: int, error_text: str) -> str:
-    """Why a command gave no result: its name, its status, and the last line of its standard
-    error."""
+def fault_text(tool: str, status: int, error_text: str) -> str:
+    """Why a command gave no result: its name, its status, and the last line of what it printed on
+    standard error."""
     return f'{tool}: status {status}: {last_line(error_text) or "it printed nothing"}'

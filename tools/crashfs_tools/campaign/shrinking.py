@@ -10,7 +10,7 @@ from .book import failure_key
 from .sessions import Failure, Sessions
 
 
-def says_in(lines: List[str]) -> List[int]:
+def acknowledged_places(lines: List[str]) -> List[int]:
     """The places, from 0, of the acknowledged lines among the lines of a trace. Only lines that
     contain `"say"` are parsed: ValueError if one of these is no JSON."""
     return [
@@ -19,7 +19,7 @@ def says_in(lines: List[str]) -> List[int]:
 
 
 def is_say(fields: object) -> bool:
-    """Whether the value of a trace's line is that of an acknowledged line."""
+    """Whether the parsed JSON of a trace's line is an acknowledged line."""
     return isinstance(fields, dict) and fields.get('op') == 'say'
 
 
@@ -28,46 +28,49 @@ class Shrinking:
     acknowledged lines: says has the places of these among the trace's lines."""
 
     def __init__(self, sessions: Sessions, key: str) -> None:
-        """Reads the session that was recorded last: what is recorded later changes nothing."""
+        """Reads the session that was recorded last: what is recorded later changes nothing. OSError
+        if its trace can't be read, ValueError as from acknowledged_places()."""
         self.sessions = sessions
         self.key = key
         text = sessions.trace.read_text('utf-8', 'surrogateescape')
         # Texts of a trace may have other characters that end a line for Python, such as U+2028.
         self.lines = [line + '\n' for line in text.split('\n') if line]
-        self.says = says_in(self.lines)
+        self.says = acknowledged_places(self.lines)
         self.cut = sessions.folder / 'cut.trace'
 
-    def failure_of(self, count: int) -> Optional[Failure]:
+    def find_failure(self, count: int) -> Optional[Failure]:
         """Checks the session up to so many acknowledged lines (0: all of it), and returns the
-        failure with the key; None if it doesn't come there, or the check gave no answer. In either
-        case the file `cut` has that part of the session afterwards."""
-        last = self.says[count - 1] if count else len(self.lines) - 1
-        text = ''.join(self.lines[: last + 1])
+        failure with the key; None if it isn't found, or if the check gave no answer. The file `cut`
+        has that part of the session afterwards. Raises what Sessions.check() does, and OSError if
+        `cut` can't be written."""
+        last_place = self.says[count - 1] if count else len(self.lines) - 1
+        text = ''.join(self.lines[: last_place + 1])
         self.cut.write_text(text, 'utf-8', 'surrogateescape')
-        found = self.sessions.check(self.cut).failures
-        return next((failure for failure in found if failure_key(failure) == self.key), None)
+        failures = self.sessions.check(self.cut).failures
+        return next((failure for failure in failures if failure_key(failure) == self.key), None)
 
     def shortest_length(self, most: Optional[int] = None) -> int:
-        """The fewest acknowledged lines, `most` at most if it is given, with which the failure
-        still comes. The search is binary, since what a session may leave, a longer one may leave
-        too. 0 if the failure doesn't come with so many lines: it needs more of them, or what the
-        session does after its last line."""
+        """The fewest acknowledged lines, at most `most` if it is given, with which the failure
+        still comes, by binary search: what a session may leave, a longer one may leave too. 0 if
+        the failure doesn't come with so many lines: it needs more, or what the session does after
+        its last line. Raises what find_failure() does."""
         low, high = 0, len(self.says) if most is None else min(most, len(self.says))
-        if not high or self.failure_of(high) is None:
+        if not high or self.find_failure(high) is None:
             return 0
         while high - low > 1:
             middle = (low + high) // 2
-            if self.failure_of(middle) is None:
+            if self.find_failure(middle) is None:
                 low = middle
             else:
                 high = middle
         return high
 
-    def keep(self, count: int, trace: Path, page: Path) -> Optional[Failure]:
+    def write_part(self, count: int, trace: Path, page: Path) -> Optional[Failure]:
         """Writes the session up to so many acknowledged lines (0: all of it) to the file `trace`,
-        and the report on it to `page`. Returns the failure as it is in that report; None if it
-        doesn't come any more: the files are written even so."""
-        failure = self.failure_of(count)
+        and the report on it to `page`. Returns the failure as a check finds it in this part; None
+        if it doesn't find it: the files are written even so. Raises what find_failure() does, and
+        OSError if the trace can't be written."""
+        failure = self.find_failure(count)
         trace.write_bytes(self.cut.read_bytes())
         self.sessions.check(trace, page)
         return failure

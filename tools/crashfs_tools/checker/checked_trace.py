@@ -12,12 +12,12 @@ from crashfs_tools.checker.running.progress import Progress
 from crashfs_tools.checker.running.results import Head
 from crashfs_tools.checker.running.runner import AcknowledgedLines
 from crashfs_tools.checker.running.trials import Trials, Workplace
-from crashfs_tools.checker.states.plan import Offsets, Planned
+from crashfs_tools.checker.states.plan import Offsets, PlannedTrace
 from crashfs_tools.checker.states.planning import Planner, TooLarge
 from crashfs_tools.common.command import TEXT, Refused
 from crashfs_tools.common.guard import Guard
 from crashfs_tools.common.program import Crashfs
-from crashfs_tools.common.trace_lines import TraceText, read_text, trace_version
+from crashfs_tools.common.trace_lines import TraceText, parse_trace_text, trace_version
 
 from .options import Options
 
@@ -37,9 +37,9 @@ class CheckedTrace:
         guard: Guard,
         progress: Optional[Progress] = None,
     ) -> None:
-        """Reads the whole file, which the options must name; OSError if it can't be read. Its lines
-        aren't checked yet. If the program takes no traces of this version, the second reading takes
-        its place. Without `progress` a new one is shown on standard error."""
+        """Reads the whole trace, which the options must name, also from a pipe; OSError if it can't
+        be read. Its lines aren't checked yet. If the program takes no traces of this version, the
+        second reading takes its place. Without `progress` a new one is shown on standard error."""
         assert options.trace is not None
         self.options, self.guard = options, guard
         self.progress = progress or Progress()
@@ -47,27 +47,29 @@ class CheckedTrace:
         with open(self.path, **TEXT) as file:
             self.text = file.read()
             status = os.fstat(file.fileno())
-        # Nobody may read of the trace in a report who may not read the trace.
+        # A report shows parts of the trace only to users who may read the trace.
         self.mode = 0o600 | status.st_mode & 0o066
         if not stat.S_ISREG(status.st_mode):
             self.path = self.copy_to_file()
-        self.program = program.for_version(trace_version(self.text))
+        self.program = program.program_for_version(trace_version(self.text))
         self.planner = Planner(options, self.program, guard)
         self.windows: Optional[Windows] = None
 
     def copy_to_file(self) -> str:
-        """Writes the trace, which came by a pipe, to a file below the guard's directory, since the
-        program reads it several times. Returns the path."""
+        """Writes the trace to a file below the guard's directory, and returns its path. This is for
+        a trace from a pipe, since the program reads it several times. OSError if the file can't be
+        written."""
         path = os.path.join(self.guard.directory, 'trace')
         with open(path, 'w', **TEXT) as file:
             file.write(self.text)
         return path
 
-    def all_planned(self) -> Iterator[Planned]:
-        """Yields the plan of the trace. If --window is given, or the trace is too long for one
-        plan, `windows` is set, and the plan of each window is yielded instead: its files are
-        removed when the next one is asked for. Refused for a trace with a fault, and for one that
-        is too long if --serve or --disks is given. Each call plans again."""
+    def all_planned(self) -> Iterator[PlannedTrace]:
+        """Yields the plan of the trace or, if --window is given or the trace is too long for one
+        plan, of each window: the window's files are removed when the next one is asked for. Each
+        call plans again, and sets `windows` for a trace in windows. Refused for a trace with a
+        fault, and for one that is too long with --serve or --disks; PlanError or ProgramFault if
+        the program fails otherwise."""
         if self.options.window is None:
             try:
                 yield self.planner.plan(self.path)
@@ -84,62 +86,64 @@ class CheckedTrace:
 
     @cached_property
     def lines(self) -> TraceText:
-        """The trace's operations in words, and its acknowledged texts; read once. Ask only after
-        the program has accepted the trace: a fault in a line is a TraceError, KeyError or TypeError
-        here."""
-        return read_text(self.text)
+        """The trace's operations in words, and its acknowledged texts. Ask only after the program
+        has accepted the trace: a fault in a line is a TraceError, KeyError or TypeError here."""
+        return parse_trace_text(self.text)
 
     @cached_property
-    def says(self) -> AcknowledgedLines:
-        """The acknowledged lines, as a file for COMMAND's standard input. Ask only after the
-        program has accepted the trace, as for `lines`."""
+    def acknowledged_lines(self) -> AcknowledgedLines:
+        """The acknowledged lines, of which COMMAND gets files as its standard input. Ask only after
+        the program has accepted the trace, as for `lines`."""
         return AcknowledgedLines(self.lines.acknowledged, self.guard.directory)
 
     @cached_property
     def workplace(self) -> Workplace:
-        """What the trials of all windows share. It is made once, so that a cache which is opened
-        later is there for all of them."""
-        return Workplace(self.options, self.program, self.guard, self.says, self.progress)
+        """What the trials of all windows share; always the same object, so all get a cache that is
+        opened later. Ask only after the program has accepted the trace, as for `lines`."""
+        return Workplace(
+            self.options, self.program, self.guard, self.acknowledged_lines, self.progress
+        )
 
-    def trials_of(self, number: int) -> Trials:
-        """The trials of the window that lists the state of a number, also if a check wouldn't try
-        that state. Plans window after window up to that one. Refused if no window lists the state,
-        or the trace has a fault."""
-        count = 0
+    def trials_with_state(self, number: int) -> Trials:
+        """Plans window after window until one lists the state of this number, and returns the
+        trials of that window, whose files stay. A check may leave the state out. Refused if no
+        window lists it, and as all_planned()."""
+        listed_states = 0
         for planned in self.all_planned():
             if planned.plan.has_state(number):
                 return Trials(self.workplace, planned)
-            count += len(planned.plan.listed)
-        raise Refused(f'no such state: {number} (there are {count:,})')
+            listed_states += len(planned.plan.listed)
+        raise Refused(f'no such state: {number} (there are {listed_states:,})')
 
-    def head(self) -> Head:
-        """A new head of the report: what is checked. Its `lines` are empty, since they can only be
-        read after the program has accepted the trace."""
+    def new_head(self) -> Head:
+        """A new head of a report, which says what is checked. Its `lines` are empty: they can only
+        be read after the program has accepted the trace."""
         return Head(
             os.path.basename(self.options.trace or ''),
             self.digest(),
             self.options.command,
             self.options.shard,
-            self.program.unproved,
+            self.program.is_unproved,
             refused_version=self.program.refused_version,
         )
 
     def digest(self) -> str:
-        """The trace's SHA-256 if --json, --resume or --merge is given, which need it; else an empty
-        text."""
+        """The trace's SHA-256, in hexadecimal digits, if --json, --resume or --merge is given,
+        which need it; else an empty text."""
         if not (self.options.json or self.options.resume or self.options.merge):
             return ''
         import hashlib
 
         return hashlib.sha256(self.text.encode('utf-8', 'surrogateescape')).hexdigest()
 
-    def plan_of_end(self) -> Optional[Planned]:
-        """The plan of a trace that has only the tree at the end of a session in windows. None if
-        the session is tried whole: its own plan has that tree. Ask only after all_planned() has
-        yielded a plan."""
+    def plan_end(self) -> Optional[PlannedTrace]:
+        """Plans the end of a session in windows: a trace that starts with the tree there and does
+        nothing, so its one state is that tree with all acknowledged lines. None for a session in
+        one plan, which has that state. Call it after all_planned() has yielded a plan. Refused as
+        Planner.plan(), OSError if the trace can't be written."""
         if self.windows is None:
             return None
         path = self.windows.write_end()
         return self.planner.plan(
-            path, Offsets(self.windows.session.places[-1], says=len(self.says.texts))
+            path, Offsets(self.windows.session.places[-1], says=len(self.acknowledged_lines.texts))
         )

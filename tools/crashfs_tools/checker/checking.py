@@ -19,7 +19,7 @@ from crashfs_tools.checker.running.recoveries import FunctionRecovery
 from crashfs_tools.checker.running.results import AllResults, Head, Results, known_states
 from crashfs_tools.checker.running.runner import do_nothing
 from crashfs_tools.checker.running.trials import Trials
-from crashfs_tools.common.command import Refused, print_line, with_program_path, write_whole
+from crashfs_tools.common.command import Refused, print_line, with_program_path, write_whole_file
 from crashfs_tools.common.guard import Guard, Stopped, TimeUp, time_limit
 from crashfs_tools.common.program import Crashfs, ProgramFault
 
@@ -27,13 +27,13 @@ from .checked_trace import CheckedTrace
 from .options import NAME, Options
 
 if TYPE_CHECKING:
-    from crashfs_tools.checker.findings.nested import Nested
+    from crashfs_tools.checker.findings.nested import SecondCrashTrials
 
 FIRST_FAILURE, TIME_LIMIT, FAULT = 'the first failure', 'the time limit', 'a fault'
 SAVE_SECONDS = 60.0
 # For so long examples are run again after the time limit.
 RERUN_SECONDS = 10.0
-ANOTHER = '--resume: that is a report of another check'
+OTHER_CHECK = '--resume: that is a report of another check'
 
 
 class Interrupted(Exception):
@@ -46,188 +46,195 @@ class CheckResult(NamedTuple):
 
     report: CheckReport
     mode: int
-    end: Optional[Exception] = None
+    exception: Optional[Exception] = None
 
 
 class Window(NamedTuple):
-    """One part of a session, or the whole: where its states are tried, and what came of them."""
+    """A window of a session, or the whole session: where its states are tried, and the findings."""
 
     trials: Trials
     findings: Findings
 
 
 class Check:
-    """A check of one trace. run() goes through its windows; `last` is the one that it is at, None
-    before the first, and is_over says whether all states of the session's last one were tried.
-    has_states says whether the report has the outcome of each state."""
+    """A check of one trace. run() goes through its windows: last_window is the latest one whose
+    states were tried, None before the first, and has_tried_all says whether all states of the
+    session's last window were tried, and its examples again."""
 
     def __init__(self, trace: CheckedTrace, has_states: bool = False) -> None:
-        """Reads the files of --accept and --resume, if they are given. Refused if one can't be
-        read, or isn't such a file of this check."""
+        """Reads the files of --accept and --resume, if they are given. With has_states the report
+        keeps the outcome of each state. Refused if a file can't be read, or isn't such a file of
+        this check."""
         self.trace = trace
         self.options = trace.options
-        self.head = trace.head()
+        self.head = trace.new_head()
         self.report = new_report(self.head, self.options)
         self.report.has_states = has_states
-        self.earlier = self.read_earlier()
-        self.last: Optional[Window] = None
-        self.is_over = False
+        self.earlier_results = self.read_earlier_results()
+        self.last_window: Optional[Window] = None
+        self.has_tried_all = False
         # What ended the check early, also if all states had been tried.
         self.end_cause = ''
 
-    def read_earlier(self) -> Optional[AllResults]:
-        """The results in the file of --resume; None without that option, or if there is no such
-        file yet. Refused if the file has no results, or those of another trace, COMMAND or
-        shard."""
+    def read_earlier_results(self) -> Optional[AllResults]:
+        """The results in the file of --resume, without those of second crashes and disks; None
+        without that option, or if there is no such file yet. Refused if it can't be read, or isn't
+        the report of a check of the same trace, COMMAND and shard."""
         path = self.options.resume
         if path is None or not os.path.exists(path):
             return None
         earlier = read_json(path)
         if earlier.head.identity() != self.head.identity():
-            raise Refused(ANOTHER)
+            raise Refused(OTHER_CHECK)
         return earlier
 
     def run(self) -> CheckResult:
-        """Checks window after window, and returns the report, also if the check ends early. `end`
-        of the result is then None for --fail-fast and the time limit, a Stopped for a signal, and
-        an Interrupted, whose cause is the fault, for any other exception. A fault is raised itself
-        if it comes before the states of the first window are tried."""
-        end: Optional[Exception] = None
+        """Checks window after window, and returns the report, also if the check ends early. The
+        result has then a Stopped after a signal, an Interrupted with its cause after another fault,
+        and no exception for --fail-fast and the time limit. A fault before the first window's
+        states are tried is raised; so is a KeyboardInterrupt or SystemExit at any time. Call it
+        once; with a time limit, in the main thread."""
+        exception: Optional[Exception] = None
         try:
             with time_limit(self.options.time_limit):
                 self.check_windows()
         except TimeUp:
             self.note_end(TIME_LIMIT)
         except Stopped as stopped:
-            end = stopped
+            exception = stopped
             self.note_end(str(stopped))
         except Exception as fault:
             # Whatever it is: what was tried is not lost by it.
-            if self.last is None:
+            if self.last_window is None:
                 raise
-            end = interrupted_by(fault)
+            exception = interrupted_by(fault)
             self.note_end(FAULT)
         try:
             self.complete_report()
         except Stopped as stopped:
-            end = stopped
+            exception = stopped
         except Exception as fault:
-            end = end or interrupted_by(fault)
-        return CheckResult(self.report, self.trace.mode, end)
+            exception = exception or interrupted_by(fault)
+        return CheckResult(self.report, self.trace.mode, exception)
 
     def note_end(self, cause: str) -> None:
-        """Notes what ended the check; of several causes the first one stays. The report names it
-        only if not all states were tried."""
+        """Notes the cause that ended the check early. The report names it unless all states were
+        tried (has_tried_all). Of several causes the first one stays."""
         self.end_cause = self.end_cause or cause
-        if not self.is_over:
+        if not self.has_tried_all:
             self.head.stopped = self.head.stopped or cause
 
     def complete_report(self) -> None:
-        """Adds to the report what is only known at the end: what was left out and why, second runs
-        after the time limit, and hits of the cache, which is saved. An exception of the second runs
-        is raised after the rest is added, any other one ends it."""
-        self.head.has_rest = self.last is not None and not self.last.trials.planned.is_last
+        """Adds to the report what is only known at the end: what wasn't tried and why, second runs
+        after the time limit, of which none begins after RERUN_SECONDS, and how many outcomes came
+        from the cache. Saves the cache, also if the second runs raise an exception."""
+        window = self.last_window
+        self.head.has_rest = window is not None and not window.trials.planned.is_last
         if self.trace.windows is not None:
-            self.head.cut_off = [(one.line, one.tried) for one in self.trace.windows.cut_off]
+            self.head.cut_off = [
+                (cut_off.line, cut_off.tried) for cut_off in self.trace.windows.cut_off
+            ]
         self.report.not_done = list(self.options_not_done())
         try:
-            if self.head.stopped == TIME_LIMIT and self.last is not None:
-                self.rerun_examples(self.last, RERUN_SECONDS)
+            if self.head.stopped == TIME_LIMIT and window is not None:
+                self.rerun_examples(window, RERUN_SECONDS)
         finally:
             self.save_cache()
 
     def options_not_done(self) -> Iterator[str]:
-        """A line for each of --nested and --disks that was given and not done to the end, with the
-        reason: the check ended early or, for --disks, only a part of the states is tried."""
+        """A line for --nested if the check ended early with recoveries left to try, and one for
+        --disks if nothing was tried on disks, each with the reason: what ended the check or, for
+        --disks, that only a part of the states is tried. No line for an option that isn't given."""
         why = f'stopped by {self.end_cause}' if self.end_cause else 'only a part of the states is'
-        if self.options.nested and self.end_cause and self.nested.left:
-            yield f'--nested: {self.nested.left:,} of {self.options.nested:,} not tried ({why})'
+        if self.options.nested and self.end_cause and self.second_crashes.recoveries_left:
+            count = self.second_crashes.recoveries_left
+            yield f'--nested: {count:,} of {self.options.nested:,} not tried ({why})'
         if self.options.disks is not None and self.report.sightings is None:
             yield f'--disks: not tried ({why})'
 
     def check_windows(self) -> None:
         """Checks window after window: tries its states, finds smallest losses, runs examples again,
-        and adds details. --fail-fast ends it after a window with a failure, before the details,
-        unless all states of the last window were tried; and after a second crash with a failure.
-        Any other early end is an exception."""
+        and adds details. --fail-fast ends it after a window with a failing state or one without an
+        answer, before the details, but not if all states of the session were tried; and after a
+        second crash with either. Any other early end is an exception."""
         for planned in self.trace.all_planned():
             trials = Trials(self.trace.workplace, planned, keeps_trees=True)
             is_whole = self.try_window(trials)
-            assert self.last is not None
-            window = self.last
-            self.find_losses(trials, window.findings)
+            assert self.last_window is not None
+            window = self.last_window
+            self.find_losses(window)
             self.rerun_examples(window)
-            self.is_over = planned.is_last and is_whole
-            if not is_whole or self.ends_at_failure(window):
+            self.has_tried_all = planned.is_last and is_whole
+            if not is_whole or self.is_ended_by(window):
                 self.note_end(FIRST_FAILURE)
                 return
-            self.add_details(trials, window.findings)
+            self.add_details(window)
             if self.end_cause:
                 return
 
     def try_window(self, trials: Trials) -> bool:
         """Tries the states of a window, and returns whether each that was chosen has an outcome.
-        After an exception meanwhile, `last` and the report have what was found. Before that,
-        without the window in the report, it is Refused if --resume has another window here or, at
-        the first one, if --cache can't be used or COMMAND fails in the start tree or the end
-        tree."""
-        before, planned = self.last, trials.planned
-        known = known_states(before.trials.plan, planned.plan) if before else {}
-        results = Results(planned.plan, known=known)
-        if self.earlier is not None:
-            self.take_earlier(self.earlier, results)
-        if before is None:
+        After an exception meanwhile, last_window and the report have what was found. Before any
+        state is tried it is Refused if --resume has another window here; before the first window
+        also if --cache can't be used, or COMMAND fails in the start tree or the end tree."""
+        previous, planned = self.last_window, trials.planned
+        known = known_states(previous.trials.plan, planned.plan) if previous else {}
+        results = Results(planned.plan, numbers_before=known)
+        if self.earlier_results is not None:
+            self.add_earlier_outcomes(results, self.earlier_results)
+        if previous is None:
             self.head.lines = self.trace.lines.operations
             if self.options.cache is not None:
                 self.open_cache(self.options.cache, trials)
-            FirstTrials(trials, results, self.trace.plan_of_end()).run()
+            FirstTrials(trials, results, self.trace.plan_end()).run()
         try:
-            return trials.try_all(results, self.saver_of(results))
+            return trials.try_all(results, self.make_saver(results, has_rest=not planned.is_last))
         finally:
-            known_outcomes = before.findings.by_state if before else {}
-            self.last = Window(trials, Findings(self.head, results, known_outcomes))
-            self.report.add(self.last.findings)
+            previous_outcomes = previous.findings.outcomes_by_state if previous else {}
+            self.last_window = Window(trials, Findings(self.head, results, previous_outcomes))
+            self.report.add(self.last_window.findings)
 
     def open_cache(self, path: str, trials: Trials) -> None:
-        """Opens the outcomes of earlier checks in the directory of --cache, and gives them to all
-        trials. If it isn't known which files COMMAND opens, or one has changed, COMMAND is run
-        under strace in the first and the last prefix. Refused if the directory can't be used, or
-        COMMAND can't be traced."""
+        """Opens the cache in the directory of --cache, which is made if it isn't there, for the
+        trials of all windows. If it isn't known which files COMMAND opens, or one has changed,
+        COMMAND is run under strace in the first and the last prefix. Refused if the directory can't
+        be used, or COMMAND can't be traced; OSError if the list of files can't be written."""
         from crashfs_tools.checker.running.cache import OutcomeCache, open_folder
         from crashfs_tools.checker.running.command_files import command_name
 
         folder = open_folder(path)
-        prefixes = [one.number for one in trials.plan.states if one.family == 'prefix']
-        ends = [prefixes[0], prefixes[-1]]
-        name = command_name(folder, self.options.command, ends, trials.run_words)
+        prefixes = [state.number for state in trials.plan.states if state.family == 'prefix']
+        first_and_last = [prefixes[0], prefixes[-1]]
+        name = command_name(folder, self.options.command, first_and_last, trials.run_words)
         trials.workplace.cache = OutcomeCache(folder, name)
 
     def save_cache(self) -> None:
         """Writes the outcomes for later checks, and counts in the report those that came from
-        earlier ones. Does nothing without --cache, or if no window was tried. If the write fails, a
-        line is printed: later checks are only slower."""
-        cache = self.trace.workplace.cache if self.last is not None else None
+        earlier ones. Does nothing without --cache, or if no window was tried. An OSError of the
+        write is printed as a line: later checks are only slower."""
+        cache = self.trace.workplace.cache if self.last_window is not None else None
         if cache is not None:
-            self.report.cached = cache.hits
+            self.report.cache_hits = cache.hits
             try:
                 cache.save()
             except OSError as error:
                 print_line(NAME, f'--cache {error.filename}: {error.strerror}')
 
-    def take_earlier(self, earlier: AllResults, results: Results) -> None:
-        """Adds to the results of a new window the outcomes that --resume has of it; none if the
-        earlier check ended before it. Refused if the window there has other micro-operations,
-        states or needs, or another profile: that was another check."""
+    def add_earlier_outcomes(self, results: Results, earlier: AllResults) -> None:
+        """Adds to the results of the window that is tried next the outcomes that an earlier check
+        has of it; none if that check ended before it. Refused if the earlier window has another
+        plan, since that was another check."""
         place = self.report.counts.windows
         if place < len(earlier.windows):
             if earlier.windows[place].identity() != results.identity():
-                raise Refused(ANOTHER)
+                raise Refused(OTHER_CHECK)
             results.take_earlier(earlier.windows[place])
 
-    def saver_of(self, results: Results) -> Callable[[], None]:
-        """The function to call after each state of a window. Every SAVE_SECONDS it writes what is
-        known to the file of --json, so that a kill loses only what came later; an OSError is
-        ignored. It does nothing without a file, or if that is standard output."""
+    def make_saver(self, results: Results, *, has_rest: bool) -> Callable[[], None]:
+        """Returns a function to call after each state of a window; has_rest says whether the
+        session goes on after the window. Every SAVE_SECONDS it writes what is known to the file of
+        --json, so that a kill loses only what came later; an OSError is ignored. It does nothing
+        without --json, or if the file is standard output."""
         path = self.options.json or '-'
         if path == '-':
             return do_nothing
@@ -235,101 +242,107 @@ class Check:
         from crashfs_tools.checker.running.saving import Saver
 
         def save() -> None:
-            write_whole(path, partial_pieces(self.report, results), self.trace.mode)
+            write_whole_file(path, partial_pieces(self.report, results, has_rest), self.trace.mode)
 
         return Saver(save, SAVE_SECONDS).save_if_due
 
-    def ends_at_failure(self, window: Window) -> bool:
-        """Whether --fail-fast ends the check after this window, because a state of it fails. False
-        if all states of the last window were tried: then nothing is left to try."""
-        return self.options.fail_fast and bool(window.findings.groups) and not self.is_over
+    def is_ended_by(self, window: Window) -> bool:
+        """Whether --fail-fast ends the check after this window, because a state of it fails or gave
+        no answer. False if all states of the session were tried: then no state is left to try."""
+        return self.options.fail_fast and bool(window.findings.groups) and not self.has_tried_all
 
     @property
-    def is_part(self) -> bool:
+    def is_of_shard_or_server(self) -> bool:
         """Whether only the states of a shard or of a server are tried: too few to find losses and
         advice from them."""
         return self.head.shard.parts > 1 or self.options.serve is not None
 
-    def find_losses(self, trials: Trials, findings: Findings) -> None:
+    def find_losses(self, window: Window) -> None:
         """Finds the smallest losses for states whose pair is a guess, and makes the groups of the
-        report again with them. Does nothing for a part of the states."""
-        if self.is_part or not any(one.pair.is_guess for one in findings.groups):
+        report again with them. Does nothing for a shard or a server. After an exception the report
+        has the groups from before."""
+        findings = window.findings
+        has_guess = any(group.pair.is_guess for group in findings.groups)
+        if self.is_of_shard_or_server or not has_guess:
             return
         from crashfs_tools.checker.findings.losses import find_losses
 
-        find_losses(trials, self.trace.planner, findings)
-        self.report.replace_last(findings)
+        find_losses(window.trials, self.trace.planner, findings)
+        self.report.replace_last_window(findings)
 
     def rerun_examples(self, window: Window, seconds: float = float('inf')) -> None:
         """Runs the example of each of the largest groups of a window again, one at a time, and adds
-        the outcomes to the report. After so many seconds none is begun."""
+        the outcomes to the report. After so many seconds none is begun. After an exception none of
+        the outcomes is in the report."""
         if window.findings.groups:
             from crashfs_tools.checker.findings.reruns import rerun_examples
 
             rerun_examples(window.trials, window.findings, seconds)
-            self.report.replace_last(window.findings)
+            self.report.replace_last_window(window.findings)
 
-    def add_details(self, trials: Trials, findings: Findings) -> None:
-        """Adds to the report what is done after the states of a window: how files differ, advice
-        that is tried, second crashes, and disks. Does nothing for a part of the states. What was
-        added before an exception stays."""
-        if self.is_part:
+    def add_details(self, window: Window) -> None:
+        """Adds to the report what is done after a window's states: how files differ, advice that is
+        tried, second crashes, and disks. Does nothing for a shard or a server. There are no disks
+        if second crashes ended the check. What was added before an exception stays."""
+        if self.is_of_shard_or_server:
             return
+        trials, findings = window.trials, window.findings
         if findings.groups:
             from crashfs_tools.checker.findings.advice_trials import add_details
 
-            add_details(trials, self.trace.planner.for_copies(trials.plan), findings)
-            self.report.replace_last(findings)
+            add_details(trials, self.trace.planner.planner_of_copies(trials.plan), findings)
+            self.report.replace_last_window(findings)
         if self.options.nested:
-            self.add_recoveries(trials, findings)
+            self.add_recoveries(window)
         if self.options.disks is not None and not self.end_cause:
-            from crashfs_tools.checker.findings.disk_search import sightings_of
+            from crashfs_tools.checker.findings.disk_search import search_disks
 
-            self.report.sightings = sightings_of(trials, findings.by_state)
+            self.report.sightings = search_disks(trials, findings.outcomes_by_state)
 
-    def add_recoveries(self, trials: Trials, findings: Findings) -> None:
+    def add_recoveries(self, window: Window) -> None:
         """Adds to the report what second crashes of a window leave. With --fail-fast the first
-        recovery in which one fails is the last, and ends the check."""
-        for recovery in self.nested.run(trials, findings):
+        recovery in which a state fails or gives no answer is the last, and ends the check."""
+        for recovery in self.second_crashes.try_recoveries(window.trials, window.findings):
             self.report.recoveries.append(recovery)
-            if self.options.fail_fast and recovery.failing:
+            if self.options.fail_fast and recovery.failing_count:
                 self.note_end(FIRST_FAILURE)
                 return
 
     @cached_property
-    def nested(self) -> Nested:
+    def second_crashes(self) -> SecondCrashTrials:
         """The object that tries recoveries: one for all windows, since it counts how many are left
         to try."""
-        from crashfs_tools.checker.findings.nested import Nested
+        from crashfs_tools.checker.findings.nested import SecondCrashTrials
 
-        return Nested(self.options.nested)
+        return SecondCrashTrials(self.options.nested)
 
 
 def interrupted_by(fault: Exception) -> Interrupted:
-    """An Interrupted whose cause is a fault."""
+    """A new Interrupted whose cause is this fault. It isn't raised yet."""
     interrupted = Interrupted()
     interrupted.__cause__ = fault
     return interrupted
 
 
 def new_report(head: Head, options: Options) -> CheckReport:
-    """A report without findings, with the failures of --accept if it is given. Refused if that file
-    can't be read, or isn't a file of accepted failures."""
+    """A report without findings, with the failures of --accept if it is given. Only if the options
+    name files of --json and --html, it keeps what they need. Refused if the file of --accept can't
+    be read, or isn't one of accepted failures."""
     accepted = AcceptedFailures.read(options.accept) if options.accept else None
     return CheckReport(head, options.json is not None, options.html is not None, accepted)
 
 
 @contextmanager
 def open_trace(options: Options, guard: Guard, progress: Progress) -> Iterator[CheckedTrace]:
-    """The trace that some options name. In these options COMMAND's program becomes its whole path,
-    or COMMAND the name of the function. Refused if the trace, the program, COMMAND or a file system
-    of --disks can't be used. Within this, a ProgramFault becomes Refused."""
+    """Opens the trace that some options name. In the options COMMAND's program becomes its whole
+    path, or COMMAND the name of the function. Refused if the trace, the program, COMMAND or a file
+    system of --disks can't be used, and in the place of a ProgramFault of the block."""
     refuse_unreadable(options.trace or '')
     if options.disks is not None:
         from crashfs_tools.disks.filesystems import require_filesystems
 
         require_filesystems(options.disks)
-    program = Crashfs.program_or_reading(options.crashfs, options.unproved)
+    program = Crashfs.find_or_second_reading(options.crashfs, options.unproved)
     if options.function is None:
         options.command = with_program_path(options.command)
     else:
@@ -338,12 +351,12 @@ def open_trace(options: Options, guard: Guard, progress: Progress) -> Iterator[C
     try:
         yield trace
     except ProgramFault as fault:
-        raise trace.planner.refusal_of('tar', fault) from fault
+        raise trace.planner.make_refusal('tar', fault) from fault
 
 
 def refuse_unreadable(trace: str) -> None:
-    """Refused unless the path of a trace leads to a file that can be read, or to a pipe. A pipe
-    isn't opened, because it can be read only once."""
+    """Refuses a trace unless its path leads to a file that can be read, or to a pipe. A pipe isn't
+    opened, because it can be read only once."""
     try:
         mode = os.stat(trace).st_mode
         if stat.S_ISREG(mode):
@@ -358,8 +371,8 @@ def refuse_unreadable(trace: str) -> None:
 def check_trace(
     options: Options, guard: Guard, progress: Progress, has_states: bool = False
 ) -> CheckResult:
-    """Checks the trace that some options name, and returns or raises what Check.run() does; Refused
-    as open_trace() is. With has_states the report keeps the outcome of each state. COMMAND in the
-    options gets its whole path."""
+    """Checks the trace that some options name, whose COMMAND open_trace() changes. Returns or
+    raises what Check.run() does; Refused as open_trace() and Check(). With has_states the report
+    keeps the outcome of each state. `progress` shows how far the check is."""
     with open_trace(options, guard, progress) as trace:
         return Check(trace, has_states).run()

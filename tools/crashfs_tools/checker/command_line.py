@@ -8,7 +8,7 @@ from typing import Dict, List, Optional, Tuple
 from crashfs_tools.common.command import parse_command_line, version_text
 
 from .address import Address
-from .options import MOST_JOBS, MOST_STATES, NAME, TIMEOUT, Options, Shard, processors
+from .options import MOST_JOBS, MOST_STATES, NAME, TIMEOUT, Options, Shard, processor_count
 
 DESCRIPTION = """\
 Runs COMMAND in the crash states of a trace, and reports in which states it fails, and why.
@@ -34,53 +34,53 @@ example: crashfs-check --jobs 4 store.trace -- ./recover.sh"""
 # The types of values, for argparse: each raises ArgumentTypeError for a text that isn't one.
 
 
-def shard(text: str) -> Shard:
+def parse_shard(text: str) -> Shard:
     """The shard of `I/N`, with I from 1 to N. ArgumentTypeError for any other text."""
-    part, slash, parts = text.partition('/')
-    if not (slash and part.isdecimal() and parts.isdecimal() and 1 <= int(part) <= int(parts)):
+    part, separator, parts = text.partition('/')
+    if not (separator and part.isdecimal() and parts.isdecimal() and 1 <= int(part) <= int(parts)):
         raise argparse.ArgumentTypeError(f'{text} is not I/N with I from 1 to N')
     return Shard(int(part), int(parts))
 
 
-def address(text: str) -> Address:
+def parse_address(text: str) -> Address:
     """The address of `HOST:PORT`, with a port from 1 to 65,535; an IPv6 host may be in brackets.
     ArgumentTypeError for any other text."""
-    host, colon, port = text.rpartition(':')
-    if not (host and colon and port.isdecimal() and 1 <= int(port) <= 65_535):
+    host, separator, port = text.rpartition(':')
+    if not (host and separator and port.isdecimal() and 1 <= int(port) <= 65_535):
         raise argparse.ArgumentTypeError(f'{text} is not HOST:PORT')
     return Address(host[1:-1] if host.startswith('[') and host.endswith(']') else host, int(port))
 
 
-def positive(text: str) -> int:
+def parse_positive(text: str) -> int:
     """A whole number from 1 on. ArgumentTypeError for any other text."""
     if not (text.isdecimal() and int(text) > 0):
         raise argparse.ArgumentTypeError(f'{text} is not a number from 1')
     return int(text)
 
 
-def job_count(text: str) -> int:
+def parse_job_count(text: str) -> int:
     """A number of jobs, from 1 to MOST_JOBS. ArgumentTypeError for any other text."""
-    count = positive(text)
+    count = parse_positive(text)
     if count > MOST_JOBS:
         raise argparse.ArgumentTypeError(f'{text} is more than {MOST_JOBS:,}')
     return count
 
 
-def state(text: str) -> Tuple[int, Optional[int]]:
+def parse_state(text: str) -> Tuple[int, Optional[int]]:
     """N and None for the text `N`, which names a state; N and M for `N/M`, which names state M of
     the recovery of state N. ArgumentTypeError for any other text."""
-    first, slash, second = text.partition('/')
-    if not (first.isdecimal() and (second.isdecimal() if slash else True)):
+    state, separator, recovery_state = text.partition('/')
+    if not (state.isdecimal() and (recovery_state.isdecimal() if separator else True)):
         raise argparse.ArgumentTypeError(f'{text} is neither N nor N/M')
-    return int(first), int(second) if slash else None
+    return int(state), int(recovery_state) if separator else None
 
 
-def names(text: str) -> List[str]:
-    """The names of a list with commas."""
+def parse_names(text: str) -> List[str]:
+    """The names in a list that is separated by commas; a text without a comma is one name."""
     return text.split(',')
 
 
-def seconds(text: str) -> float:
+def parse_seconds(text: str) -> float:
     """A duration in seconds, above 0 and below a billion. ArgumentTypeError for any other text."""
     try:
         value = float(text)
@@ -97,7 +97,7 @@ def add_state_options(parser: argparse.ArgumentParser) -> None:
     parser.add_argument(
         '--every',
         metavar='N',
-        type=positive,
+        type=parse_positive,
         help='all crash states if at most N of them differ, however long that takes '
         f'(without a number: {MOST_STATES:,})',
     )
@@ -120,7 +120,7 @@ def add_state_options(parser: argparse.ArgumentParser) -> None:
         dest='profile',
         help='only states that this profile allows, such as ordered',
     )
-    parser.add_argument('--window', metavar='N', type=positive, help=argparse.SUPPRESS)
+    parser.add_argument('--window', metavar='N', type=parse_positive, help=argparse.SUPPRESS)
     parser.add_argument(
         '--lost',
         action='store_true',
@@ -134,13 +134,13 @@ def add_state_options(parser: argparse.ArgumentParser) -> None:
     )
 
 
-def add_course_options(parser: argparse.ArgumentParser) -> None:
-    """Adds the options for second crashes, for a single state, and for when a check stops and where
-    it continues."""
+def add_run_options(parser: argparse.ArgumentParser) -> None:
+    """Adds the options that say how a check runs: second crashes, a single state, when the check
+    stops, and from where it continues."""
     parser.add_argument(
         '--nested',
         metavar='N',
-        type=positive,
+        type=parse_positive,
         default=0,
         help='crash the recovery too: record COMMAND in N states, and try each crash '
         'state of that recovery by a second run of COMMAND (needs strace)',
@@ -148,7 +148,7 @@ def add_course_options(parser: argparse.ArgumentParser) -> None:
     parser.add_argument(
         '--state',
         metavar='N',
-        type=state,
+        type=parse_state,
         help='try only state N, and leave it laid out as the crash left it; N/M is '
         'state M of the recovery of state N',
     )
@@ -156,7 +156,7 @@ def add_course_options(parser: argparse.ArgumentParser) -> None:
     parser.add_argument(
         '--time-limit',
         metavar='S',
-        type=seconds,
+        type=parse_seconds,
         help='stop after S seconds, and report what was tried',
     )
     parser.add_argument(
@@ -167,8 +167,8 @@ def add_course_options(parser: argparse.ArgumentParser) -> None:
     )
 
 
-def add_known_options(parser: argparse.ArgumentParser) -> None:
-    """Adds the options that name what is known before the check: failures that are accepted, and
+def add_earlier_results(parser: argparse.ArgumentParser) -> None:
+    """Adds the options that name files with what is known before the check: accepted failures, and
     the outcomes of earlier checks."""
     parser.add_argument(
         '--accept',
@@ -203,7 +203,7 @@ def add_program_options(parser: argparse.ArgumentParser) -> None:
     parser.add_argument(
         '--timeout',
         metavar='S',
-        type=seconds,
+        type=parse_seconds,
         default=TIMEOUT,
         help=f'kill a command after S seconds (default {TIMEOUT:g})',
     )
@@ -220,13 +220,13 @@ def add_program_options(parser: argparse.ArgumentParser) -> None:
     )
 
 
-def add_other_ways(parser: argparse.ArgumentParser) -> None:
-    """Adds the options by which states come from a server, from disks, or from the reports of
-    earlier checks."""
+def add_state_sources(parser: argparse.ArgumentParser) -> None:
+    """Adds the options by which the states, or their outcomes, come from a server, from disks, or
+    from the reports of earlier checks."""
     parser.add_argument(
         '--serve',
         metavar='ADDR',
-        type=address,
+        type=parse_address,
         help='mount each state from the `crashfs serve --again --client linux` that '
         'listens at this host and port, with the same trace and plan (as root)',
     )
@@ -238,7 +238,7 @@ def add_other_ways(parser: argparse.ArgumentParser) -> None:
     parser.add_argument(
         '--disks',
         metavar='LIST',
-        type=names,
+        type=parse_names,
         help='make the session again on disk images of these file systems, such as '
         'ext4,xfs,btrfs, and report on which of them a crash left a failing state (as root)',
     )
@@ -269,51 +269,52 @@ def make_parser() -> argparse.ArgumentParser:
     parser.add_argument(
         '--jobs',
         metavar='N',
-        type=job_count,
-        default=processors(),
+        type=parse_job_count,
+        default=processor_count(),
         help='run N commands at once (default: one per processor, %(default)s)',
     )
     parser.add_argument(
         '--shard',
         metavar='I/N',
-        type=shard,
+        type=parse_shard,
         default=Shard(),
         help='try only part I of N; --merge merges the reports',
     )
     add_state_options(parser)
-    add_course_options(parser)
-    add_known_options(parser)
+    add_run_options(parser)
+    add_earlier_results(parser)
     add_output_options(parser)
     add_program_options(parser)
-    add_other_ways(parser)
+    add_state_sources(parser)
     return parser
 
 
-def with_number(words: List[str]) -> List[str]:
-    """A copy of the arguments, in which each --every that no number follows is given MOST_STATES.
-    What follows `--` stays as it is."""
+def with_default_every(words: List[str]) -> List[str]:
+    """A copy of the arguments, in which each --every that no number follows has the number
+    MOST_STATES. An abbreviation such as --ever stays, and so does all after the first `--`."""
     end = words.index('--') if '--' in words else len(words)
-    given = list(words)
-    for at in range(end):
-        if words[at] == '--every' and not ''.join(words[at + 1 : end][:1]).isdecimal():
-            given[at] = f'--every={MOST_STATES}'
-    return given
+    copy = list(words)
+    for place in range(end):
+        if words[place] == '--every' and not ''.join(words[place + 1 : end][:1]).isdecimal():
+            copy[place] = f'--every={MOST_STATES}'
+    return copy
 
 
 def read_options(arguments: List[str]) -> Options:
     """The options of a command line. The program ends (SystemExit) after a fault, the help or the
     version is printed."""
     parser = make_parser()
-    values, command = parse_command_line(parser, with_number(arguments))
-    for text, is_so in possible_faults(values, command).items():
-        if is_so:
-            parser.error(text)
+    values, command = parse_command_line(parser, with_default_every(arguments))
+    for line, is_fault in possible_faults(values, command).items():
+        if is_fault:
+            parser.error(line)
     return Options(command=command, **vars(values))
 
 
 def possible_faults(values: argparse.Namespace, command: List[str]) -> Dict[str, bool]:
-    """The lines that report a missing TRACE or COMMAND, or options that don't go together, each
-    with whether that is so here. read_options() reports the first one that is."""
+    """The faults that a command line may have, a missing TRACE or COMMAND or options that don't go
+    together: the line that reports each, with whether these values have it. Options that only have
+    no effect, such as --fail-fast with --state or --resume with --merge, are no fault."""
     is_merge, is_serve = values.merge is not None, values.serve is not None
     is_shard = values.shard.parts > 1
     has_own_states = values.families or values.prefixes or values.quick or is_serve
@@ -329,7 +330,16 @@ def possible_faults(values: argparse.Namespace, command: List[str]) -> Dict[str,
         ),
         '--cache goes with no --serve': bool(values.cache) and is_serve,
         '--uname goes with --serve': values.uname is not None and not is_serve,
+        '--state writes no report: it goes with no --json, --junit, --tap, --html, --resume, '
+        '--disks or --merge': (values.state is not None and has_report_option(values)),
         '--nested goes with no --serve, --shard or --merge': (
             values.nested > 0 and (is_serve or is_shard or is_merge)
         ),
     }
+
+
+def has_report_option(values: argparse.Namespace) -> bool:
+    """Whether an option is given that writes, continues or merges the report of a whole check, or
+    adds to it what disks leave."""
+    outputs = (values.json, values.junit, values.tap, values.html, values.resume)
+    return any(value is not None for value in (*outputs, values.disks, values.merge))

@@ -13,17 +13,17 @@ from typing import Dict, List, Optional
 from crashfs_tools.api.reports import Report
 from crashfs_tools.checker.report.report import NOT_ALL_TRIED
 from crashfs_tools.checker.running.progress import Progress
-from crashfs_tools.checker.running.runner import keep_descriptors
+from crashfs_tools.checker.running.runner import LeftRunning, limit_inherited_descriptors
 from crashfs_tools.checker.states.plan import PlanError
 from crashfs_tools.common.command import (
     Refused,
     folder_to_write,
     print_line,
-    standard_output,
+    flushed_output,
 )
-from crashfs_tools.common.guard import Guard, Stopped, stop_by_exception
+from crashfs_tools.common.guard import Guard, Stopped, raise_on_stop_signals
 from crashfs_tools.common.own_faults import print_own_fault
-from crashfs_tools.common.printable import print_utf8
+from crashfs_tools.common.printable import set_utf8_streams
 from crashfs_tools.common.program import ProgramFault
 
 from .checking import Interrupted, check_trace, refuse_unreadable
@@ -34,13 +34,14 @@ BAD_INPUT = 2
 
 
 def run_command(options: Options) -> int:
-    """Does what the options ask for; returns the exit status. Refused for bad input, and an OSError
-    if a file can't be read or written. What ended a check early, a Stopped or an Interrupted, is
-    raised after the report is written and printed."""
+    """Does what the options ask for; returns the exit status. Refused for bad input, PlanError if
+    the program prints no plan, and an OSError if a file can't be read or written. What ended a
+    check early, a Stopped or an Interrupted, is raised after the report is written and printed,
+    unless that raises an OSError. Commands started later inherit the standard streams only."""
     refuse_outputs(options)
     if options.merge is not None:
         return write_and_print(options, merge_reports(options))
-    keep_descriptors()
+    limit_inherited_descriptors()
     with Guard(NAME) as guard:
         if options.state is not None:
             from .show_state import show_state
@@ -48,31 +49,36 @@ def run_command(options: Options) -> int:
             return show_state(options, guard)
         checked = check_trace(options, guard, Progress())
     status = write_and_print(options, Report(checked.report, checked.mode))
-    if checked.end is not None:
-        raise checked.end
+    if checked.exception is not None:
+        raise checked.exception
     return status
 
 
 def merge_reports(options: Options) -> Report:
-    """The report of the files of --merge, whose mode is that of the strictest of them. Refused as
-    merged_report(), or if TRACE is given and can't be read."""
+    """The report of the files of --merge. What is written of it gets the strictest of the modes of
+    these files and, if it is given, of TRACE. Refused as merged_report(), or if TRACE can't be
+    read; OSError if a file is gone."""
     from .merging import merged_report
 
+    sources = list(options.merge or [])
     if options.trace is not None:
         refuse_unreadable(options.trace)
-    return Report(merged_report(options), mode_of_reports(options.merge or []))
+        sources.append(options.trace)
+    return Report(merged_report(options), strictest_mode(sources))
 
 
 def refuse_outputs(options: Options) -> None:
-    """Refuses files that can't be written, or that would be written over TRACE or over each other.
-    Only a device, such as /dev/null, may be named several times."""
-    taken = {} if options.trace is None else {os.path.realpath(options.trace): 'TRACE'}
+    """Refuses output files that can't be written, that are TRACE or the file of --accept, or of
+    which two are one file. Only what is no plain file, such as /dev/null, may be named several
+    times. The reports of --resume and --merge may be replaced."""
+    inputs = {'TRACE': options.trace, '--accept': options.accept}
+    names = {os.path.realpath(path): name for name, path in inputs.items() if path is not None}
     for name, path in outputs_of(options).items():
         folder_to_write(path)
-        other = taken.setdefault(os.path.realpath(path), name)
+        first_name = names.setdefault(os.path.realpath(path), name)
         is_device = path != '-' and os.path.exists(path) and not os.path.isfile(path)
-        if other != name and not is_device:
-            raise Refused(f'{name} {path}: that is {other}')
+        if first_name != name and not is_device:
+            raise Refused(f'{name} {path}: that is {first_name}')
 
 
 def outputs_of(options: Options) -> Dict[str, str]:
@@ -86,34 +92,35 @@ def outputs_of(options: Options) -> Dict[str, str]:
     return {name: path for name, path in outputs.items() if path is not None}
 
 
-def mode_of_reports(paths: List[str]) -> int:
-    """The mode for a report that is made of other reports: its owner may read and write it, others
-    only as far as they may with all of these."""
+def strictest_mode(paths: List[str]) -> int:
+    """The mode for a report that is made of the files at these paths: its owner may read and write
+    it, others only if they may do so with all of these files. OSError if a file is gone."""
     return reduce(and_, (0o600 | os.stat(path).st_mode & 0o066 for path in paths))
 
 
 def write_and_print(options: Options, report: Report) -> int:
     """Writes the files that the options name, then prints the report; returns the exit status. If a
-    file can't be written, the report is printed nevertheless, and then the OSError is raised. The
-    report goes to standard error if a file is standard output."""
-    fault = None
+    file can't be written, the report is printed nevertheless, and then the OSError is raised, or
+    that of the printing if it fails too. The report goes to standard error if a file is standard
+    output."""
+    write_error = None
     try:
         write_files(options, report)
     except OSError as error:
-        fault = error
+        write_error = error
     if '-' in outputs_of(options).values():
         print(report, file=sys.stderr)
     else:
-        with standard_output():
+        with flushed_output():
             print(report)
-    if fault is not None:
-        raise fault
+    if write_error is not None:
+        raise write_error
     return report.status
 
 
 def write_files(options: Options, report: Report) -> None:
-    """Writes the files that the options name. The first OSError ends it: the files before that are
-    written."""
+    """Writes the files that the options name: those of --json, --junit, --tap and --html in this
+    order. The first OSError ends it: the files before that are written."""
     if options.json is not None:
         report.write_json(options.json)
     if options.junit is not None:
@@ -125,9 +132,10 @@ def write_files(options: Options, report: Report) -> None:
 
 
 def print_fault(fault: BaseException) -> None:
-    """Prints a fault that the user can mend, as a line or a few that name it, and any other
-    exception as a fault of these tools. Of a BaseException such as KeyboardInterrupt nothing is
-    printed."""
+    """Prints a fault that the user can repair, as lines that name it, and any other Exception as a
+    fault of these tools. An OSError that names no file is printed with the directory of temporary
+    files. Nothing is printed for a KeyboardInterrupt, or another exception that is no
+    Exception."""
     if isinstance(fault, OSError) and fault.strerror:
         print_line(NAME, f'{fault.filename or tempfile.gettempdir()}: {fault.strerror}')
     elif isinstance(fault, (Refused, PlanError, ProgramFault)):
@@ -140,22 +148,23 @@ def print_fault(fault: BaseException) -> None:
 def main(arguments: Optional[List[str]] = None) -> int:
     """Runs crashfs-check with these words, or if None with those of its command line, and returns
     its status, which --help explains. Faults are printed, not raised; only --help, --version and a
-    wrong option end the process (SystemExit)."""
-    print_utf8()
+    wrong option end the process (SystemExit). How this process takes signals that stop a command,
+    and the encoding of its standard streams, stay changed."""
+    set_utf8_streams()
     try:
         options = read_options(sys.argv[1:] if arguments is None else arguments)
-        stop_by_exception()
+        raise_on_stop_signals()
         return run_command(options)
     except Stopped as stopped:
         print_line(NAME, f'stopped by {stopped}')
         return stopped.status
     except Interrupted as interrupted:
         print_fault(interrupted.__cause__ or interrupted)
+    except (LeftRunning, OSError) as fault:
+        print_fault(fault)
     except (Refused, PlanError) as refused:
         print_fault(refused)
         return BAD_INPUT
-    except OSError as error:
-        print_fault(error)
     except Exception as error:
         print_own_fault(NAME, error)
     return NOT_ALL_TRIED

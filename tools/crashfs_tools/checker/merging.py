@@ -7,13 +7,13 @@ from typing import Dict, Optional
 from crashfs_tools.checker.findings.groups import Findings
 from crashfs_tools.checker.findings.tree_diff import find_differences
 from crashfs_tools.checker.report.report import CheckReport
-from crashfs_tools.checker.running.results import AllResults, Results, merged_shards
+from crashfs_tools.checker.running.results import AllResults, Results, merge_shards
 from crashfs_tools.checker.running.read_results import read_json
 from crashfs_tools.checker.running.runner import Outcome
 from crashfs_tools.checker.running.trials import Trials
 from crashfs_tools.common.command import Refused
 from crashfs_tools.common.guard import Guard
-from crashfs_tools.common.program import Crashfs
+from crashfs_tools.common.program import Crashfs, ProgramFault
 
 from .checked_trace import CheckedTrace
 from .checking import new_report
@@ -28,44 +28,52 @@ OTHER_PLAN = (
 
 def merged_report(options: Options) -> CheckReport:
     """The report of the files of --merge. If TRACE is given, its states are made again to show how
-    files differ; otherwise no program runs. Refused if a file can't be read or has findings that a
-    merged report would lack, if they aren't all shards of one check, or not of TRACE."""
-    results = merged_shards([read_shard(path) for path in options.merge or []])
+    files differ; otherwise no program runs. Refused as read_shard() and merge_shards(), if they
+    are reports of another trace, or if the program can't make the states. OSError if TRACE can't be
+    read."""
+    results = merge_shards([read_shard(path) for path in options.merge or []])
     if options.trace is None:
-        return report_of(options, results)
-    program = Crashfs.program_or_reading(options.crashfs, options.unproved)
+        return make_report(options, results)
+    program = Crashfs.find_or_second_reading(options.crashfs, options.unproved)
     with Guard(NAME) as guard:
         trace = CheckedTrace(options, program, guard)
-        if trace.head().digest != results.head.digest:
+        if trace.new_head().digest != results.head.digest:
             raise Refused(f'{options.trace}: {OTHER_TRACE}')
-        return report_of(options, results, trace)
+        try:
+            return make_report(options, results, trace)
+        except ProgramFault as fault:
+            raise trace.planner.make_refusal('tar', fault) from fault
 
 
 def read_shard(path: str) -> AllResults:
-    """The results in one file of --merge. Refused as read_json() is, and if its report has findings
-    of second crashes or of disks: a merged report would lack them, and might report no failure."""
+    """The results in a file of --merge, also if that check was stopped. Refused as read_json(), and
+    if the file has findings of second crashes or of disks: the merged report would lack them, and
+    might report no failure."""
     results = read_json(path)
-    if results.further:
-        options = ' and '.join(results.further)
+    if results.options_with_findings:
+        options = ' and '.join(results.options_with_findings)
         raise Refused(f'{path}: {OTHER_FINDINGS.format(options)}')
     return results
 
 
-def report_of(
+def make_report(
     options: Options, results: AllResults, trace: Optional[CheckedTrace] = None
 ) -> CheckReport:
-    """The report of results that were read, window by window. If their trace is given, it also says
-    how files differ: Refused if the trace has other states than a window, or fewer windows."""
+    """The report of results, window by window. If their trace is given, it also says how files
+    differ: it is planned again, and Refused if it has other states than a window of the results, or
+    fewer windows; more windows are passed over. Refused as new_report(), too. ProgramFault if the
+    program fails."""
     report = new_report(results.head, options)
+    report.not_done = list(results.not_done)
     outcomes: Dict[int, Outcome] = {}
-    planned = trace.all_planned() if trace else None
+    all_planned = trace.all_planned() if trace else None
     for window in results.windows:
         findings = Findings(results.head, window, outcomes)
-        outcomes = findings.by_state
+        outcomes = findings.outcomes_by_state
         report.add(findings)
-        if trace is not None and planned is not None:
-            one = next(planned, None)
-            if one is None or Results(one.plan).identity() != window.identity():
+        if trace is not None and all_planned is not None:
+            planned = next(all_planned, None)
+            if planned is None or Results(planned.plan).identity() != window.identity():
                 raise Refused(OTHER_PLAN)
-            find_differences(Trials(trace.workplace, one), findings)
+            find_differences(Trials(trace.workplace, planned), findings)
     return report

@@ -22,7 +22,7 @@ TIMEOUT = 10.0
 RecoveryFunction = Callable[[str, List[str]], object]
 
 
-def processors() -> int:
+def processor_count() -> int:
     """How many processors this process may use."""
     return len(os.sched_getaffinity(0))
 
@@ -34,7 +34,8 @@ class Shard(NamedTuple):
     parts: int = 1
 
     def has_place(self, place: int) -> bool:
-        """Whether this part has the state at a place, from 0, of the list of the states to try."""
+        """Whether this part has the state at a place, counted from 0, in the list of the states to
+        try."""
         return place % self.parts == self.part - 1
 
 
@@ -46,7 +47,7 @@ class Options:
 
     trace: Optional[str] = None
     command: List[str] = field(default_factory=list)
-    jobs: int = field(default_factory=processors)
+    jobs: int = field(default_factory=processor_count)
     shard: Shard = Shard()
     every: Optional[int] = None
     families: bool = False
@@ -77,43 +78,44 @@ class Options:
     function: Optional[RecoveryFunction] = None
 
     @property
-    def leaves_families_out(self) -> bool:
-        """Whether the families --lost and --files are tried only if they are given. So it is with
-        --serve: the plan is that of the server, which has prefixes and holes unless it was started
-        with picks."""
+    def has_families_only_if_given(self) -> bool:
+        """Whether the families --lost and --files are tried only if they are given. This is so with
+        --quick and --prefixes, and with --serve, whose plan is that of the server."""
         return self.quick or self.prefixes or self.serve is not None
 
     @property
     def has_every(self) -> bool:
-        """Whether all crash states are asked for: they are tried if they aren't too many, and not
-        too slow."""
-        return not (self.families or self.leaves_families_out)
+        """Whether all crash states are asked for, not only families. They are tried if they aren't
+        too many (most_states) and not too slow (most_seconds). False for families, even if `every`
+        is set."""
+        return not (self.families or self.has_families_only_if_given)
 
     @property
     def most_states(self) -> int:
-        """How many different crash states there may be at most for all of them to be tried."""
+        """The number of different crash states up to which all of them are tried, for the plan of
+        the trace or of each window."""
         return self.every or MOST_STATES
 
     @property
     def draw_count(self) -> int:
-        """How many sets are drawn at random if the crash states are too many for all of them to be
-        tried."""
+        """How many sets are drawn at random if not all crash states can be tried, for the plan of
+        the trace or of each window. None is drawn for a plan whose sets can't be counted."""
         return LIMITED_DRAWS if self.time_limit is not None else DRAWS
 
     @property
     def most_seconds(self) -> float:
-        """How many seconds all crash states may take at most; if they would take longer, only some
-        are tried. Infinite with --every or --time-limit, and for a shard, which has only a part of
-        them."""
-        is_free = self.every is not None or self.time_limit is not None or self.shard.parts > 1
-        return float('inf') if is_free else MOST_SECONDS
+        """How many seconds all crash states of the trace, or of each window, may take at most; if
+        they would take longer, only some are tried. Infinite with --every or --time-limit, and for
+        a shard, which has only a part of them. Families alone may take any time."""
+        has_no_limit = self.every is not None or self.time_limit is not None
+        return float('inf') if has_no_limit or self.shard.parts > 1 else MOST_SECONDS
 
     @property
     def has_lost(self) -> bool:
         """Whether the family --lost is tried: by default, or because it is given."""
-        return self.lost or not self.leaves_families_out
+        return self.lost or not self.has_families_only_if_given
 
     @property
     def has_files(self) -> bool:
         """Whether the family --files is tried, by the same rule as --lost."""
-        return self.files or not self.leaves_families_out
+        return self.files or not self.has_families_only_if_given

@@ -13,7 +13,7 @@ from crashfs_tools.checker.running.progress import Progress
 from crashfs_tools.checker.running.runner import BAD, GOOD, NO_ANSWER
 from crashfs_tools.checker.running.trials import Trials
 from crashfs_tools.checker.states.plan import State
-from crashfs_tools.common.command import TEXT, Refused, standard_output
+from crashfs_tools.common.command import TEXT, Refused, flushed_output
 from crashfs_tools.common.guard import Guard
 from crashfs_tools.common.removal import remove_tree
 
@@ -24,51 +24,53 @@ STATUSES = {GOOD: NONE_FAILS, BAD: SOME_FAIL, NO_ANSWER: NOT_ALL_TRIED}
 
 
 def show_state(options: Options, guard: Guard) -> int:
-    """Shows the state that --state names, or a state of its recovery; returns the exit status.
-    Refused if there is no such state, or if its recovery can't be recorded."""
+    """Shows the state that --state names, or a state of its recovery, which is recorded for that;
+    returns the exit status. Refused as open_trace(), if there is no such state, or if its recovery
+    can't be recorded. Options for a whole check, such as --fail-fast or --cache, are ignored."""
     with open_trace(options, guard, Progress()) as trace:
         assert options.state is not None
-        number, second = options.state
-        trials = trace.trials_of(number)
-        if second is None:
+        number, recovery_number = options.state
+        trials = trace.trials_with_state(number)
+        if recovery_number is None:
             return try_and_show(trials, number)
-        return try_and_show(RecoveryRecorder(trials).recovery(trials.plan.state(number)), second)
+        recovery = RecoveryRecorder(trials).record_recovery(trials.plan.state(number))
+        return try_and_show(recovery, recovery_number)
 
 
 def try_and_show(trials: Trials, number: int) -> int:
-    """Tries a state, lays it out a second time in a directory that stays, and prints the outcome
-    and how to run COMMAND there. Returns the exit status for the outcome; Refused if the plan has
-    no such state."""
+    """Tries the state of a number, lays it out again in a directory that stays, and prints the
+    outcome and how to run COMMAND there. Returns the exit status for the outcome. Refused if the
+    plan has no such state. The directory stays also if the printing raises an OSError."""
     if not trials.plan.has_state(number):
         raise Refused(f'no such state: {number} (there are {len(trials.plan.listed):,})')
     state = trials.plan.state(number)
-    outcome = trials.try_one(state)
-    left, acknowledged = leave_laid_out(trials, state)
+    outcome = trials.try_state(state)
+    directory, acknowledged = lay_out_for_user(trials, state)
     command = shlex.join(trials.options.command)
-    with standard_output():
+    with flushed_output():
         print(
             f'state {number}, {trials.plan.state_text(state)}, says {state.says}: '
             f'{outcome.result}{": " if outcome.cause else ""}{outcome.cause}'
         )
         print(
-            f'It is laid out in {left}. To try it there:\n'
-            f'    cd {shlex.quote(left)}\n'
+            f'It is laid out in {directory}. To try it there:\n'
+            f'    cd {shlex.quote(directory)}\n'
             f'    CRASHFS_STATE={number} CRASHFS_SAYS={state.says} '
             f'{command} < {shlex.quote(acknowledged)}'
         )
     return STATUSES[outcome.result]
 
 
-def leave_laid_out(trials: Trials, state: State) -> Tuple[str, str]:
-    """Lays a state out below a new temporary directory, which stays after the check; an error
-    removes it. Returns the paths of the state's directory, and of a file of its acknowledged lines.
-    The directory is no mount, also with --serve."""
+def lay_out_for_user(trials: Trials, state: State) -> Tuple[str, str]:
+    """Lays a state out below a new temporary directory, which stays after the command. Returns the
+    paths of the state's directory, which is no mount even with --serve, and of a file with its
+    acknowledged lines. After an exception, such as an OSError or ProgramFault, nothing stays."""
     folder = os.path.abspath(tempfile.mkdtemp(prefix=f'crashfs-state-{state.number}-'))
     try:
         ((_, directory),) = trials.archive_layout(folder).states({state.number})
         acknowledged = os.path.join(folder, f'says-{state.says}')
         with open(acknowledged, 'w', **TEXT) as file:
-            file.write(trials.says.text(state.says))
+            file.write(trials.acknowledged_lines.text(state.says))
         return directory, acknowledged
     except BaseException:
         remove_tree(folder)

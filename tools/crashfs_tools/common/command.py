@@ -14,7 +14,7 @@ import sys
 import tempfile
 from contextlib import contextmanager, redirect_stdout
 from importlib import import_module
-from typing import Any, Dict, Iterable, Iterator, List, Tuple
+from typing import Any, Dict, Iterable, Iterator, List, NoReturn, Tuple
 
 from crashfs_tools import VERSION
 
@@ -25,7 +25,7 @@ TEXT: Dict[str, Any] = {'encoding': 'utf-8', 'errors': 'surrogateescape', 'newli
 # The status of a text that could not be printed.
 NOT_PRINTED = 3
 # No line is longer: a fault may name a number of millions of digits. A path has 4,096 bytes.
-LINE_LETTERS = 8192
+LINE_CHARACTERS = 8192
 
 
 class Refused(Exception):
@@ -33,41 +33,42 @@ class Refused(Exception):
 
 
 def split_command(words: List[str]) -> Tuple[List[str], List[str]]:
-    """The words before the first `--`, and those after it, which are COMMAND. Without `--` all
+    """The words before the first `--`, and the words after it, which are COMMAND. Without `--` all
     words are before it, and COMMAND is empty."""
     if '--' not in words:
         return words, []
-    place = words.index('--')
-    return words[:place], words[place + 1 :]
+    separator = words.index('--')
+    return words[:separator], words[separator + 1 :]
 
 
 def parse_command_line(
     parser: argparse.ArgumentParser, words: List[str]
 ) -> Tuple[argparse.Namespace, List[str]]:
-    """What a parser makes of the words before the first `--`, and COMMAND, the words after it,
-    which may be none. A wrong word, --help and --version end the program by SystemExit, after the
-    text is printed; so does a text of --help or --version that can't be printed."""
-    before, command = split_command(words)
-    shown = io.StringIO()
+    """The options that a parser reads from the words before the first `--`, and COMMAND, the words
+    after it, which may be none. A wrong word (status 2), --help and --version (status 0) end the
+    program by SystemExit, after the text is printed. The status is NOT_PRINTED if the text of
+    --help or --version can't be printed."""
+    own_words, command = split_command(words)
+    help_text = io.StringIO()
     try:
-        with redirect_stdout(shown):
-            values, more = parser.parse_known_args(before)
+        with redirect_stdout(help_text):
+            values, unknown_words = parser.parse_known_args(own_words)
     except SystemExit:
-        if shown.getvalue():
-            print_help(parser.prog, shown.getvalue())
+        if help_text.getvalue():
+            print_help(parser.prog, help_text.getvalue())
         raise
-    if more and not command and not more[0].startswith('-'):
-        parser.error(f'put -- before COMMAND ({more[0]})')
-    if more:
-        parser.error(f'unrecognized arguments: {" ".join(more)}')
+    if unknown_words and not command and not unknown_words[0].startswith('-'):
+        parser.error(f'put -- before COMMAND ({unknown_words[0]})')
+    if unknown_words:
+        parser.error(f'unrecognized arguments: {" ".join(unknown_words)}')
     return values, command
 
 
 def print_help(program: str, text: str) -> None:
-    """Prints what --help or --version shows. If it can't be printed, a line says so, and SystemExit
-    with NOT_PRINTED is raised: argparse itself would fail, or print nothing."""
+    """Prints the text of --help or --version. If it can't be printed, prints a line on standard
+    error, and raises SystemExit with NOT_PRINTED: argparse itself would fail, or print nothing."""
     try:
-        with standard_output():
+        with flushed_output():
             print(text, end='')
     except OSError as error:
         print_line(program, f'{error.filename}: {error.strerror}')
@@ -75,8 +76,8 @@ def print_help(program: str, text: str) -> None:
 
 
 def version_text(command: str) -> str:
-    """What --version prints of a command. Only a release has the module `built`, which gives its
-    commit and its kit; without it the text says that this is no release."""
+    """The text of --version for a command. Only a release has the module `built`, with its commit
+    and its kit; without it the text says that this is no release."""
     try:
         built = import_module('crashfs_tools.built')
     except ModuleNotFoundError:
@@ -85,53 +86,54 @@ def version_text(command: str) -> str:
 
 
 def with_program_path(command: List[str]) -> List[str]:
-    """COMMAND, which must have a word, with the whole path of its program, since it is started in
-    another directory. Refused if PATH has no such program, or if it may not be executed."""
+    """COMMAND, which must have a word, with the absolute path of its program, since it is started
+    in another directory. A name with a slash is a path from this directory; any other is looked up
+    in PATH. Refused if the program isn't found, or may not be executed."""
     name = command[0]
     path = shutil.which(name)
     if path is None:
-        there = '/' in name and os.path.exists(name)
+        is_there = '/' in name and os.path.exists(name)
         hint = f' (use ./{name})' if os.path.isfile(name) else ''
-        raise Refused(f'{name}: ' + ('not executable' if there else f'command not found{hint}'))
+        raise Refused(f'{name}: ' + ('not executable' if is_there else f'command not found{hint}'))
     return [os.path.abspath(path)] + command[1:]
 
 
-def relative_arguments(command: List[str]) -> List[str]:
-    """COMMAND's arguments that are the relative path of a file or directory here: COMMAND runs in
-    another directory, and doesn't find it there."""
+def relative_path_arguments(command: List[str]) -> List[str]:
+    """COMMAND's arguments that are the relative path of a file or directory here. COMMAND, which
+    runs in another directory, doesn't find it there."""
     return [word for word in command[1:] if not os.path.isabs(word) and os.path.exists(word)]
 
 
 def folder_to_write(path: str) -> str:
-    """The directory of a file that will be written by write_whole(), that of its target if it is a
-    link. Refused if the file can't be made there. What is written in place, `-` and what is no
-    plain file, needs no right in the directory."""
+    """The directory in which write_whole_file() will write a path: that of its target if it is a
+    link, this directory for `-`. Refused if the path is a directory, or no file can be made there.
+    No right in the directory is needed for `-` and what is no plain file. refuse_foreign_file()
+    isn't called."""
+    if path == '-':
+        return os.getcwd()
     folder = os.path.dirname(os.path.realpath(path))
     if not os.path.isdir(folder):
         raise Refused(f'{path}: its directory is not there')
     if os.path.isdir(path):
         raise Refused(f'{path} is a directory')
-    in_place = path == '-' or os.path.exists(path) and not os.path.isfile(path)
+    in_place = os.path.exists(path) and not os.path.isfile(path)
     if not in_place and not os.access(folder, os.W_OK):
         raise Refused(f'{path}: its directory may not be written')
     return folder
 
 
-def write_whole(path: str, pieces: Iterable[str], mode: int = 0o666) -> None:
-    """Replaces a file as a whole, and returns when that is durable; a link stays, and its target is
-    replaced. The mode is that of the old file, or by the umask, without the bits that `mode` lacks.
-    `-` is standard output; it and what is no plain file, as a device or a pipe, are written in
-    place.
-
-    An OSError has this path, or the name of standard output. Then the old file stays, unless only
-    the sync of its directory failed; what is written in place may have a part.
-    """
+def write_whole_file(path: str, pieces: Iterable[str], mode: int = 0o666) -> None:
+    """Replaces a file, as replace_file() does; a link stays, and its target is replaced. `-`, which
+    is standard output, and what is no plain file are written in place, without a sync; a pipe waits
+    for its reader. An OSError, also one that `pieces` raises, has this path, or the name of
+    standard output. After any exception a plain file is as replace_file() leaves it, and what is
+    written in place may have a part."""
     if path == '-':
-        with standard_output():
+        with flushed_output():
             sys.stdout.writelines(pieces)
         return
     try:
-        refuse_planted(path)
+        refuse_foreign_file(path)
         if os.path.exists(path) and not os.path.isfile(path):
             with open(path, 'w', **TEXT) as file:
                 file.writelines(pieces)
@@ -141,40 +143,43 @@ def write_whole(path: str, pieces: Iterable[str], mode: int = 0o666) -> None:
         raise OSError(error.errno, error.strerror, path) from error
 
 
-def refuse_planted(path: str) -> None:
-    """OSError (EACCES) if the path is a link, a pipe or another special file that neither this user
-    nor the directory's owner made, in a directory that everybody may write, as /tmp."""
+def refuse_foreign_file(path: str) -> None:
+    """OSError (EACCES) if a path is a link, a pipe or another special file that neither this user
+    nor the directory's owner made, in a sticky directory that everybody may write, as /tmp. The
+    target of a link isn't looked at."""
     if not os.path.lexists(path):
         return
     status, folder = os.lstat(path), os.stat(os.path.dirname(path) or '.')
     is_shared = folder.st_mode & stat.S_ISVTX and folder.st_mode & stat.S_IWOTH
-    is_ours = status.st_uid in (os.geteuid(), folder.st_uid)
-    if is_shared and not is_ours and not stat.S_ISREG(status.st_mode):
+    is_trusted = status.st_uid in (os.geteuid(), folder.st_uid)
+    if is_shared and not is_trusted and not stat.S_ISREG(status.st_mode):
         raise OSError(errno.EACCES, 'another user made it, and it is no plain file', path)
 
 
 def replace_file(path: str, pieces: Iterable[str], mode: int) -> None:
-    """Writes a new file, which takes the path when it is whole and synced; then the directory is
-    synced. Its mode is mode_to_write() without the bits that `mode` lacks. After an OSError the old
-    file stays, unless only the last sync failed."""
+    """Writes a new file, renames it to the path, and returns once that is durable. Its owner is
+    this user; its mode is mode_of_replacement() without the bits that `mode` lacks; other names of
+    the old file keep the old bytes. After an exception, also one that `pieces` raises, the new file
+    is gone and the old one stays, unless only the sync of the directory failed."""
     folder = os.path.dirname(path)
-    number, part = tempfile.mkstemp(prefix='.' + os.path.basename(path)[:100], dir=folder)
+    # A name has up to 255 bytes, and a letter up to four.
+    descriptor, new_path = tempfile.mkstemp(prefix='.' + os.path.basename(path)[:50], dir=folder)
     try:
-        with open(number, 'w', **TEXT) as file:
+        with open(descriptor, 'w', **TEXT) as file:
             file.writelines(pieces)
             file.flush()
-            os.fchmod(number, mode_to_write(path) & mode)
-            os.fsync(number)
-        os.replace(part, path)
+            os.fchmod(descriptor, mode_of_replacement(path) & mode)
+            os.fsync(descriptor)
+        os.replace(new_path, path)
     except BaseException:
-        os.unlink(part)
+        os.unlink(new_path)
         raise
     sync_directory(folder)
 
 
 def sync_directory(folder: str) -> None:
-    """Makes the names of a directory durable. Nothing is done if we may not read it, or if its file
-    system can't sync directories; any other error is an OSError."""
+    """Makes the names in a directory durable. Does nothing if this user may not read it, or its
+    file system can't sync directories; any other error is an OSError."""
     try:
         directory = os.open(folder, os.O_RDONLY | os.O_DIRECTORY | os.O_CLOEXEC)
     except PermissionError:
@@ -188,9 +193,9 @@ def sync_directory(folder: str) -> None:
         os.close(directory)
 
 
-def mode_to_write(path: str) -> int:
-    """The mode of a file that will take a path: that of the file there, or that of a new one by the
-    umask. The umask of the process is 0 for a moment."""
+def mode_of_replacement(path: str) -> int:
+    """The mode for a file that will replace what is at a path: that of the old file, without set-ID
+    bits, or that of a new file by the umask. To read the umask, the process has 0 for a moment."""
     if os.path.exists(path):
         return os.stat(path).st_mode & 0o777
     umask = os.umask(0)
@@ -199,11 +204,11 @@ def mode_to_write(path: str) -> int:
 
 
 @contextmanager
-def standard_output() -> Iterator[None]:
+def flushed_output() -> Iterator[None]:
     """What is printed within this is written out by its end. OSError with the stream's name if it
-    can't be, or if standard output is closed; any OSError that is raised within counts as one of
-    the stream. A reader that reads no more, as `head`, is no fault. In these cases later output
-    goes nowhere."""
+    can't be, or if standard output is closed; any OSError raised within counts as the stream's. If
+    the reader has closed its end, as `head` does, the rest of the block is skipped, without an
+    error. In each of these cases later output is discarded."""
     if sys.stdout is None:
         raise OSError(errno.EBADF, os.strerror(errno.EBADF), 'standard output')
     try:
@@ -216,9 +221,20 @@ def standard_output() -> Iterator[None]:
             raise OSError(error.errno, error.strerror, 'standard output') from error
 
 
+def end_process(status: int) -> NoReturn:
+    """Ends this process with a status once its output is written, or can't be. Nothing that Python
+    or the caller's program would do at the end is done: to free the memory of a check takes as long
+    as ten states."""
+    try:
+        for stream in filter(None, (sys.stdout, sys.stderr)):
+            stream.flush()
+    finally:
+        os._exit(status)
+
+
 def ending_text(status: int) -> str:
     """How a process ended, as `was ended by SIGKILL` or `ended with status 1`, from the status that
-    Popen has: negative for a signal."""
+    Popen has: it is negative for a signal."""
     if status >= 0:
         return f'ended with status {status}'
     try:
@@ -228,17 +244,19 @@ def ending_text(status: int) -> str:
 
 
 def print_line(program: str, text: str) -> None:
-    """Prints one line on standard error, after the program's name; a long one is shortened().
-    Nothing happens if it can't be written."""
+    """Prints a line on standard error at once, after the program's name; shorten() cuts a long one.
+    Line feeds and control characters are printed as they are: escape_unprintable() is the caller's
+    task. Nothing happens if it can't be written."""
     if sys.stderr is None:
         return
     try:
-        print(f'{program}: {shortened(text)}', file=sys.stderr, flush=True)
+        print(f'{program}: {shorten(text)}', file=sys.stderr, flush=True)
     except OSError:
         pass
 
 
-def shortened(text: str) -> str:
-    """A text, with `...` for its middle if it is longer than LINE_LETTERS."""
-    half = LINE_LETTERS // 2
-    return text if len(text) <= LINE_LETTERS else f'{text[:half]} ... {text[-half:]}'
+def shorten(text: str) -> str:
+    """A text; if it is longer than LINE_CHARACTERS, its first and last characters, half as many of
+    each, with `...` between them."""
+    half = LINE_CHARACTERS // 2
+    return text if len(text) <= LINE_CHARACTERS else f'{text[:half]} ... {text[-half:]}'

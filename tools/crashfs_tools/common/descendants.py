@@ -13,7 +13,7 @@ import time
 from typing import AbstractSet, Callable, Dict, Iterator, Set
 
 PR_SET_PDEATHSIG, PR_SET_CHILD_SUBREAPER = 1, 36
-# The name of a process that cleans up behind another one, and then ends by itself.
+# The name of a process that cleans up after another one, and then ends by itself.
 CLEANER = 'crashfs-guard'
 CLEANING_SECONDS = 5.0
 # A process that still runs after so long can't be ended.
@@ -22,8 +22,9 @@ PAUSE_SECONDS = 0.0005
 
 
 def die_with_parent() -> None:
-    """From here on this process is killed when the thread that started it ends. Nothing happens if
-    the system can't do that, or if that thread has ended already."""
+    """From here on this process is killed when the thread that started it ends; processes that it
+    forks aren't. Nothing happens if the system can't do that, or if the thread has ended
+    already."""
     try:
         import ctypes
 
@@ -43,24 +44,25 @@ def become_reaper() -> bool:
         return False
 
 
-def children(process: int = 0) -> Set[int]:
+def child_processes(process: int = 0) -> Set[int]:
     """The children of a process, or of this one (0), also those that have ended but weren't waited
-    for. An empty set if the process is gone. If the kernel has no lists of children, all processes
-    are read."""
+    for; one may be missing if others end meanwhile. Empty if the process is gone. If the kernel has
+    no lists of children, all processes are read."""
     folder = f'/proc/{process or "self"}/task'
     try:
-        lists = [f'{folder}/{task}/children' for task in os.listdir(folder)]
+        list_paths = [f'{folder}/{task}/children' for task in os.listdir(folder)]
     except OSError:
         return set()
-    found: Set[int] = set()
-    for path in lists:
+    children: Set[int] = set()
+    for path in list_paths:
         try:
-            with open(path, encoding='ascii') as file:
-                found.update(map(int, file.read().split()))
+            # Unbuffered: this is read twice for each state.
+            with open(path, 'rb', buffering=0) as file:
+                children.update(map(int, file.readall().split()))
         except OSError:
             if not has_children_lists():
                 return children_by_parents(process or os.getpid())
-    return found
+    return children
 
 
 def has_children_lists() -> bool:
@@ -69,18 +71,19 @@ def has_children_lists() -> bool:
 
 
 def children_by_parents(process: int) -> Set[int]:
-    """The children of a process, from the parent that each process names. It is slower than the
-    kernel's lists, which some kernels lack."""
-    return {one for one in processes() if parent_of(one) == process}
+    """The children of a process, found by the parent of each process. It is slower than the
+    kernel's lists of children, which some kernels lack."""
+    return {child for child in all_processes() if parent_process(child) == process}
 
 
-def processes() -> Iterator[int]:
+def all_processes() -> Iterator[int]:
     """The numbers of all processes."""
     return (int(name) for name in os.listdir('/proc') if name.isdigit())
 
 
-def parent_of(process: int) -> int:
-    """The parent of a process; 0 if the process is gone, or has none that is seen here."""
+def parent_process(process: int) -> int:
+    """The parent of a process. 0 if the process is gone, or has no parent that this process can
+    see."""
     try:
         with open(f'/proc/{process}/stat', 'rb') as file:
             return int(file.read().rpartition(b')')[2].split()[1])
@@ -88,19 +91,19 @@ def parent_of(process: int) -> int:
         return 0
 
 
-def descendants() -> Set[int]:
+def descendant_processes() -> Set[int]:
     """The children of this process, their children, and so on. An orphan is among them only if this
-    process is a reaper."""
-    found: Set[int] = set()
-    new = children()
+    process is a reaper. What is started meanwhile may be missing."""
+    descendants: Set[int] = set()
+    new = child_processes()
     while new:
-        found |= new
-        new = {child for one in new for child in children(one)} - found
-    return found
+        descendants |= new
+        new = {child for parent in new for child in child_processes(parent)} - descendants
+    return descendants
 
 
-def name_of(process: int) -> str:
-    """The name of a process's program, cut by the system to 15 bytes; an empty text if the process
+def program_name(process: int) -> str:
+    """The name of a process's program, cut by the system to 15 bytes. An empty text if the process
     is gone."""
     try:
         with open(f'/proc/{process}/comm', encoding='utf-8', errors='replace') as file:
@@ -110,8 +113,8 @@ def name_of(process: int) -> str:
 
 
 def become_cleaner() -> None:
-    """Names this process CLEANER, so that end_children() and end_bearers() let it end by itself at
-    first. Nothing happens if the system can't do that."""
+    """Names this process CLEANER, so that end_children() and end_processes_with_token() let it end
+    by itself first. Nothing happens if the system doesn't allow that."""
     try:
         with open('/proc/self/comm', 'w', encoding='ascii') as file:
             file.write(CLEANER)
@@ -122,57 +125,58 @@ def become_cleaner() -> None:
 def end_children(
     spared: AbstractSet[int] = frozenset(), seconds: float = ENDING_SECONDS
 ) -> Dict[int, str]:
-    """Kills all children of this process except the spared ones, and what becomes its child by
-    that, until none is left; waits for them, so that their statuses are lost. Returns those that
-    still run after `seconds`, each with the name of its program; empty if none does. A cleaner has
-    CLEANING_SECONDS to end by itself."""
-    begun = time.monotonic()
+    """Kills the children of this process except the spared ones, each by kill_with_group(), and the
+    orphans that become its children then, until none remains. Waits for them: their statuses are
+    lost. Returns those that still run after `seconds`, each with the name of its program; empty if
+    none does. A cleaner has CLEANING_SECONDS to end by itself."""
+    started = time.monotonic()
     while True:
-        left = children() - spared
-        if not left:
+        remaining = child_processes() - spared
+        if not remaining:
             return {}
-        passed = time.monotonic() - begun
-        for child in left:
-            if passed > CLEANING_SECONDS or name_of(child) != CLEANER:
+        elapsed = time.monotonic() - started
+        for child in remaining:
+            if elapsed > CLEANING_SECONDS or program_name(child) != CLEANER:
                 kill_with_group(child)
-        running = [child for child in left if not reap(child)]
-        if passed > seconds:
-            return {child: name_of(child) for child in running}
-        if len(running) == len(left):
+        running = [child for child in remaining if not reap_if_ended(child)]
+        if elapsed > seconds:
+            return {child: program_name(child) for child in running}
+        if len(running) == len(remaining):
             time.sleep(PAUSE_SECONDS)
 
 
 def kill_with_group(child: int) -> None:
-    """Kills a child, and first the process group of one that is in another session than this
-    process: a group is killed at once, so that a process in it that forks all the time can't
-    escape. Nothing happens if the child is gone."""
+    """Kills a child, and first its process group if it is in another session than this process. A
+    group is killed at once: a process in it that forks all the time can't escape. Other children in
+    this group are killed too. Nothing happens if the child is gone."""
     try:
         session, group = os.getsid(child), os.getpgid(child)
     except OSError:
         return
     if session != os.getsid(0) and group > 1:
-        send_kill(os.killpg, group)
-    send_kill(os.kill, child)
+        kill_quietly(os.killpg, group)
+    kill_quietly(os.kill, child)
 
 
-def send_kill(send: Callable[[int, int], None], target: int) -> None:
-    """Kills a process or a group, by os.kill or os.killpg as `send`. Nothing happens if it is
-    another user's or gone."""
+def kill_quietly(kill: Callable[[int, int], None], target: int) -> None:
+    """Sends SIGKILL to a process by os.kill, or to a group by os.killpg, as `kill`. Nothing happens
+    if it is gone, or another user's."""
     try:
-        send(target, signal.SIGKILL)
+        kill(target, signal.SIGKILL)
     except OSError:
         pass
 
 
-def reap(child: int) -> bool:
-    """Waits for a child if it has ended; else nothing happens. Returns whether it is gone, also if
-    it was waited for before."""
+def reap_if_ended(child: int) -> bool:
+    """Waits for a child if it has ended; otherwise nothing happens. Returns whether it is gone,
+    also if it was waited for before."""
     try:
         return os.waitpid(child, os.WNOHANG)[0] != 0
     except ChildProcessError:
         return True
 
 
-def processes_text(left: Dict[int, str]) -> str:
-    """Processes as `7 (sleep), 9 (sh)`: each number with the name of its program, ascending."""
-    return ', '.join(f'{process} ({name})' for process, name in sorted(left.items()))
+def processes_text(names: Dict[int, str]) -> str:
+    """Processes as `7 (sleep), 9 (sh)`: each number with the name of its program, ascending. Names
+    aren't made printable. An empty text if there are none."""
+    return ', '.join(f'{process} ({name})' for process, name in sorted(names.items()))

@@ -30,31 +30,34 @@ class Entry:
         """Whether it is a file, which has bytes."""
         return self.data is not None
 
-    def write(self, at: int, data: bytes) -> None:
-        """Puts bytes into a file, in place; it grows if they end past its end, with zeros before
-        them. Only a file may be written: any other entry would become one."""
-        end = at + len(data)
-        whole = self.bytes_to_change(end)
-        if isinstance(whole, SparseBytes):
-            whole.write(at, data)
+    def write(self, offset: int, data: bytes) -> None:
+        """Puts bytes at an offset of a file, in place: entries that share its bytes change too, see
+        writable_bytes(). The file grows if they end past its end, also if there are none, with
+        zeros before them. No limit of its size is checked. Only a file may be written: any other
+        entry would become one."""
+        end = offset + len(data)
+        content = self.writable_bytes(end)
+        if isinstance(content, SparseBytes):
+            content.write(offset, data)
             return
-        whole.extend(bytes(max(0, end - len(whole))))
-        whole[at:end] = data
+        content.extend(bytes(max(0, end - len(content))))
+        content[offset:end] = data
 
     def resize(self, length: int) -> None:
-        """Cuts the bytes of a file, or adds zeros, in place. Only a file may be resized: any other
-        entry would become one."""
-        whole = self.bytes_to_change(length)
-        if isinstance(whole, SparseBytes):
-            whole.resize(length)
+        """Cuts the bytes of a file, or adds zeros, in place: entries that share its bytes change
+        too, see writable_bytes(). Only a file may be resized: any other entry would become one."""
+        content = self.writable_bytes(length)
+        if isinstance(content, SparseBytes):
+            content.resize(length)
             return
-        del whole[length:]
-        whole.extend(bytes(length - len(whole)))
+        del content[length:]
+        content.extend(bytes(length - len(content)))
 
-    def bytes_to_change(self, length: int = 0) -> Union[bytearray, SparseBytes]:
+    def writable_bytes(self, length: int = 0) -> Union[bytearray, SparseBytes]:
         """The bytes of a file in a form that can be changed in place, which the entry has from now
-        on. If `length`, the size that they will have, is above the limit of older traces, they are
-        kept without pages of zeros."""
+        on: a copy of `bytes`, but the same bytearray or SparseBytes, which other entries may share.
+        If `length`, their size after the change, is above the limit of older traces, they become
+        SparseBytes."""
         if length > limits.FILE_BYTES and not isinstance(self.data, SparseBytes):
             self.data = SparseBytes.copy_of(bytes(self.data or b''))
         if not isinstance(self.data, (bytearray, SparseBytes)):

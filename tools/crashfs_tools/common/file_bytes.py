@@ -12,45 +12,48 @@ PIECE_BYTES = 1 << 20
 Bytes = Union[bytes, SparseBytes]
 
 
-def file_bytes(file: int) -> Bytes:
-    """The bytes of an open file, from its beginning; of one of LARGE_BYTES or more in the form that
-    has no pages of zeros. If the file becomes shorter meanwhile, a small one has fewer bytes, and a
-    large one has zeros for them."""
-    size = os.fstat(file).st_size
+def read_file_bytes(descriptor: int) -> Bytes:
+    """The bytes of an open file, from its beginning; those of a file of LARGE_BYTES or more as
+    SparseBytes. If the file becomes shorter meanwhile, a small one has fewer bytes, and a large one
+    has zeros for them; what is added meanwhile isn't read. OSError if it can't be read. The
+    descriptor's own offset may change."""
+    size = os.fstat(descriptor).st_size
     if size < LARGE_BYTES:
-        return b''.join(read_pieces(file, 0, size))
-    found = SparseBytes(size)
-    for begin, end in data_ranges(file, size):
-        for piece in read_pieces(file, begin, end):
-            found.write(begin, piece)
-            begin += len(piece)
-    return found
+        return b''.join(read_pieces(descriptor, 0, size))
+    sparse = SparseBytes(size)
+    for offset, end in data_ranges(descriptor, size):
+        for piece in read_pieces(descriptor, offset, end):
+            sparse.write(offset, piece)
+            offset += len(piece)
+    return sparse
 
 
-def read_pieces(file: int, begin: int, end: int) -> Iterator[bytes]:
-    """The bytes of an open file from offset `begin` to before `end`, in pieces; fewer if the file
-    is shorter."""
+def read_pieces(descriptor: int, begin: int, end: int) -> Iterator[bytes]:
+    """The bytes of an open file from the offset `begin` to before `end`, in pieces of at most
+    PIECE_BYTES; fewer bytes if the file is shorter. OSError if it can't be read. The descriptor's
+    own offset stays."""
     while begin < end:
-        piece = os.pread(file, min(PIECE_BYTES, end - begin), begin)
+        piece = os.pread(descriptor, min(PIECE_BYTES, end - begin), begin)
         if not piece:
             return
         yield piece
         begin += len(piece)
 
 
-def data_ranges(file: int, size: int) -> Iterator[Tuple[int, int]]:
-    """The ranges of the first `size` bytes of an open file that are no holes, each by its two ends,
-    ascending. One range, the whole file, if its file system doesn't know holes."""
+def data_ranges(descriptor: int, size: int) -> Iterator[Tuple[int, int]]:
+    """The ranges of the first `size` bytes of an open file that aren't holes, each as its two ends,
+    ascending. If the file system doesn't report holes, it is one range, the whole file. No OSError
+    is raised. The descriptor's own offset changes."""
     end = 0
     while end < size:
         try:
-            begin = os.lseek(file, end, os.SEEK_DATA)
+            begin = os.lseek(descriptor, end, os.SEEK_DATA)
         except OSError as error:
             if error.errno == errno.ENXIO:
                 return
             begin = end
         try:
-            end = min(os.lseek(file, begin, os.SEEK_HOLE), size)
+            end = min(os.lseek(descriptor, begin, os.SEEK_HOLE), size)
         except OSError:
             end = size
         yield begin, end

@@ -3,52 +3,60 @@
 from __future__ import annotations
 
 import os
+import select
 import signal
 import sys
-from typing import Any, BinaryIO, List, NoReturn, Tuple
+from typing import Any, BinaryIO, Dict, List, NoReturn, Tuple
 
 from .descendants import die_with_parent
-from .guard import STOPS, stops_blocked
+from .guard import STOPS, stop_signals_blocked
 
 INTERNAL_ERROR = 70
+# So much of an output is read at once.
+PIECE_BYTES = 1 << 16
 
 
 class ForkedReading:
-    """A command of the second reading that runs, in a fork of this process. It has as much of the
-    interface of subprocess.Popen as is used; both outputs are pipes. The words are those of the
-    program `crashfs`."""
+    """A command of the second reading that runs in a fork of this process. It has the attributes
+    and methods of subprocess.Popen that are used; both outputs are pipes. The words are those of
+    the program `crashfs`."""
 
     def __init__(self, words: List[str]) -> None:
-        """Starts the command. OSError if the system can't fork, or has no more pipes."""
+        """Starts the command, with standard input empty. OSError if the system can't fork, or has
+        no more pipes. The other open files of this process are open in the fork too."""
         # Imported before the fork, so that later ones have it too.
         from crashfs_tools.reading import archive, main
 
         self.main = main.main
         del archive
-        out, err = os.pipe(), os.pipe()
-        with stops_blocked() as before:
+        out_reader, out_writer = os.pipe()
+        err_reader, err_writer = os.pipe()
+        with stop_signals_blocked() as blocked_before:
             self.process = os.fork()
             if self.process == 0:
                 for stop in STOPS:
                     signal.signal(stop, signal.SIG_DFL)
-                signal.pthread_sigmask(signal.SIG_SETMASK, before)
-                self.run_and_exit(words, out[1], err[1])
-        os.close(out[1])
-        os.close(err[1])
-        self.stdout: BinaryIO = open(out[0], 'rb')
-        self.stderr: BinaryIO = open(err[0], 'rb')
+                signal.pthread_sigmask(signal.SIG_SETMASK, blocked_before)
+                # Then it can't write any more, and ends, once nobody else can read.
+                os.close(out_reader)
+                os.close(err_reader)
+                self.run_and_exit(words, out_writer, err_writer)
+        os.close(out_writer)
+        os.close(err_writer)
+        self.stdout: BinaryIO = open(out_reader, 'rb')
+        self.stderr: BinaryIO = open(err_reader, 'rb')
         self.returncode: Any = None
 
-    def run_and_exit(self, words: List[str], out: int, err: int) -> NoReturn:
-        """In the new process: runs the command, with these descriptors as its two outputs and no
-        input, and ends the process with its status. An error that isn't caught prints a traceback,
-        and is INTERNAL_ERROR. It never returns."""
+    def run_and_exit(self, words: List[str], out_writer: int, err_writer: int) -> NoReturn:
+        """In the new process, which is killed when the thread that started it ends: runs the
+        command, with these pipes as its two outputs and no input, and ends the process with its
+        status. An error that isn't caught prints a traceback; the status is INTERNAL_ERROR then."""
         status = INTERNAL_ERROR
         try:
             die_with_parent()
             os.dup2(os.open(os.devnull, os.O_RDONLY), 0)
-            os.dup2(out, 1)
-            os.dup2(err, 2)
+            os.dup2(out_writer, 1)
+            os.dup2(err_writer, 2)
             sys.stdout = open(1, 'w', encoding='utf-8', errors='surrogateescape', newline='\n')
             sys.stderr = open(2, 'w', encoding='utf-8', errors='backslashreplace')
             status = self.main(words)
@@ -62,28 +70,41 @@ class ForkedReading:
             os._exit(status)
 
     def communicate(self) -> Tuple[bytes, bytes]:
-        """Waits for its end; returns all that it printed on standard output and on standard error.
-        The latter is read last, so it must fit into its pipe."""
+        """Reads standard output and standard error up to their ends, closes both, waits for the
+        process without limit, and sets `returncode`. Returns what was read from each. May be called
+        only once."""
         with self.stdout, self.stderr:
-            printed, error_text = self.stdout.read(), self.stderr.read()
+            pieces: Dict[int, List[bytes]] = {self.stdout.fileno(): [], self.stderr.fileno(): []}
+            poll = select.poll()
+            for descriptor in pieces:
+                poll.register(descriptor, select.POLLIN)
+            open_count = len(pieces)
+            while open_count:
+                for descriptor, _ in poll.poll():
+                    pieces[descriptor].append(os.read(descriptor, PIECE_BYTES))
+                    if not pieces[descriptor][-1]:
+                        poll.unregister(descriptor)
+                        open_count -= 1
         self.wait()
-        return printed, error_text
+        output, error_text = map(b''.join, pieces.values())
+        return output, error_text
 
     def wait(self) -> int:
-        """Waits for its end, and returns its status, which is negative for a signal; -SIGKILL if
-        something else in this process has waited for it. Its outputs aren't read: the pipes must
-        have room."""
+        """Waits for the process to end, sets `returncode`, and returns that: its status, negative
+        for a signal; or -SIGKILL if something else in this process has waited for it. Its outputs
+        aren't read: the pipes must have room. Later calls return the same at once."""
         if self.returncode is None:
             try:
-                ended = os.waitpid(self.process, 0)[1]
-                self.returncode = os.waitstatus_to_exitcode(ended)
+                wait_status = os.waitpid(self.process, 0)[1]
+                self.returncode = os.waitstatus_to_exitcode(wait_status)
             except ChildProcessError:
                 # Somebody else has waited for it: what is left behind is ended by all its children.
                 self.returncode = -signal.SIGKILL
         return int(self.returncode)
 
     def kill(self) -> None:
-        """Kills it, unless wait() has returned its status. The caller still calls wait()."""
+        """Kills the process, unless wait() has returned its status. The caller must still call
+        wait()."""
         if self.returncode is None:
             try:
                 os.kill(self.process, signal.SIGKILL)

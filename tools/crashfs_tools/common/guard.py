@@ -21,7 +21,7 @@ from typing import Dict, Iterable, Iterator, Mapping, NoReturn, Optional, Set, T
 from . import descendants
 from .command import print_line
 from .mount_table import MountTable
-from .removal import LEFT, remove_tree
+from .removal import TRASH_ENDING, remove_tree
 
 VARIABLE = 'CRASHFS_GUARD'
 STOPS = (signal.SIGINT, signal.SIGTERM, signal.SIGHUP)
@@ -31,11 +31,12 @@ WATCHER_KILLED = json.dumps([None, errno.ECHILD, 'its watcher was killed', 'temp
 
 class Guard:
     """Used by `with`. Start processes with `environment`, and put files below `directory`, which is
-    made in `folder`, or where temporary files are, with the program's name. A guard that may not
-    reap leaves other children of this process alone: it ends only what was started with the
-    environment."""
+    made in `folder`, or in the system's folder for temporary files. `program` begins its name and
+    the lines that are printed. A guard that may not reap ends only what was started with
+    `environment`, and no other children of this process."""
 
     def __init__(self, program: str, folder: Optional[str] = None, may_reap: bool = True) -> None:
+        """Makes and starts nothing yet: __enter__() does."""
         self.program = program
         self.folder = folder
         self.may_reap = may_reap
@@ -43,21 +44,22 @@ class Guard:
         self.directory = ''
         self.is_reaper = False
         # The watcher, and the end of the pipe whose closing it waits for, once it is started.
-        self.watcher, self.alive = 0, -1
+        self.watcher, self.alive_writer = 0, -1
         # Processes that could not be ended, with the names of their programs.
-        self.unended: Dict[int, str] = {}
+        self.still_running: Dict[int, str] = {}
 
     def __enter__(self) -> Guard:
-        """Makes the directory. OSError, with the name of its place, if it can't be made; then
-        nothing is left of the guard. This process stays a reaper, if it may be one, also after the
-        end of the `with`."""
+        """Makes the directory, and reports if it isn't in TMPDIR. OSError, with the name of the
+        place, if it can't be made; or without a name if the system can't fork or has no more pipes.
+        Then the guard leaves no process or directory. This process stays a reaper, if it may be
+        one, also after the end of the `with`."""
         self.is_reaper = self.may_reap and descendants.become_reaper()
         try:
             # A signal must not come before the watcher can be closed, nor reach the watcher before
             # that ignores signals. One that has waited is raised at the end of this block.
-            with stops_blocked():
+            with stop_signals_blocked():
                 self.start_watcher()
-                self.report_other_place()
+                self.report_other_folder()
         except BaseException:
             if self.directory:
                 self.__exit__()
@@ -65,188 +67,205 @@ class Guard:
         return self
 
     def start_watcher(self) -> None:
-        """Starts the watcher, and returns when it has made the directory. OSError, with the name of
-        the place, if it can't make one or is killed before: it has ended then."""
-        waiting, self.alive = pipe_above_streams()
-        answer, answering = pipe_above_streams()
+        """Starts the watcher, waits until it has made the directory, and sets `watcher`,
+        `alive_writer` and `directory`. OSError, with the name of the place, if the watcher can't
+        make one, or is killed before: it has ended then. OSError without a name if it can't be
+        started."""
+        alive_reader, self.alive_writer = pipe_above_standard_streams()
+        answer_reader, answer_writer = pipe_above_standard_streams()
         self.watcher = os.fork()
         if self.watcher == 0:
-            os.close(self.alive)
-            os.close(answer)
-            self.run_watcher(waiting, answering)
-        os.close(waiting)
-        os.close(answering)
-        with open(answer, encoding='ascii') as stream:
+            os.close(self.alive_writer)
+            os.close(answer_reader)
+            self.run_watcher(alive_reader, answer_writer)
+        os.close(alive_reader)
+        os.close(answer_writer)
+        with open(answer_reader, encoding='ascii') as stream:
             directory, *fault = json.loads(stream.read() or WATCHER_KILLED)
         if fault:
-            os.close(self.alive)
+            os.close(self.alive_writer)
             os.waitpid(self.watcher, 0)
             raise OSError(*fault)
         self.directory = directory
 
-    def report_other_place(self) -> None:
-        """Prints a line if the directory isn't in TMPDIR, because that can't be written. Nothing if
-        a folder was given."""
-        named, used = os.environ.get('TMPDIR'), os.path.dirname(self.directory)
-        if self.folder is None and named and os.path.realpath(named) != used:
-            print_line(self.program, f'TMPDIR={named} can not be written: {used} is used')
+    def report_other_folder(self) -> None:
+        """Prints a line on standard error if the directory isn't in TMPDIR, because that can't be
+        written. Prints nothing if the guard has a `folder`."""
+        named_folder, used_folder = os.environ.get('TMPDIR'), os.path.dirname(self.directory)
+        if self.folder is None and named_folder and os.path.realpath(named_folder) != used_folder:
+            print_line(
+                self.program, f'TMPDIR={named_folder} can not be written: {used_folder} is used'
+            )
 
     @property
     def environment(self) -> Dict[str, str]:
-        """The environment in which to start processes, so that the guard ends them: that of this
-        process as it is now, and the token."""
+        """The environment with which processes must be started so that the guard ends them: that of
+        this process now, with the token."""
         return with_token(os.environ, self.token)
 
     def end_processes(self, spared: Iterable[int] = ()) -> Dict[int, str]:
-        """Ends all that was started with the environment, and, if this process is a reaper, all
-        else that came of it, except spared children; these must not have been started with the
-        environment. Returns `unended`: what could not be ended, also by earlier calls; it isn't
-        tried again. Without a reaper it is empty."""
-        end_bearers(self.token)
+        """Ends all that was started with `environment`; if this process is a reaper, also its other
+        children and orphans, except the spared ones: their statuses are lost. A process started
+        with `environment` can't be spared. Waits up to twice ENDING_SECONDS. Returns
+        `still_running`: what no call could end, each with its name; always empty without a
+        reaper."""
+        end_processes_with_token(self.token)
         if self.is_reaper:
-            unended = descendants.end_children({self.watcher, *self.unended, *spared})
-            self.unended.update(unended)
-        return self.unended
+            children = descendants.end_children({self.watcher, *self.still_running, *spared})
+            self.still_running.update(children)
+        return self.still_running
 
-    def send_signal(self, number: int, spared: int) -> int:
-        """Sends a signal to all that was started with the environment, and, if this process is a
-        reaper, to all that came of it; but not to the process `spared`. Returns how many processes
-        got it: gone ones, and those of other users, don't."""
-        sent = 0
-        found = descendants.descendants() if self.is_reaper else set()
-        for process in (found | bearers(self.token)) - {self.watcher, spared}:
+    def send_signal(self, signal_number: int, spared_process: int) -> int:
+        """Sends a signal to all that was started with `environment`, and, if this process is a
+        reaper, to all its descendants, except one process. What is started meanwhile may not get
+        it. Returns how many processes got it: those that are gone, or another user's, don't."""
+        sent_count = 0
+        processes = descendants.descendant_processes() if self.is_reaper else set()
+        for process in (processes | processes_with_token(self.token)) - {
+            self.watcher,
+            spared_process,
+        }:
             try:
-                os.kill(process, number)
-                sent += 1
+                os.kill(process, signal_number)
+                sent_count += 1
             except OSError:
                 pass
-        return sent
+        return sent_count
 
     def __exit__(self, *_: object) -> None:
-        """Lets the watcher end processes and remove the directory, waits for it, and prints what it
-        could not remove. Exceptions aren't caught. Children that don't have the environment aren't
-        ended: end_processes() does that."""
-        os.close(self.alive)
+        """Lets the watcher end processes and remove the directory, waits for it without limit, and
+        prints on standard error what could not be removed. Exceptions go on. Children that weren't
+        started with `environment` aren't ended: end_processes() does that."""
+        os.close(self.alive_writer)
         os.waitpid(self.watcher, 0)
-        for path in (self.directory, self.directory + LEFT):
+        for path in (self.directory, self.directory + TRASH_ENDING):
             if os.path.lexists(path):
                 print_line(self.program, f'{path} could not be removed')
 
-    def run_watcher(self, waiting: int, answering: int) -> NoReturn:
+    def run_watcher(self, alive_reader: int, answer_writer: int) -> NoReturn:
         """The watcher, which never returns: it makes the directory, waits until the first process
-        leaves the guard or ends, and removes all. It makes the directory itself, so that no kill of
-        the first process can come between the directory and the process that removes it."""
+        leaves the guard or ends, and cleans up. It makes the directory itself, so that a kill of
+        the first process always leaves a process that removes it."""
         try:
             # The first process may be gone before it reads the answer: that is no signal.
-            for number in (*STOPS, signal.SIGPIPE):
-                signal.signal(number, signal.SIG_IGN)
+            for signal_number in (*STOPS, signal.SIGPIPE):
+                signal.signal(signal_number, signal.SIG_IGN)
             os.setsid()
             descendants.become_cleaner()
-            nothing = os.open(os.devnull, os.O_RDWR)
+            null_device = os.open(os.devnull, os.O_RDWR)
             for stream in (0, 1, 2):
-                os.dup2(nothing, stream)
-            self.answer_directory(answering)
-            os.read(waiting, 1)
-            self.remove_all()
+                os.dup2(null_device, stream)
+            self.make_and_send_directory(answer_writer)
+            os.read(alive_reader, 1)
+            self.clean_up()
         finally:
             os._exit(0)
 
-    def answer_directory(self, answering: int) -> None:
-        """In the watcher: makes the directory, and writes its path, or the fault, to the pipe. If
-        it can't be made, `directory` stays empty."""
+    def make_and_send_directory(self, answer_writer: int) -> None:
+        """In the watcher: makes the directory, writes its path, or the error, to the pipe, and
+        closes the pipe. `directory` stays empty if it can't be made."""
         try:
-            self.directory = new_directory(f'{self.program}-', self.folder)
+            self.directory = make_directory(f'{self.program}-', self.folder)
             answer = json.dumps([self.directory])
         except OSError as error:
             answer = json.dumps([None, error.errno, error.strerror, error.filename])
         try:
-            os.write(answering, answer.encode())
+            os.write(answer_writer, answer.encode())
         except BrokenPipeError:
             pass
-        os.close(answering)
+        os.close(answer_writer)
 
-    def remove_all(self) -> None:
-        """In the watcher: ends what bears the token, and, if there is a directory, unmounts what is
-        mounted below it, and removes it. What can't be unmounted or removed stays."""
-        end_bearers(self.token)
+    def clean_up(self) -> None:
+        """In the watcher: ends the processes with the token. If there is a directory, unmounts what
+        is mounted below it, and removes it; what can't be unmounted or removed stays in it, or
+        beside it in a directory whose name ends with TRASH_ENDING."""
+        end_processes_with_token(self.token)
         if self.directory:
             table = MountTable()
-            table.unmount(table.below(self.directory))
+            table.unmount(table.points_below(self.directory))
             remove_tree(self.directory)
 
 
-def pipe_above_streams() -> Tuple[int, int]:
-    """A pipe, by the ends for reading and writing, neither of which has the number of a standard
-    stream, even if these are closed. No program that is started inherits them."""
+def pipe_above_standard_streams() -> Tuple[int, int]:
+    """A new pipe, as its ends for reading and writing. Neither has the number of a standard stream,
+    even if these are closed. Forks inherit them; programs that are started don't. OSError if the
+    system has no more pipes."""
     ends = os.pipe()
-    reading, writing = (fcntl.fcntl(end, fcntl.F_DUPFD_CLOEXEC, 3) for end in ends)
+    reader, writer = (fcntl.fcntl(end, fcntl.F_DUPFD_CLOEXEC, 3) for end in ends)
     for end in ends:
         os.close(end)
-    return reading, writing
+    return reader, writer
 
 
-def new_directory(prefix: str, folder: Optional[str]) -> str:
-    """Makes a directory, in a folder or, if that is None, where temporary files are. Returns its
-    path, without links. An OSError names the place."""
+def make_directory(prefix: str, folder: Optional[str]) -> str:
+    """Makes a directory whose name begins with a prefix, in a folder or, if that is None, in the
+    system's one for temporary files. Returns its path, without links. An OSError names the
+    place."""
     try:
         return os.path.realpath(tempfile.mkdtemp(prefix=prefix, dir=folder))
     except OSError as error:
         # If no place for temporary files can be written, the error has no name.
-        name = error.filename or 'temporary files'
-        raise OSError(error.errno, error.strerror, name) from error
+        place = error.filename or 'temporary files'
+        raise OSError(error.errno, error.strerror, place) from error
 
 
 def with_token(environment: Mapping[str, str], token: str) -> Dict[str, str]:
-    """A copy of an environment with a token more: VARIABLE then has this one after those of all
-    guards around it."""
+    """A copy of an environment with one more token: VARIABLE has it after the tokens of the guards
+    around it."""
     tokens = [*filter(None, environment.get(VARIABLE, '').split(':')), token]
     return {**environment, VARIABLE: ':'.join(tokens)}
 
 
-def bearers(token: str) -> Set[int]:
-    """The processes that were started with a token in their environment. A fork has it too; a
-    process that may not be read isn't found."""
-    return {process for process in descendants.processes() if has_token(process, token.encode())}
+def processes_with_token(token: str) -> Set[int]:
+    """The processes that were started with a token in their environment, and forks of these. A
+    process that has ended, or may not be read, isn't found. OSError without /proc."""
+    return {
+        process for process in descendants.all_processes() if has_token(process, token.encode())
+    }
 
 
 def has_token(process: int, token: bytes) -> bool:
-    """Whether a process was started with a token in its environment; False for one that is gone or
-    may not be read."""
+    """Whether a process was started with a token in its environment. False if it is gone, or may
+    not be read."""
     try:
-        with open(f'/proc/{process}/environ', 'rb') as file:
-            variables = file.read().split(b'\0')
+        with open(f'/proc/{process}/environ', 'rb', buffering=0) as file:
+            environment = file.readall()
     except OSError:
         return False
-    name = VARIABLE.encode() + b'='
-    return any(one.startswith(name) and token in one[len(name) :].split(b':') for one in variables)
+    if token not in environment:
+        return False
+    prefix = VARIABLE.encode() + b'='
+    lines = [line for line in environment.split(b'\0') if line.startswith(prefix)]
+    return any(token in line[len(prefix) :].split(b':') for line in lines)
 
 
-def end_bearers(token: str) -> None:
-    """Kills all bearers of a token, again until none is found, since one may have just forked.
-    After ENDING_SECONDS it returns, even if some are left. A cleaner has CLEANING_SECONDS to end by
-    itself."""
-    begun = time.monotonic()
-    while time.monotonic() < begun + descendants.ENDING_SECONDS:
-        found = bearers(token)
-        if not found:
+def end_processes_with_token(token: str) -> None:
+    """Kills all processes with a token, again and again until none is found, since one may have
+    just forked. They aren't waited for. After ENDING_SECONDS it returns, even if some are left. A
+    cleaner has CLEANING_SECONDS to end by itself. OSError without /proc."""
+    started = time.monotonic()
+    while time.monotonic() < started + descendants.ENDING_SECONDS:
+        processes = processes_with_token(token)
+        if not processes:
             return
-        is_late = time.monotonic() > begun + descendants.CLEANING_SECONDS
-        for process in found:
-            if is_late or descendants.name_of(process) != descendants.CLEANER:
-                descendants.send_kill(os.kill, process)
+        is_late = time.monotonic() > started + descendants.CLEANING_SECONDS
+        for process in processes:
+            if is_late or descendants.program_name(process) != descendants.CLEANER:
+                descendants.kill_quietly(os.kill, process)
         time.sleep(0.01)
 
 
 @contextmanager
-def stops_blocked() -> Iterator[Set[Union[int, signal.Signals]]]:
-    """Within this the signals of STOPS wait, and that of a time limit: what is raised in the hooks
-    of a fork is lost. They come at its end. Yields the signals that were blocked before: a process
-    that is forked within it sets these itself, when it is ready for signals."""
-    before = signal.pthread_sigmask(signal.SIG_BLOCK, (*STOPS, signal.SIGALRM))
+def stop_signals_blocked() -> Iterator[Set[Union[int, signal.Signals]]]:
+    """Within this the signals of STOPS and SIGALRM wait in this thread, since what a handler raises
+    in the hooks of a fork is lost. They come at its end, unless they were blocked before. Yields
+    the signals that were blocked before: a process forked within it must set these itself, once it
+    is ready for signals."""
+    blocked_before = signal.pthread_sigmask(signal.SIG_BLOCK, (*STOPS, signal.SIGALRM))
     try:
-        yield before
+        yield blocked_before
     finally:
-        signal.pthread_sigmask(signal.SIG_SETMASK, before)
+        signal.pthread_sigmask(signal.SIG_SETMASK, blocked_before)
 
 
 class Stopped(Exception):
@@ -258,7 +277,7 @@ class Stopped(Exception):
 
     @property
     def status(self) -> int:
-        """The exit status of a command that this signal has ended, as a shell has it."""
+        """The exit status of a command that this signal ends, as a shell has it."""
         return 128 + self.number
 
 
@@ -268,15 +287,15 @@ class TimeUp(Exception):
 
 @contextmanager
 def time_limit(seconds: Optional[float]) -> Iterator[None]:
-    """Within this, TimeUp is raised in the main thread after so many seconds; None, or 0, is no
-    limit. Must be entered in the main thread. There is one timer: an inner limit ends an outer
-    one."""
+    """Within this, TimeUp is raised in the main thread after so many seconds; None or 0 is no
+    limit. Must be entered in the main thread, else ValueError. There is one timer: an inner limit
+    ends an outer one, also if it is 0, but not if it is None."""
 
-    def end(_: int, __: object) -> None:
+    def raise_time_up(_: int, __: object) -> None:
         raise TimeUp
 
     if seconds is not None:
-        signal.signal(signal.SIGALRM, end)
+        signal.signal(signal.SIGALRM, raise_time_up)
         signal.setitimer(signal.ITIMER_REAL, seconds)
     try:
         yield
@@ -285,24 +304,26 @@ def time_limit(seconds: Optional[float]) -> Iterator[None]:
             signal.setitimer(signal.ITIMER_REAL, 0)
 
 
-def stops_heard() -> Tuple[signal.Signals, ...]:
-    """The signals that stop a command here: those of STOPS, but not SIGHUP if it is ignored now, as
-    under `nohup`."""
+def stop_signals() -> Tuple[signal.Signals, ...]:
+    """The signals that stop a command here: those of STOPS, without SIGHUP if that is ignored now,
+    as under `nohup`."""
     if signal.getsignal(signal.SIGHUP) is signal.SIG_IGN:
-        return tuple(stop for stop in STOPS if stop != signal.SIGHUP)
+        return tuple(number for number in STOPS if number != signal.SIGHUP)
     return STOPS
 
 
-def stop_by_exception() -> None:
-    """From here on the first signal that stops a command raises Stopped in the main thread. It ends
-    a time limit, and all later ones of STOPS are ignored, so that the command can clean up."""
+def raise_on_stop_signals() -> None:
+    """From here on the first of stop_signals() raises Stopped in the main thread, which must be the
+    caller's. Then a time limit ends, and the signals of STOPS are ignored, so that the command can
+    clean up; programs that are started then ignore them too."""
 
-    def stop(number: int, _: object) -> None:
-        """Raises Stopped, at most once: a handler of the signals."""
+    def raise_stopped(signal_number: int, _: object) -> None:
+        """A handler of the signals: ends a time limit, ignores STOPS from then on, and raises
+        Stopped."""
         signal.setitimer(signal.ITIMER_REAL, 0)
-        for later in STOPS:
-            signal.signal(later, signal.SIG_IGN)
-        raise Stopped(number)
+        for later_signal in STOPS:
+            signal.signal(later_signal, signal.SIG_IGN)
+        raise Stopped(signal_number)
 
-    for number in stops_heard():
-        signal.signal(number, stop)
+    for signal_number in stop_signals():
+        signal.signal(signal_number, raise_stopped)

@@ -20,6 +20,7 @@ class MountTable:
     runs."""
 
     def __init__(self) -> None:
+        """Opens the table, and reads it. OSError if it can be opened but not read."""
         self.poll = select.poll()
         self.points: Dict[int, str] = {}
         try:
@@ -27,34 +28,40 @@ class MountTable:
         except OSError:
             return
         self.poll.register(self.file, select.POLLPRI)
-        self.points = read_points()
+        self.points = read_mount_points()
 
-    def below(self, directory: str) -> Dict[int, str]:
+    def points_below(self, directory: str) -> Dict[int, str]:
         """The mount points at a directory and below it, by the numbers of the mounts, in the order
-        in which they were mounted. The path must be absolute and without links."""
+        in which they were mounted. The path must be absolute and without links. OSError if the
+        table has changed and can't be read."""
         if self.poll.poll(0):
-            self.points = read_points()
+            self.points = read_mount_points()
+        folder_prefix = os.path.join(directory, '')
         return {
             number: point
             for number, point in self.points.items()
-            if point == directory or point.startswith(os.path.join(directory, ''))
+            if point == directory or point.startswith(folder_prefix)
         }
 
     def unmount(self, points: Mapping[int, str]) -> List[str]:
-        """Unmounts these mount points, the last one first, even those in use: each of UNMOUNTS is
-        tried until one succeeds. Returns the paths of those that are still there."""
+        """Unmounts these mount points, the last one first, even those in use: tries each of
+        UNMOUNTS until one succeeds, without a time limit. Returns the paths that are still mounted.
+        OSError as points_below()."""
         for point in reversed(list(points.values())):
             any(run_quietly([*words, point]) for words in UNMOUNTS)
-        left = self.below('/')
-        return [point for number, point in points.items() if left.get(number) == point]
+        remaining = self.points_below('/') if points else {}
+        return [point for number, point in points.items() if remaining.get(number) == point]
 
 
-def read_points() -> Dict[int, str]:
+def read_mount_points() -> Dict[int, str]:
     """The mount points that the system has now, by the numbers of the mounts. OSError if the table
     can't be read."""
     with open(TABLE, 'rb') as lines:
         fields = [line.split(b' ') for line in lines]
-    return {int(one[0]): os.fsdecode(OCTAL.sub(byte_of_escape, one[4])) for one in fields}
+    return {
+        int(line_fields[0]): os.fsdecode(OCTAL.sub(byte_of_escape, line_fields[4]))
+        for line_fields in fields
+    }
 
 
 def byte_of_escape(match: re.Match[bytes]) -> bytes:
@@ -63,10 +70,10 @@ def byte_of_escape(match: re.Match[bytes]) -> bytes:
 
 
 def run_quietly(words: List[str]) -> bool:
-    """Runs a command without its output, and returns whether it ended with status 0; False if it
-    can't be started."""
+    """Runs a command without input and output, and waits for it without limit. Returns whether it
+    ended with status 0; False if it can't be started."""
     try:
-        ran = subprocess.run(
+        completed = subprocess.run(
             words,
             stdin=subprocess.DEVNULL,
             stdout=subprocess.DEVNULL,
@@ -75,4 +82,4 @@ def run_quietly(words: List[str]) -> bool:
         )
     except OSError:
         return False
-    return ran.returncode == 0
+    return completed.returncode == 0

@@ -17,20 +17,20 @@ UNPRINTABLE = re.compile(
 SHORT = {'\n': '\\n', '\t': '\\t', '\r': '\\r'}
 
 
-def printable(text: str, allowed: str = '') -> str:
+def escape_unprintable(text: str, allowed: str = '') -> str:
     """The text with an escape, such as \\x1b or \\u202e, for each character of UNPRINTABLE that
-    isn't in `allowed`. A backslash stays as it is."""
+    isn't in `allowed`. Backslashes stay: an escape that the text has itself looks the same."""
     return UNPRINTABLE.sub(
-        lambda match: match[0] if match[0] in allowed else escape(match[0]), text
+        lambda match: match[0] if match[0] in allowed else escape_character(match[0]), text
     )
 
 
-def escape(letter: str) -> str:
-    """The escape of one character; that of a byte that isn't UTF-8, which Python has as half of a
-    surrogate pair, is the byte's."""
-    code = ord(letter)
-    if letter in SHORT:
-        return SHORT[letter]
+def escape_character(character: str) -> str:
+    """The escape of a character. Python has a byte that isn't UTF-8 as half of a surrogate pair:
+    its escape is that of the byte."""
+    code = ord(character)
+    if character in SHORT:
+        return SHORT[character]
     if 0xDC80 <= code <= 0xDCFF:
         return f'\\x{code - 0xDC00:02x}'
     if code < 0x100:
@@ -44,17 +44,19 @@ def count_text(count: int, noun: str) -> str:
     return f'{count:,} {noun}' if count == 1 else f'{count:,} {noun}s'
 
 
-def print_utf8() -> None:
-    """Makes standard output and standard error UTF-8, whatever the locale is; what can't be encoded
-    is printed as an escape. Streams that were replaced by others stay."""
+def set_utf8_streams() -> None:
+    """Makes standard output and standard error UTF-8, whatever the locale is. What can't be
+    encoded, halves of surrogate pairs, is printed as an escape. Streams of another class, as those
+    of a test, stay as they are."""
     for stream in (sys.stdout, sys.stderr):
         if isinstance(stream, io.TextIOWrapper):
             stream.reconfigure(encoding='utf-8', errors='backslashreplace')
 
 
 def prepare_standard_streams() -> None:
-    """Opens standard streams that are closed, so that no other file gets their numbers: what is
-    printed there goes nowhere, and nothing can be read. What is printed is UTF-8."""
+    """Opens each standard stream that is closed as /dev/null, also for programs that are started,
+    so that no other file gets its number. Python's own sys.stdin may still be None. Then calls
+    set_utf8_streams()."""
     for number in (0, 1, 2):
         try:
             os.fstat(number)
@@ -64,4 +66,4 @@ def prepare_standard_streams() -> None:
         sys.stdout = open(1, 'w', encoding='utf-8', closefd=False)
     if sys.stderr is None:
         sys.stderr = open(2, 'w', encoding='utf-8', closefd=False)
-    print_utf8()
+    set_utf8_streams()

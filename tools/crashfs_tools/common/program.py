@@ -14,7 +14,7 @@ from functools import cached_property
 from itertools import groupby
 from typing import Any, Dict, Iterator, List, Optional, Tuple, Union
 
-from .archive import ArchiveFault, Member, members, number_of_state
+from .archive import ArchiveFault, Member, parse_state_number, read_members
 from .command import Refused, ending_text
 from .entry import Entries
 from .forked_reading import ForkedReading
@@ -42,7 +42,8 @@ TOO_LARGE = ('plan too large', 'too many micro-operations')
 
 
 def can_be_built() -> bool:
-    """Whether these tools are those of a clone, which has `tools/build`; installed ones haven't."""
+    """Whether these tools are in a clone, which has `tools/build`. Installed tools don't have
+    it."""
     return os.access(BUILDER, os.X_OK) and os.path.isdir(os.path.join(TOP, 'crates'))
 
 
@@ -72,49 +73,61 @@ class ProgramFault(Exception):
 
 
 class Crashfs:
-    """One program file; or, unproved, the second reading. refused_version: the version of traces
-    that the program refuses, so that the second reading takes its place; else 0."""
+    """One program file; or, if it is_unproved, the second reading. refused_version: the version of
+    traces that the program refuses, so that the second reading is used; else 0. has_sparse: whether
+    archives have large files in pieces, without zeros."""
 
-    def __init__(self, path: str, unproved: bool = False, refused_version: int = 0) -> None:
+    def __init__(self, path: str, is_unproved: bool = False, refused_version: int = 0) -> None:
+        """has_sparse is False at first, unless it is the second reading; program_for_version() sets
+        it."""
         self.path = path
-        self.unproved = unproved
+        self.is_unproved = is_unproved
         self.refused_version = refused_version
+        self.has_sparse = is_unproved
 
     @staticmethod
-    def program_or_reading(given: Optional[str], unproved: bool) -> Crashfs:
-        """The program, as find() finds it, or the second reading if there is none. If unproved is
-        set, it is the second reading, and `given` isn't looked at. Refused if `given` is no
-        program."""
-        program = None if unproved else Crashfs.find(given)
+    def find_or_second_reading(crashfs_option: Optional[str], is_unproved: bool) -> Crashfs:
+        """The program, as find() finds it, or the second reading if there is none; its
+        `is_unproved` says which. With is_unproved it is the second reading, and `crashfs_option`
+        isn't looked at. Refused if --crashfs names no program."""
+        program = None if is_unproved else Crashfs.find(crashfs_option)
         return program or Crashfs.second_reading()
 
     @staticmethod
     def second_reading(refused_version: int = 0) -> Crashfs:
-        """The second reading, also for traces of a version that the program refuses."""
-        return Crashfs(READING, unproved=True, refused_version=refused_version)
+        """The second reading as a program. `refused_version` is the version of traces that made the
+        program refuse; 0 if it is used for another reason."""
+        return Crashfs(READING, is_unproved=True, refused_version=refused_version)
 
     @staticmethod
-    def find(given: Optional[str]) -> Optional[Crashfs]:
-        """The program that --crashfs names, unless `given` is None; else that of PATH, else the one
-        that was installed with these tools, or was built here. None if there is none; Refused if
-        --crashfs names no program."""
-        if given is not None:
-            if shutil.which(given) is None:
-                raise Refused(f'--crashfs {given}: no such program')
-            return Crashfs(os.path.abspath(shutil.which(given) or given))
-        path = shutil.which('crashfs') or program_of_tools(LIBRARY)
-        return None if path is None else Crashfs(path)
+    def find(crashfs_option: Optional[str]) -> Optional[Crashfs]:
+        """The program that --crashfs names, by a path or a name in PATH. Without --crashfs (None)
+        it is `crashfs` in PATH, else the one that was installed with these tools, or built here;
+        None if there is none. Refused if --crashfs names no program. It isn't started."""
+        if crashfs_option is None:
+            path = shutil.which('crashfs') or program_of_tools(LIBRARY)
+            return None if path is None else Crashfs(path)
+        path = shutil.which(crashfs_option)
+        if path is None:
+            raise Refused(f'--crashfs {crashfs_option}: no such program')
+        return Crashfs(os.path.abspath(path))
 
-    def for_version(self, version: int) -> Crashfs:
-        """This program; or, if it doesn't read traces of a version, the second reading, which has
-        this version as its refused_version. Only versions from NEW_VERSION on are tried."""
-        if self.unproved or version < NEW_VERSION or self.reads_version(version):
+    def program_for_version(self, version: int) -> Crashfs:
+        """This program; or, if it doesn't read traces of a version, the second reading, with this
+        version as refused_version. Sets has_sparse if the program can write large files in pieces.
+        Versions before NEW_VERSION aren't tried. For others the program is started: OSError as
+        can_read_version()."""
+        if self.is_unproved or version < NEW_VERSION:
             return self
-        return Crashfs.second_reading(refused_version=version)
+        if not self.can_read_version(version):
+            return Crashfs.second_reading(refused_version=version)
+        self.has_sparse = '--sparse' in self.tar_help
+        return self
 
-    def reads_version(self, version: int) -> bool:
-        """Whether the program reads traces of a version: it is given one that is only a header. Any
-        fault but REFUSED counts as yes: the next command shows it."""
+    def can_read_version(self, version: int) -> bool:
+        """Whether the program reads traces of a version: it gets a trace that has only a header.
+        Any fault but REFUSED counts as yes, since the next command reports it. OSError if no
+        temporary file can be written."""
         with tempfile.NamedTemporaryFile('w', suffix='.trace') as file:
             file.write(EMPTY_TRACE % version)
             file.flush()
@@ -125,27 +138,33 @@ class Crashfs:
         return True
 
     @cached_property
-    def has_changes(self) -> bool:
-        """Whether the program has `tar --changes`, as its help says; False if it doesn't print
-        help. Asked once."""
+    def tar_help(self) -> str:
+        """The text of `crashfs tar --help`, or an empty text if that fails. The program is started
+        only once for it."""
         try:
-            return '--changes' in self.output_of(['tar', '--help'])
+            return self.output_of(['tar', '--help'])
         except ProgramFault:
-            return False
+            return ''
+
+    @property
+    def has_tar_changes(self) -> bool:
+        """Whether the program has `tar --changes`, by its help; False if it doesn't print help."""
+        return '--changes' in self.tar_help
 
     def output_of(self, words: List[str], environment: Optional[Dict[str, str]] = None) -> str:
-        """What a command prints on standard output. ProgramFault if its status isn't 0, or if it
-        can't be started. Without an environment it has that of this process."""
+        """What a command prints on standard output; what it prints as an error is dropped.
+        ProgramFault if its status isn't 0; errors of the start as start(). With the `environment`
+        None, and for the second reading, it has that of this process."""
         child = self.start(words, environment)
-        out, error_text = child.communicate()
+        output, error_text = child.communicate()
         if child.returncode != 0:
             raise ProgramFault(child.returncode, error_text)
-        return out.decode('utf-8', 'surrogateescape')
+        return output.decode('utf-8', 'surrogateescape')
 
     def start(self, words: List[str], environment: Optional[Dict[str, str]]) -> RunningProgram:
-        """Starts a command, with pipes as its two outputs and no input. ProgramFault if the program
-        can't be started. The second reading is a fork of this process instead, which takes no
-        environment: OSError if it can't be forked."""
+        """Starts a command, with pipes as its two outputs and no input. The caller must read both
+        and wait for it. ProgramFault if the program can't be started. The second reading is a fork
+        of this process instead, which ignores `environment`: OSError if it can't be forked."""
         if os.path.realpath(self.path) == READING:
             return ForkedReading(words)
         try:
@@ -161,22 +180,19 @@ class Crashfs:
             raise ProgramFault(NOT_STARTED, error_text.encode()) from error
 
     @contextmanager
-    def archive(
+    def open_archive(
         self, words: List[str], environment: Optional[Dict[str, str]] = None
     ) -> Iterator[Iterator[Member]]:
-        """The entries of the archive that `crashfs tar` writes, as a stream that can be read once,
-        within this. At its end ProgramFault if the program failed, or if what it wrote is no
-        archive. An exception within kills the program, and is raised.
-
-        The second reading writes large files in pieces, without zeros; the program doesn't know
-        that option yet.
-        """
-        sparse = ['--sparse'] if self.unproved else []
-        child = self.start(['tar', *words, *sparse], environment)
+        """Yields the entries of the archive that `crashfs tar` writes, as a stream that can be read
+        once, within the `with`; its end drops what wasn't read. ProgramFault at the end if the
+        program failed, or if an ArchiveFault was raised within. Any other exception within kills
+        the program, and is raised. Errors of the start as start()."""
+        sparse = ['--sparse'] if self.has_sparse else []
+        child = self.start(['tar', *sparse, *words], environment)
         assert child.stdout is not None and child.stderr is not None
-        streams = ProgramOutput(child.stdout.fileno(), child.stderr.fileno())
+        output = ProgramOutput(child.stdout.fileno(), child.stderr.fileno())
         try:
-            yield members(io.BufferedReader(streams, ARCHIVE_BYTES))
+            yield read_members(io.BufferedReader(output, ARCHIVE_BYTES))
         except ArchiveFault as error:
             fault: Optional[str] = f'what it wrote is no archive: {error}'
         except BaseException:
@@ -187,123 +203,129 @@ class Crashfs:
             raise
         else:
             fault = None
-        error_text = read_to_end(child, streams)
+        error_text = read_rest_and_wait(child, output)
         if child.returncode != 0 or fault is not None:
-            how = f'crashfs tar {ending_text(child.returncode)}'
+            ending = f'crashfs tar {ending_text(child.returncode)}'
             raise ProgramFault(
-                child.returncode, error_text or (f'{how}; {fault}' if fault else how).encode()
+                child.returncode, error_text or (f'{ending}; {fault}' if fault else ending).encode()
             )
 
-    def count_states(self, trace: str, holes: bool = True) -> int:
-        """How many states a trace has: its prefixes, and with `holes` also the holes. ProgramFault
-        if the program refuses the trace, or prints no list."""
-        lines = self.output_of(['list', '--trace', trace, *(['--holes'] if holes else [])])
-        last = lines.rstrip('\n').rpartition('\n')[2].split(' ')
+    def count_states(self, trace: str, with_holes: bool = True) -> int:
+        """How many states a trace has: its prefixes, and with_holes also the holes, even those that
+        are equal. ProgramFault if the program refuses the trace, or prints no list."""
+        lines = self.output_of(['list', '--trace', trace, *(['--holes'] if with_holes else [])])
+        words = lines.rstrip('\n').rpartition('\n')[2].split(' ')
         # The states are numbered from 0, and the last line is that of the last one.
-        if last[0] != 'state' or not last[1:2] or not last[1].isdigit():
+        if words[0] != 'state' or not words[1:2] or not words[1].isdigit():
             raise ProgramFault(0, b'crashfs: what it printed is no list')
-        return int(last[1]) + 1
+        return int(words[1]) + 1
 
-    def tree(self, trace: str, state: int) -> Entries:
-        """The tree of the state with this number, without the root; ProgramFault if there is no
+    def tree_of_state(self, trace: str, state: int) -> Entries:
+        """The tree of the state with this number, without the root. ProgramFault if there is no
         such state, or if the program refuses the trace."""
-        tree = self.whole_tree(['--trace', trace, '--state', str(state)])
+        tree = self.tree_with_root(['--trace', trace, '--state', str(state)])
         tree.pop('/', None)
         return tree
 
     def trees(
         self, words: List[str], environment: Optional[Dict[str, str]] = None
     ) -> Iterator[Tuple[int, Entries]]:
-        """The states that the option `--states` among the words names, in the order of its list, as
-        a stream: of each its number and its tree, with the root. ProgramFault for an entry that is
-        in no state, and, at the end, if the program refuses them. If the stream is closed before
-        its end, the program is killed."""
-        with self.archive(words, environment) as archive:
-            for top, state in groupby(archive, first_name):
-                number = number_of_state(top)
-                yield number, {'/' + path[len(top) + 1 :]: entry for path, entry in state}
+        """The number and the tree, with the root, of each state that the option `--states` among
+        the words names, in the order of its list; a number twice in a row gives one state. The
+        program is started when the first is taken, and killed if the stream is closed early. Errors
+        as open_archive(); ProgramFault too if the first name of a path isn't a number."""
+        with self.open_archive(words, environment) as archive:
+            for name, members in groupby(archive, first_name_of_path):
+                number = parse_state_number(name)
+                yield number, {'/' + path[len(name) + 1 :]: entry for path, entry in members}
 
-    def whole_tree(self, words: List[str], environment: Optional[Dict[str, str]] = None) -> Entries:
-        """The tree, with the root, of the one state that `--state` among the words names;
-        ProgramFault if the program refuses it."""
-        with self.archive(words, environment) as archive:
+    def tree_with_root(
+        self, words: List[str], environment: Optional[Dict[str, str]] = None
+    ) -> Entries:
+        """The tree, with the root, of the state that the option `--state` among the words names.
+        Errors as open_archive(): ProgramFault if the program refuses that."""
+        with self.open_archive(words, environment) as archive:
             return {'/' + path: entry for path, entry in archive}
 
 
-def first_name(member: Member) -> str:
+def first_name_of_path(member: Member) -> str:
     """The first name of the path of an archive's entry: with `--states` the number of its state."""
     return member[0].partition('/')[0]
 
 
-def program_of_tools(tools: str) -> Optional[str]:
-    """The program that goes with the tools in this folder: in a release, whose tools are in
-    lib/crashfs, the one in its bin/; else the one that tools/build made here. None if it isn't
-    there, or may not be executed."""
-    folder, name = os.path.split(tools)
-    is_release = name == 'crashfs' and os.path.basename(folder) == 'lib'
-    path = os.path.join(os.path.dirname(folder), 'bin', 'crashfs') if is_release else BUILT
+def program_of_tools(tools_folder: str) -> Optional[str]:
+    """The program that goes with the tools in a folder: for a release, whose tools are in
+    lib/crashfs, the one in its bin/; else the one that tools/build makes in this clone. None if it
+    isn't there, or may not be executed."""
+    parent_folder, name = os.path.split(tools_folder)
+    is_release = name == 'crashfs' and os.path.basename(parent_folder) == 'lib'
+    path = os.path.join(os.path.dirname(parent_folder), 'bin', 'crashfs') if is_release else BUILT
     return path if os.access(path, os.X_OK) else None
 
 
 class ProgramOutput(io.RawIOBase):
-    """A program's standard output, as a stream. What it prints as an error is read meanwhile, since
-    the program would wait forever once that pipe is full; error_text has its last PIECE_BYTES."""
+    """A program's standard output, as a stream. Meanwhile it reads what the program prints as an
+    error, since the program would wait forever once that pipe is full; error_text has its last
+    PIECE_BYTES."""
 
-    def __init__(self, output: int, errors: int) -> None:
-        """Reads from the descriptors of two pipes, which it doesn't close."""
+    def __init__(self, output_pipe: int, error_pipe: int) -> None:
+        """Reads from the descriptors of two pipes, which the caller closes."""
         super().__init__()
         # The descriptors of the two pipes.
-        self.output, self.errors = output, errors
+        self.output_pipe, self.error_pipe = output_pipe, error_pipe
         self.error_text = b''
-        self.errors_ended = False
+        self.has_error_end = False
         self.poll = select.poll()
-        self.poll.register(output, select.POLLIN)
-        self.poll.register(errors, select.POLLIN)
+        self.poll.register(output_pipe, select.POLLIN)
+        self.poll.register(error_pipe, select.POLLIN)
 
     def readable(self) -> bool:
         """True, as RawIOBase asks of a stream that can be read."""
         return True
 
     def readinto(self, buffer: Any) -> int:
-        """Waits for standard output, reads it into a buffer, and returns how many bytes it got; 0
-        at its end. What is printed as an error until then goes into error_text."""
+        """Waits without limit for standard output, and reads it into a buffer. Returns how many
+        bytes it read; 0 at the end. What is printed as an error until then is added to
+        error_text."""
         while True:
-            ready = {one for one, _ in self.poll.poll()}
-            if self.errors in ready:
+            ready = {pipe for pipe, _ in self.poll.poll()}
+            if self.error_pipe in ready:
                 self.read_errors()
-            if self.output in ready:
-                return os.readv(self.output, [buffer])
+            if self.output_pipe in ready:
+                return os.readv(self.output_pipe, [buffer])
 
     def read_errors(self) -> bool:
-        """Waits for a piece of what the program prints as an error, and adds it to error_text,
-        which keeps only its end. Returns False at the end of it."""
-        piece = os.read(self.errors, PIECE_BYTES)
+        """Waits without limit for a piece of what the program prints as an error, and adds it to
+        error_text, which keeps only the last PIECE_BYTES. Returns False at the end of the pipe, at
+        each call."""
+        piece = os.read(self.error_pipe, PIECE_BYTES)
         self.error_text = (self.error_text + piece)[-PIECE_BYTES:]
-        if not piece and not self.errors_ended:
-            self.poll.unregister(self.errors)
-            self.errors_ended = True
+        if not piece and not self.has_error_end:
+            self.poll.unregister(self.error_pipe)
+            self.has_error_end = True
         return bool(piece)
 
 
-def read_to_end(child: RunningProgram, streams: ProgramOutput) -> bytes:
+def read_rest_and_wait(child: RunningProgram, output: ProgramOutput) -> bytes:
     """Reads the rest of what a program prints, so that it can end, closes both pipes, and waits for
-    it: child.returncode is set then. Returns the end of what it printed as an error."""
+    it: child.returncode is set then. `output` must be of this child. Returns error_text, the end of
+    what it printed as an error."""
     assert child.stdout is not None and child.stderr is not None
-    while streams.read(PIECE_BYTES):
+    while output.read(PIECE_BYTES):
         pass
     child.stdout.close()
-    while streams.read_errors():
+    while output.read_errors():
         pass
     child.stderr.close()
     child.wait()
-    return streams.error_text
+    return output.error_text
 
 
 def is_plan_too_large(fault: Exception) -> bool:
-    """Whether a fault of the program or of the second reading says that a trace is too long for one
-    plan."""
-    said = fault.text if isinstance(fault, ProgramFault) else str(fault)
-    return any(text in said for text in TOO_LARGE)
+    """Whether a fault of the program or of the second reading means that a trace is too long for
+    one plan: a text of TOO_LARGE is somewhere in it."""
+    message = fault.text if isinstance(fault, ProgramFault) else str(fault)
+    return any(text in message for text in TOO_LARGE)
 
 
 def last_line(output: str) -> str:

@@ -11,179 +11,181 @@ FOLDER = os.O_RDONLY | os.O_DIRECTORY | os.O_NOFOLLOW | os.O_CLOEXEC
 PLACE = os.O_PATH | os.O_DIRECTORY | os.O_NOFOLLOW | os.O_CLOEXEC
 OPEN_MODE = 0o700
 # What stays of a directory is beside it, in one whose name ends so.
-LEFT = '.left'
+TRASH_ENDING = '.left'
 
 
-def set_folder_mode(name: str, mode: int, at: Optional[int] = None) -> None:
-    """Sets the mode of a directory, which needn't be readable; its name may be relative to the open
-    directory `at`. OSError if it can't, or if a link is at its place: then what the link refers to
-    keeps its mode."""
-    folder = os.open(name, PLACE, dir_fd=at)
+def set_folder_mode(name: str, mode: int, dir_fd: Optional[int] = None) -> None:
+    """Sets the mode of a directory, which needn't be readable. The name may be relative to the open
+    directory `dir_fd`. OSError if that fails, or if the name is a link: the link's target keeps its
+    mode."""
+    descriptor = os.open(name, PLACE, dir_fd=dir_fd)
     try:
-        os.chmod(f'/proc/self/fd/{folder}', mode)
+        os.chmod(f'/proc/self/fd/{descriptor}', mode)
     finally:
-        os.close(folder)
+        os.close(descriptor)
 
 
-def remove_tree(path: str, at: Optional[int] = None, aside: str = '') -> bool:
+def remove_tree(path: str, dir_fd: Optional[int] = None, trash: str = '') -> bool:
     """Removes a file, or a directory whatever the modes in it; the path may be relative to the open
-    directory `at`. Returns whether it is gone, also if it wasn't there. What is mounted in a
-    directory, or may not be removed from it, is left in the directory `aside`, by default PATH +
-    LEFT; with `at` it must be given.
-
-    `aside` must be on the same file system; what it had before stays in it. OSError if it can't be
-    made.
-    """
+    directory `dir_fd`. Returns whether it is gone, also if nothing was there. What is mounted in it
+    or may not be removed is left in the directory `trash`, or else at its path. `trash` must be on
+    the same file system; it is made if it isn't there, and stays. By default it is PATH +
+    TRASH_ENDING, removed if it is empty; with `dir_fd` it must be passed. OSError if it can't be
+    made."""
     try:
-        os.unlink(path, dir_fd=at)
+        os.unlink(path, dir_fd=dir_fd)
     except FileNotFoundError:
         return True
     except IsADirectoryError:
-        return remove_directory(path, at, aside or path + LEFT)
+        if trash:
+            return remove_directory(path, dir_fd, trash)
+        is_gone = remove_directory(path, dir_fd, path + TRASH_ENDING)
+        remove_if_empty(path + TRASH_ENDING, None)
+        return is_gone
     except OSError:
         return False
     return True
 
 
-def remove_directory(path: str, at: Optional[int], aside: str) -> bool:
-    """Removes a directory, and returns whether it is gone from its path; an empty one is just
-    removed. What can't be removed is left in `aside`, which is else removed too, unless it had
-    something before. OSError as remove_tree()."""
-    if remove_if_empty(path, at):
+def remove_directory(path: str, dir_fd: Optional[int], trash: str) -> bool:
+    """Removes a directory, without `trash` if it is empty. Returns whether all of it is gone. What
+    can't be removed is left in `trash`, or, if it can't be moved there, at its path. OSError if
+    `trash` can't be made."""
+    if remove_if_empty(path, dir_fd):
         return True
-    if not os.path.isdir(aside):
-        make_aside(aside, path, at)
-    file = os.open(aside, FOLDER)
+    if not os.path.isdir(trash):
+        make_trash(trash, path, dir_fd)
+    trash_fd = os.open(trash, FOLDER)
     try:
-        is_gone = Removal(file).remove(path, at)
+        return Removal(trash_fd).remove(path, dir_fd)
     finally:
-        os.close(file)
-    if is_gone:
-        remove_if_empty(aside, None)
-    return is_gone
+        os.close(trash_fd)
 
 
-def remove_if_empty(path: str, at: Optional[int]) -> bool:
-    """Removes a directory if it is empty. Returns whether it is removed: False also if it may not
-    be, or isn't there."""
+def remove_if_empty(path: str, dir_fd: Optional[int]) -> bool:
+    """Removes a directory if it is empty. Returns whether it did; False also if the directory may
+    not be removed, or isn't there."""
     try:
-        os.rmdir(path, dir_fd=at)
+        os.rmdir(path, dir_fd=dir_fd)
     except OSError:
         return False
     return True
 
 
-def make_aside(aside: str, path: str, at: Optional[int]) -> None:
-    """Makes the directory `aside`. If the disk has no room for it, one file or empty directory in
-    PATH is removed first. OSError if it still can't be made."""
+def make_trash(trash: str, path: str, dir_fd: Optional[int]) -> None:
+    """Makes the directory `trash`. If the disk has no room for it, make_room() frees some in the
+    directory `path` first. OSError if it can't be made even then."""
     try:
-        os.mkdir(aside, OPEN_MODE)
+        os.mkdir(trash, OPEN_MODE)
     except OSError as error:
         if error.errno not in (errno.ENOSPC, errno.EDQUOT):
             raise
-        remove_one(path, at)
-        os.mkdir(aside, OPEN_MODE)
+        make_room(path, dir_fd)
+        os.mkdir(trash, OPEN_MODE)
 
 
-def remove_one(path: str, at: Optional[int]) -> None:
+def make_room(path: str, dir_fd: Optional[int]) -> None:
     """Removes one file or empty directory that is in a directory, at any depth, but nothing that is
-    mounted there; nothing if there is none. Only the first entry of each directory is looked at.
-    OSError if it may not be removed."""
-    directory = os.open(path, FOLDER, dir_fd=at)
-    device = os.fstat(directory).st_dev
+    mounted there. Looks only at the first entry of each directory, and removes nothing if one has
+    no entry. OSError if the entry may not be removed."""
+    directory_fd = os.open(path, FOLDER, dir_fd=dir_fd)
+    device = os.fstat(directory_fd).st_dev
     try:
-        while os.fstat(directory).st_dev == device:
-            inner = remove_first_entry(directory)
-            if inner is None:
+        while os.fstat(directory_fd).st_dev == device:
+            inner_fd = remove_first_entry(directory_fd)
+            if inner_fd is None:
                 return
-            os.close(directory)
-            directory = inner
+            os.close(directory_fd)
+            directory_fd = inner_fd
     finally:
-        os.close(directory)
+        os.close(directory_fd)
 
 
-def remove_first_entry(directory: int) -> Optional[int]:
-    """Removes the first entry of an open directory, and returns None, also if there is no entry. If
-    the entry is a directory that can't be removed, as one that isn't empty, it is returned as an
-    open descriptor, which the caller closes. OSError for a file that can't be removed."""
-    with os.scandir(directory) as entries:
+def remove_first_entry(directory_fd: int) -> Optional[int]:
+    """Removes the first entry of an open directory, and returns None, also if there is no entry. A
+    directory that can't be removed, as one that isn't empty, is opened instead: returns its
+    descriptor, which the caller closes. OSError for a file that can't be removed."""
+    with os.scandir(directory_fd) as entries:
         entry = next(entries, None)
         is_directory = entry is not None and entry.is_dir(follow_symlinks=False)
     if entry is None:
         return None
     if not is_directory:
-        os.unlink(entry.name, dir_fd=directory)
+        os.unlink(entry.name, dir_fd=directory_fd)
         return None
-    if remove_if_empty(entry.name, directory):
+    if remove_if_empty(entry.name, directory_fd):
         return None
-    return os.open(entry.name, FOLDER, dir_fd=directory)
+    return os.open(entry.name, FOLDER, dir_fd=directory_fd)
 
 
 class Removal:
-    """Moves each directory to an open one, `aside`, before it is emptied, so that no path has more
-    than two names. The system moves no mount point, and nothing to another file system: what is
-    mounted in a directory is never reached."""
+    """Empties directories in an open one, the trash, to which it moves each of them first, so that
+    no path has more than two names. The system moves no mount point, and nothing to another file
+    system: what is mounted in a directory is never reached. waiting has the names of those that are
+    in the trash and not yet empty."""
 
-    def __init__(self, aside: int) -> None:
-        self.aside = aside
-        self.mark = os.urandom(4).hex()
-        self.count = 0
+    def __init__(self, trash_fd: int) -> None:
+        """trash_fd is the open trash, which the caller closes."""
+        self.trash_fd = trash_fd
+        self.prefix = os.urandom(4).hex()
+        self.moved_count = 0
         self.waiting: List[str] = []
 
-    def remove(self, path: str, at: Optional[int]) -> bool:
-        """Removes a directory as far as it can. Returns whether it is gone with all that was in it;
-        what may not be removed stays in `aside`, or, if it can't be moved, at its path. It raises
-        no OSError."""
-        is_gone = self.move_aside(path, at)
+    def remove(self, path: str, dir_fd: Optional[int]) -> bool:
+        """Removes as much of a directory as it can. Returns whether it is gone with all that was in
+        it. What may not be removed stays in the trash, or, if it can't be moved, at its path. It
+        raises no OSError."""
+        is_gone = self.move_to_trash(path, dir_fd)
         while self.waiting:
             name = self.waiting.pop()
             try:
                 self.empty_directory(name)
-                os.rmdir(name, dir_fd=self.aside)
+                os.rmdir(name, dir_fd=self.trash_fd)
             except OSError:
                 is_gone = False
         return is_gone
 
-    def move_aside(self, name: str, at: Optional[int]) -> bool:
-        """Moves a directory to `aside` under a new name, and notes it to be removed. Returns False
-        if it may not be moved; then it stays."""
-        moved = f'{self.mark}-{self.count}'
-        self.count += 1
+    def move_to_trash(self, name: str, dir_fd: Optional[int]) -> bool:
+        """Moves a directory to the trash under a new name, and adds this name to `waiting`. Returns
+        False if it can't be moved: then it stays, perhaps with the mode OPEN_MODE, which it gets if
+        the first try isn't permitted."""
+        new_name = f'{self.prefix}-{self.moved_count}'
+        self.moved_count += 1
         try:
             try:
-                os.rename(name, moved, src_dir_fd=at, dst_dir_fd=self.aside)
+                os.rename(name, new_name, src_dir_fd=dir_fd, dst_dir_fd=self.trash_fd)
             except PermissionError:
-                set_folder_mode(name, OPEN_MODE, at)
-                os.rename(name, moved, src_dir_fd=at, dst_dir_fd=self.aside)
+                set_folder_mode(name, OPEN_MODE, dir_fd)
+                os.rename(name, new_name, src_dir_fd=dir_fd, dst_dir_fd=self.trash_fd)
         except OSError:
             return False
-        self.waiting.append(moved)
+        self.waiting.append(new_name)
         return True
 
     def empty_directory(self, name: str) -> None:
-        """Removes the files of a directory in `aside`, and moves its directories to `aside`; one
-        that can't be moved stays. OSError for a file that can't be removed: then the rest stays
-        too."""
-        directory = self.open_aside(name)
+        """Removes the files of a directory in the trash, and moves its directories to the trash;
+        one that can't be moved stays. OSError for a file that can't be removed: the entries after
+        it stay too."""
+        directory_fd = self.open_in_trash(name)
         try:
-            with os.scandir(directory) as entries:
-                found = [(entry.name, entry.is_dir(follow_symlinks=False)) for entry in entries]
-            for inner, is_directory in found:
+            with os.scandir(directory_fd) as entries:
+                names = [(entry.name, entry.is_dir(follow_symlinks=False)) for entry in entries]
+            for inner_name, is_directory in names:
                 if is_directory:
-                    self.move_aside(inner, directory)
+                    self.move_to_trash(inner_name, directory_fd)
                 else:
-                    os.unlink(inner, dir_fd=directory)
+                    os.unlink(inner_name, dir_fd=directory_fd)
         finally:
-            os.close(directory)
+            os.close(directory_fd)
 
-    def open_aside(self, name: str) -> int:
-        """Opens a directory in `aside`, and gives its owner all rights. OSError if it can't. The
-        caller closes it."""
+    def open_in_trash(self, name: str) -> int:
+        """Opens a directory in the trash, and gives its owner all rights. Returns the descriptor,
+        which the caller closes. OSError if it can't be opened."""
         try:
-            directory = os.open(name, FOLDER, dir_fd=self.aside)
+            directory_fd = os.open(name, FOLDER, dir_fd=self.trash_fd)
         except PermissionError:
-            set_folder_mode(name, OPEN_MODE, self.aside)
-            directory = os.open(name, FOLDER, dir_fd=self.aside)
-        if os.fstat(directory).st_mode & OPEN_MODE != OPEN_MODE:
-            os.fchmod(directory, OPEN_MODE)
-        return directory
+            set_folder_mode(name, OPEN_MODE, self.trash_fd)
+            directory_fd = os.open(name, FOLDER, dir_fd=self.trash_fd)
+        if os.fstat(directory_fd).st_mode & OPEN_MODE != OPEN_MODE:
+            os.fchmod(directory_fd, OPEN_MODE)
+        return directory_fd

@@ -22,29 +22,32 @@ Content = Union[bytes, bytearray, 'SparseBytes']
 
 
 class SparseBytes:
-    """Bytes that are changed in place. pages has, by their numbers, those that may have other bytes
-    than zeros, each of PAGE_BYTES; after `length` they have zeros only."""
+    """Bytes that are changed in place. They begin as zeros; then `parts`, pieces after their
+    offsets, are written by write(). pages has, by number, the pages that may have bytes other than
+    zeros, each of PAGE_BYTES; a page's bytes after `length` are zeros."""
 
     __slots__ = ('length', 'pages')
 
     def __init__(self, length: int = 0, parts: Iterable[Part] = ()) -> None:
+        """So many zeros, into which the parts are written in turn: a part past the length makes
+        them longer."""
         self.length = length
         self.pages: Dict[int, bytearray] = {}
-        for at, data in parts:
-            self.write(at, data)
+        for offset, data in parts:
+            self.write(offset, data)
 
     @staticmethod
     def copy_of(data: Content) -> SparseBytes:
-        """A copy of bytes of any form, in this form."""
+        """A copy of bytes of any form, as SparseBytes."""
         if isinstance(data, SparseBytes):
             return data.copy()
         return SparseBytes(len(data), [(0, bytes(data))])
 
     def copy(self) -> SparseBytes:
-        """A copy: changes of one don't change the other."""
-        made = SparseBytes(self.length)
-        made.pages = {number: page.copy() for number, page in self.pages.items()}
-        return made
+        """A copy: a change of one doesn't change the other."""
+        copied = SparseBytes(self.length)
+        copied.pages = {number: page.copy() for number, page in self.pages.items()}
+        return copied
 
     def __len__(self) -> int:
         return self.length
@@ -52,13 +55,13 @@ class SparseBytes:
     def __bytes__(self) -> bytes:
         return self.read(0, self.length)
 
-    def __getitem__(self, part: slice) -> bytes:
-        begin, end, _ = part.indices(self.length)
+    def __getitem__(self, bounds: slice) -> bytes:
+        begin, end, _ = bounds.indices(self.length)
         return self.read(begin, end - begin)
 
     def __eq__(self, other: object) -> bool:
-        """Whether the bytes are equal, also to bytes of another form; which pages are kept makes no
-        difference."""
+        """Whether the bytes are equal, also to bytes of another form; which pages are kept doesn't
+        matter."""
         if isinstance(other, SparseBytes):
             return self.length == other.length and dict(self.data_pages()) == dict(
                 other.data_pages()
@@ -70,147 +73,139 @@ class SparseBytes:
     __hash__ = None  # type: ignore[assignment]  # its bytes change
 
     def data_pages(self) -> Iterator[Tuple[int, bytes]]:
-        """The pages that aren't all zeros, each after its number, in no order."""
+        """The pages that aren't all zeros, each after its number, in no particular order."""
         for number, page in self.pages.items():
             if page != ZEROS:
                 yield number, bytes(page)
 
-    def read(self, at: int, count: int) -> bytes:
-        """The next `count` bytes from an offset; fewer if the end comes before, and none if the
-        offset is past it."""
-        end = min(at + count, self.length)
-        found = []
-        while at < end:
-            number, first = divmod(at, PAGE_BYTES)
-            stop = min(PAGE_BYTES, first + end - at)
-            found.append(self.pages.get(number, ZEROS)[first:stop])
-            at += stop - first
-        return b''.join(found)
+    def read(self, offset: int, count: int) -> bytes:
+        """The next `count` bytes from an offset: fewer if they would end past the length, none if
+        the offset is past it."""
+        end = min(offset + count, self.length)
+        pieces = []
+        while offset < end:
+            number, begin_in_page = divmod(offset, PAGE_BYTES)
+            end_in_page = min(PAGE_BYTES, begin_in_page + end - offset)
+            pieces.append(self.pages.get(number, ZEROS)[begin_in_page:end_in_page])
+            offset += end_in_page - begin_in_page
+        return b''.join(pieces)
 
-    def write(self, at: int, data: Union[bytes, bytearray]) -> None:
-        """Puts bytes at an offset; they grow if this ends past their end, with zeros before it.
-        Zeros make no new pages."""
-        self.length = max(self.length, at + len(data))
-        begin = 0
-        while begin < len(data):
-            number, first = divmod(at + begin, PAGE_BYTES)
-            piece = data[begin : begin + PAGE_BYTES - first]
-            begin += len(piece)
+    def write(self, offset: int, data: Union[bytes, bytearray]) -> None:
+        """Puts bytes at an offset. If they end past the length, it grows, with zeros before them,
+        also if there are none. Zeros make no new pages; pages that get only zeros are kept."""
+        self.length = max(self.length, offset + len(data))
+        written = 0
+        while written < len(data):
+            number, begin_in_page = divmod(offset + written, PAGE_BYTES)
+            piece = data[written : written + PAGE_BYTES - begin_in_page]
+            written += len(piece)
             if number in self.pages:
-                self.pages[number][first : first + len(piece)] = piece
+                self.pages[number][begin_in_page : begin_in_page + len(piece)] = piece
             elif piece.count(0) != len(piece):
                 self.pages[number] = bytearray(PAGE_BYTES)
-                self.pages[number][first : first + len(piece)] = piece
+                self.pages[number][begin_in_page : begin_in_page + len(piece)] = piece
 
     def clear(self, begin: int, end: int) -> None:
-        """Makes the bytes from offset `begin` to before `end` zeros; pages that are wholly among
-        them take no memory from then on. The length stays."""
+        """Makes the bytes from offset `begin` to before `end` zeros, and drops pages that are
+        wholly among them. The length stays."""
         end = min(end, self.length)
-        first, last = begin // PAGE_BYTES, -(-end // PAGE_BYTES)
-        numbers: Iterable[int] = range(first, last)
-        if last - first > len(self.pages):
-            numbers = [number for number in self.pages if first <= number < last]
+        first_number, end_number = begin // PAGE_BYTES, -(-end // PAGE_BYTES)
+        numbers: Iterable[int] = range(first_number, end_number)
+        if end_number - first_number > len(self.pages):
+            numbers = [number for number in self.pages if first_number <= number < end_number]
         for number in numbers:
-            page = self.pages.get(number)
-            start, stop = max(begin, number * PAGE_BYTES), min(end, (number + 1) * PAGE_BYTES)
+            page, page_begin = self.pages.get(number), number * PAGE_BYTES
+            begin_in_page, end_in_page = max(0, begin - page_begin), min(
+                PAGE_BYTES, end - page_begin
+            )
             if page is None:
                 continue
-            if stop - start == PAGE_BYTES:
+            if end_in_page - begin_in_page == PAGE_BYTES:
                 del self.pages[number]
-            elif start < stop:
-                base = number * PAGE_BYTES
-                page[start - base : stop - base] = bytes(stop - start)
+            elif begin_in_page < end_in_page:
+                page[begin_in_page:end_in_page] = bytes(end_in_page - begin_in_page)
 
     def data_ranges(self, begin: int, end: int) -> List[Tuple[int, int]]:
-        """The parts of a range whose pages aren't all zeros, each by its two ends, ascending.
-        Neighbours may be apart: no part is longer than PART_BYTES."""
-        found = []
-        for at, run in list(self.page_runs()):
-            first, last = max(begin, at), min(end, at + len(run))
-            if first < last:
-                found.append((first, last))
-        return found
+        """The parts of a range whose pages aren't all zeros, each as its two ends, ascending. One
+        may begin where the one before ends: page_runs() ends each at about PART_BYTES."""
+        ranges = []
+        for run_begin, run in list(self.page_runs()):
+            range_begin, range_end = max(begin, run_begin), min(end, run_begin + len(run))
+            if range_begin < range_end:
+                ranges.append((range_begin, range_end))
+        return ranges
 
     def resize(self, length: int) -> None:
-        """Cuts the bytes, or adds zeros. Bytes that were cut don't come back."""
+        """Cuts the bytes, or adds zeros; bytes that were cut are zeros if it grows again."""
         if length < self.length:
             self.clear(length, self.length + PAGE_BYTES)
         self.length = length
 
     def parts(self) -> List[Part]:
-        """What isn't zero, as pieces, each after its offset, ascending. A part begins and ends with
-        other bytes than zeros, and has no GAP_BYTES zeros together; a long text is a part by
-        itself."""
-        return [part for begin, run in self.page_runs() for part in parts_of(begin, run)]
+        """What isn't zero, as pieces after their offsets, ascending. A long text (TEXT) is a part
+        by itself. Any other part has fewer than GAP_BYTES zeros in a row, and zeros at an edge only
+        next to a long text."""
+        return [part for begin, run in self.page_runs() for part in split_parts(begin, run)]
 
     def page_runs(self) -> Iterator[Part]:
         """The pages that aren't all zeros, each after its offset, ascending; neighbours are joined
         up to PART_BYTES. The last page ends at the length."""
-        begin = 0
+        run_begin = 0
         pages: List[bytes] = []
         for number, page in sorted(self.data_pages()):
-            at = number * PAGE_BYTES
+            page_begin = number * PAGE_BYTES
             size = len(pages) * PAGE_BYTES
-            if pages and (at != begin + size or size >= PART_BYTES):
-                yield begin, b''.join(pages)
+            if pages and (page_begin != run_begin + size or size >= PART_BYTES):
+                yield run_begin, b''.join(pages)
                 pages = []
-            begin = begin if pages else at
-            pages.append(page[: self.length - at])
+            run_begin = run_begin if pages else page_begin
+            pages.append(page[: self.length - page_begin])
         if pages:
-            yield begin, b''.join(pages)
+            yield run_begin, b''.join(pages)
 
 
-def parts_of(begin: int, data: bytes) -> Iterator[Part]:
-    """The parts, as SparseBytes.parts() has them, of bytes at offset `begin` of a file."""
-    at = 0
+def split_parts(begin: int, data: bytes) -> Iterator[Part]:
+    """The bytes at offset `begin` of a file as parts, each after its offset, as SparseBytes.parts()
+    has them."""
+    piece_begin = 0
     for gap in GAP.finditer(data):
-        yield from without_edge_zeros(begin + at, data[at : gap.start()])
-        at = gap.end()
-    yield from without_edge_zeros(begin + at, data[at:])
+        yield from split_texts(begin + piece_begin, data[piece_begin : gap.start()])
+        piece_begin = gap.end()
+    yield from split_texts(begin + piece_begin, data[piece_begin:])
 
 
-def without_edge_zeros(at: int, data: bytes) -> Iterator[Part]:
-    """The bytes at an offset without zeros at their edges, in parts, each after its offset: each
-    long text is one. None if all are zeros."""
-    left = data.strip(b'\0')
-    at, end = at + len(data) - len(data.lstrip(b'\0')), 0
-    for text in TEXT.finditer(left):
+def split_texts(begin: int, data: bytes) -> Iterator[Part]:
+    """Bytes at an offset, without the zeros at their edges, split so that each long text (TEXT) is
+    a part by itself; each part is after its offset. No part if all bytes are zeros."""
+    stripped = data.strip(b'\0')
+    begin, end = begin + len(data) - len(data.lstrip(b'\0')), 0
+    for text in TEXT.finditer(stripped):
         if text.start() > end:
-            yield at + end, left[end : text.start()]
-        yield at + text.start(), text[0]
+            yield begin + end, stripped[end : text.start()]
+        yield begin + text.start(), text[0]
         end = text.end()
-    if left[end:]:
-        yield at + end, left[end:]
+    if stripped[end:]:
+        yield begin + end, stripped[end:]
 
 
-def first_difference(one: Content, other: Content) -> int:
-    """The offset at which two files begin to differ: the length of the shorter one if the other
-    begins with it, and so the length of both if they are equal."""
-    length = min(len(one), len(other))
-    for begin in pages_to_compare(one, other, length):
-        pieces = [bytes(data[begin : min(begin + PAGE_BYTES, length)]) for data in (one, other)]
-        if pieces[0] != pieces[1]:
-            pairs = enumerate(zip(*pieces))
-            return begin + next(at for at, (left, right) in pairs if left != right)
+def first_difference(left: Content, right: Content) -> int:
+    """The offset of the first byte in which two files differ. If one begins with the other, it is
+    the length of the shorter one; if they are equal, that of both."""
+    length = min(len(left), len(right))
+    for begin in pages_to_compare(left, right, length):
+        end = min(begin + PAGE_BYTES, length)
+        left_page, right_page = bytes(left[begin:end]), bytes(right[begin:end])
+        if left_page != right_page:
+            return begin + next(
+                offset for offset in range(end - begin) if left_page[offset] != right_page[offset]
+            )
     return length
 
 
-def pages_to_compare(one: Content, other: Content, length: int) -> Iterable[int]:
-    """The offsets of the pages, up to a length, in which two files can differ; ascending. If both
+def pages_to_compare(left: Content, right: Content, length: int) -> Iterable[int]:
+    """The offsets of the pages before `length` in which two files can differ, ascending. If both
     are SparseBytes, pages that neither has are left out."""
-    if isinstance(one, SparseBytes) and isinstance(other, SparseBytes):
-        begins = (page * PAGE_BYTES for page in sorted(one.pages.keys() | other.pages.keys()))
-        return (begin for begin in begins if begin < length)
+    if isinstance(left, SparseBytes) and isinstance(right, SparseBytes):
+        numbers = sorted(left.pages.keys() | right.pages.keys())
+        return (number * PAGE_BYTES for number in numbers if number * PAGE_BYTES < length)
     return range(0, length, PAGE_BYTES)
-
-
-def has_many_zeros(data: Union[bytes, bytearray]) -> bool:
-    """Whether at least half of the pages of a file are zeros. False for one of less than
-    LARGE_BYTES."""
-    if len(data) < LARGE_BYTES:
-        return False
-    pages = range(0, len(data), PAGE_BYTES)
-    zeros = sum(
-        data[at : at + PAGE_BYTES].count(0) == len(data[at : at + PAGE_BYTES]) for at in pages
-    )
-    return 2 * zeros >= len(pages)

@@ -5,10 +5,9 @@ from __future__ import annotations
 import dataclasses
 import json
 from dataclasses import dataclass, field
-from typing import Any, Dict, Iterable, Iterator, List, Tuple, Type, Union
+from typing import Any, Dict, Iterator, List, Type, Union
 
 from . import limits
-from .command import Refused
 from .sparse import SparseBytes
 
 BLOCKS, ORDERED, JOURNAL = 'blocks', 'ordered', 'journal'
@@ -17,10 +16,6 @@ BLOCK_SIZES = (512, 1_024, 2_048, 4_096)
 # The version that the recorder writes. Version 2 has no links, no syncs of a part and no notes:
 # what a session has of them is then reported.
 WRITTEN_VERSION = 3
-
-
-class TraceError(Refused):
-    """A text that is no trace, or not one of its version."""
 
 
 @dataclass(frozen=True)
@@ -193,9 +188,9 @@ class Say:
 
     @staticmethod
     def from_line(line: bytes) -> Say:
-        """The Say of a line that a program printed, as far as a trace can have it: at most its
-        first SAY_BYTES bytes, with a replacement character for bytes that aren't UTF-8. A character
-        that would be cut is left out."""
+        """The Say of a line or a piece that a program printed, as far as a trace can have it: at
+        most its first SAY_BYTES bytes, without a character that would be cut. Bytes that aren't
+        UTF-8 become replacement characters; line feeds stay."""
         text = line.decode('utf-8', 'replace').encode()[: limits.SAY_BYTES]
         return Say(text.decode('utf-8', 'ignore'))
 
@@ -248,15 +243,13 @@ LEAST_BYTES_IN_PARTS, PART_OVERHEAD = 1_024, 16
 KIND_OF = {made: kind for kind, made in KINDS.items()}
 # The keys of a line that have another name in Python.
 KEYS = {'source': 'from', 'target': 'to', 'link': 'target'}
-# What an empty line may have.
-BLANKS = ' \t\r\n'
 
 
 @dataclass
 class Trace:
     """A whole trace. One of version 1 has no profile: its directory operations are ordered as in
-    `blocks`. notes has the notes of operations, by their places from 0; only lines of version 3 and
-    later have them. What an operation needs isn't checked here."""
+    `blocks`. notes has the notes of operations, by their places from 0; versions before 3 write
+    none. Whether an operation is possible isn't checked here."""
 
     header: Header
     start: List[StartLine] = field(default_factory=list)
@@ -267,21 +260,21 @@ class Trace:
     notes: Dict[int, str] = field(default_factory=dict)
 
     def has_kind(self, kind: Type[Any]) -> bool:
-        """Whether the trace's version has lines of a class, such as Link."""
+        """Whether the trace's version has lines of this class, such as Link."""
         return SINCE.get(kind, 1) <= self.version
 
     def lines(self) -> Iterator[str]:
-        """The lines of the trace as text, the header first, each without its line feed. KeyError
-        for an operation of an unknown class; whether its version has each line isn't checked, see
-        has_kind()."""
-        yield as_json({**self.version_values(), **values_of(self.header)})
+        """The lines of the trace as text, the header first, without their line feeds. KeyError for
+        an operation of an unknown class. Whether the version has each line isn't checked:
+        has_kind() does that."""
+        yield json_line({**self.version_values(), **line_values(self.header)})
         for entry in self.start:
-            yield start_line(entry, self.version)
+            yield json_start_line(entry, self.version)
         for place, operation in enumerate(self.operations):
-            yield as_json(self.operation_values(place, operation))
+            yield json_line(self.operation_values(place, operation))
 
     def version_values(self) -> Dict[str, Any]:
-        """The keys and values with which the header's line begins, in their order."""
+        """The first keys and values of the header's line, in their order."""
         values: Dict[str, Any] = {'trace': self.version}
         if self.version >= 2:
             values['profile'] = self.profile
@@ -290,37 +283,38 @@ class Trace:
         return values
 
     def operation_values(self, place: int, operation: Operation) -> Dict[str, Any]:
-        """The keys and values of the line of the operation at a place, from 0. In versions without
-        fdatasync, that is written as a sync of the bytes of the whole file; versions before 3 leave
-        notes out."""
+        """The keys and values of the line of an operation, which is at a place from 0. Before
+        version 4 an fdatasync is written as a sync of the whole file's bytes; before version 3
+        notes are left out."""
         if self.version < SINCE[Fdatasync] and isinstance(operation, Fdatasync):
             operation = FsyncRange(operation.path, 0, limits.FILE_BYTES)
-        values = {'op': KIND_OF[type(operation)], **values_of(operation, self.version)}
+        values = {'op': KIND_OF[type(operation)], **line_values(operation, self.version)}
         if self.version >= 3 and place in self.notes:
             values['note'] = self.notes[place]
         return values
 
-    def line_of_operation(self, place: int) -> int:
-        """The number of the line, from 1, that the operation at a place, from 0, has."""
+    def line_number(self, place: int) -> int:
+        """The number, from 1, of the line of the operation at a place from 0."""
         return 2 + len(self.start) + place
 
 
-def start_line(entry: StartLine, version: int) -> str:
+def json_start_line(entry: StartLine, version: int) -> str:
     """An entry of the start tree as a line of a trace of this version, without its line feed. In
-    version 4 a file is in parts if that is shorter."""
-    values = values_of(in_parts_if_shorter(entry) if version >= 4 else entry, version)
+    version 4 a file is written in parts if that is shorter."""
+    values = line_values(with_parts_if_shorter(entry) if version >= 4 else entry, version)
     if isinstance(entry, StartLink):
-        return as_json({'start': 'link', **values})
+        return json_line({'start': 'link', **values})
     if isinstance(entry, StartSymlink):
-        return as_json({'start': 'symlink', **values})
+        return json_line({'start': 'symlink', **values})
     if entry.data is None:
-        return as_json({'start': 'dir', **{key: values[key] for key in DIRECTORY_KEYS}})
-    return as_json({'start': 'file', **values})
+        return json_line({'start': 'dir', **{key: values[key] for key in DIRECTORY_KEYS}})
+    return json_line({'start': 'file', **values})
 
 
-def in_parts_if_shorter(entry: StartLine) -> StartLine:
-    """An entry of the start tree, with its bytes as SparseBytes if it is a file that takes less
-    room in parts; else itself. Text that people can read is never in parts."""
+def with_parts_if_shorter(entry: StartLine) -> StartLine:
+    """An entry of the start tree: a file whose parts take less room than its bytes has SparseBytes
+    instead, anything else is itself. Text that people can read, and files of less than
+    LEAST_BYTES_IN_PARTS, are never in parts."""
     if not isinstance(entry, Start) or not isinstance(entry.data, bytes):
         return entry
     if len(entry.data) < LEAST_BYTES_IN_PARTS or readable_text(entry.data):
@@ -333,28 +327,28 @@ def in_parts_if_shorter(entry: StartLine) -> StartLine:
 DIRECTORY_KEYS = ('path', 'owner', 'group', 'mode')
 
 
-def values_of(item: Any, version: int = 1) -> Dict[str, Any]:
-    """The keys and values of a line of a trace of this version, from an operation, a start line or
-    a header, but without the key that says what it is. Their order, and their names except for
-    KEYS, are those of its fields."""
+def line_values(item: Any, version: int = 1) -> Dict[str, Any]:
+    """The keys and values of a line of this version for an operation, a start line or a header,
+    without the key that says what it is. They are the attributes, in their order; KEYS has the keys
+    with another name."""
     values: Dict[str, Any] = {}
-    for part in dataclasses.fields(item):
-        value = getattr(item, part.name)
-        if part.name == 'data':
-            values.update(bytes_value(value or b'', version))
+    for attribute in dataclasses.fields(item):
+        value = getattr(item, attribute.name)
+        if attribute.name == 'data':
+            values.update(bytes_values(value or b'', version))
         else:
-            key = KEYS.get(part.name, part.name)
-            values[key] = f'{value:03o}' if part.name == 'mode' else value
+            key = KEYS.get(attribute.name, attribute.name)
+            values[key] = f'{value:03o}' if attribute.name == 'mode' else value
     return values
 
 
-def bytes_value(data: Union[bytes, SparseBytes], version: int) -> Dict[str, Any]:
-    """Bytes as a line of this version has them: since version 3 as `text` if people can read it;
-    else as `bytes`, in hexadecimal digits, as empty ones always are. SparseBytes are `length` and
-    `parts` since version 4."""
+def bytes_values(data: Union[bytes, SparseBytes], version: int) -> Dict[str, Any]:
+    """The keys and values of bytes in a line of this version: since version 3 `text`, if people can
+    read it; else `bytes`, in hexadecimal digits, also for no bytes. SparseBytes are `length` and
+    `parts` since version 4, and whole before."""
     if isinstance(data, SparseBytes):
         if version >= 4:
-            parts = [{'at': at, **bytes_value(part, version)} for at, part in data.parts()]
+            parts = [{'at': offset, **bytes_values(part, version)} for offset, part in data.parts()]
             return {'length': len(data), 'parts': parts}
         data = bytes(data)
     if version >= 3:
@@ -365,8 +359,8 @@ def bytes_value(data: Union[bytes, SparseBytes], version: int) -> Dict[str, Any]
 
 
 def readable_text(data: bytes) -> str:
-    """Bytes as a text that people can read, of printable characters and line feeds; an empty text
-    if they aren't one, or are none."""
+    """Bytes as a text that people can read, of printable characters and line feeds. An empty text
+    if the bytes aren't such a text, or are none."""
     try:
         text = data.decode('utf-8')
     except UnicodeDecodeError:
@@ -374,23 +368,6 @@ def readable_text(data: bytes) -> str:
     return text if text.replace('\n', '').isprintable() else ''
 
 
-def as_json(fields: Dict[str, Any]) -> str:
-    """A line of a trace: JSON without blanks between its values."""
+def json_line(fields: Dict[str, Any]) -> str:
+    """A line of a trace from its keys and values: JSON without blanks between them."""
     return json.dumps(fields, separators=(',', ':'), ensure_ascii=False)
-
-
-def fields_of_line(number: int, line: str) -> Any:
-    """What the line with this number has as JSON, of any type. TraceError, with the number, if it
-    is no JSON, or has more levels than Python reads."""
-    try:
-        return json.loads(line)
-    except (ValueError, RecursionError) as error:
-        raise TraceError(f'line {number} is no line of a trace ({error})') from error
-
-
-def fields_of_lines(lines: Iterable[str]) -> Iterator[Tuple[int, Any]]:
-    """The number, from 1, and the fields of each line that isn't empty, as they are read; the
-    fields may be of any type. TraceError, in its turn, for one that is no JSON."""
-    for number, line in enumerate(lines, 1):
-        if line.strip(BLANKS):
-            yield number, fields_of_line(number, line)

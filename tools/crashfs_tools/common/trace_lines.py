@@ -5,12 +5,13 @@ from __future__ import annotations
 
 import json
 import re
+from functools import lru_cache
 from io import StringIO
 from typing import Any, Dict, Iterable, List, NamedTuple, Optional, Tuple
 
 from . import limits
 from .entry import parent_of
-from .trace import BLANKS, TraceError, fields_of_line, fields_of_lines
+from .trace_fields import BLANKS, TraceError, parse_line, parse_lines
 
 ENCODING = 'utf-8', 'surrogateescape'
 
@@ -34,16 +35,18 @@ RANDOM = [
 ]
 
 
+@lru_cache(1 << 10)
 def without_numbers(text: str) -> str:
-    """A name, or the cause of a failure, with `#` for each number and random part (RANDOM)."""
-    for form in RANDOM:
-        text = form.sub('#', text)
+    """A name, or the cause of a failure, with `#` in place of each number and random part
+    (RANDOM)."""
+    for pattern in RANDOM:
+        text = pattern.sub('#', text)
     return text
 
 
 class TraceLine(NamedTuple):
-    """A line of an operation. path is its first path, target the second one of a rename or link;
-    details are what else it has, except the bytes. What a line lacks is empty."""
+    """An operation's line, in words. path is its first path, target the second one of a rename or
+    link; details are as details_text() has them. What a line doesn't have is empty."""
 
     number: int
     word: str
@@ -54,7 +57,8 @@ class TraceLine(NamedTuple):
 
     @property
     def text(self) -> str:
-        """The line in words, as `write /f, 5 bytes at 0`; without its number and its note."""
+        """The line in words, as `write /f, 5 bytes at 0`, without its number and its note. Control
+        characters in a path or a say aren't escaped."""
         if self.word == 'say':
             return f'say "{self.details}"'
         words = [self.word, self.path, f'to {self.target}' if self.target else '']
@@ -63,17 +67,17 @@ class TraceLine(NamedTuple):
 
     @property
     def statement(self) -> str:
-        """A text that is equal for all lines that one statement of a program makes: the word and
-        the paths, without numbers and random parts."""
+        """The word and the paths, without numbers and random parts: a text that is equal for all
+        lines that one statement of a program makes."""
         return ' '.join([self.word, without_numbers(self.path), without_numbers(self.target)])
 
     def is_apart_from(self, other: TraceLine) -> bool:
-        """Whether no path of one line is, or is below, a path of the other: then a program may
-        change their order. A line without a path, such as a sync, is apart from all."""
+        """Whether no path of one line is equal to, above or below a path of the other: then a
+        program may change their order. A line without a path, such as a sync, is apart from all."""
         return not any(
-            one.startswith(two) or two.startswith(one)
-            for one in self.paths_with_slash
-            for two in other.paths_with_slash
+            own_path.startswith(other_path) or other_path.startswith(own_path)
+            for own_path in self.paths_with_slash
+            for other_path in other.paths_with_slash
         )
 
     @property
@@ -82,19 +86,19 @@ class TraceLine(NamedTuple):
         sync or say."""
         return [path.rstrip('/') + '/' for path in (self.path, self.target) if path]
 
-    def takes_path(self, path: str) -> bool:
-        """Whether a path may name another file or directory, or none, after this line: the line
-        renames or removes what is there or a directory above it, or renames something else to it. A
-        rename of something to itself doesn't."""
+    def may_change_path(self, path: str) -> bool:
+        """Whether a path may name another file or directory, or none, after this line. So it is if
+        the line renames or removes what is there or a directory above it, or renames something to
+        it; a rename of something to itself changes nothing."""
         if self.word not in PATH_CHANGES or self.path == self.target:
             return False
         return self.target == path or f'{path}/'.startswith(f'{self.path}/')
 
     @property
-    def synced_by(self) -> Optional[str]:
+    def path_to_fsync(self) -> Optional[str]:
         """The path whose fsync makes the line durable: its own if it changes a file or directory,
-        else the parent of the entry that it makes or removes; of a rename or link that of the new
-        one. None if no fsync does, as for a sync or say."""
+        or the parent of the entry that it makes or removes; of a rename or link the new entry's
+        parent. None if no fsync makes it durable, as a sync or say."""
         if self.word in CHANGES:
             return self.path
         if self.word in ENTRY_CHANGES:
@@ -102,23 +106,25 @@ class TraceLine(NamedTuple):
         return None
 
 
-def line_in_words(number: int, fields: Dict[str, Any]) -> TraceLine:
-    """The line of an operation as a TraceLine, from its number and its fields. KeyError if it lacks
-    a key that its operation has."""
+def trace_line_of_fields(number: int, fields: Dict[str, Any]) -> TraceLine:
+    """The TraceLine of an operation's line, from its number and its fields. KeyError if a key of
+    its operation is missing."""
     path = fields.get('path', fields.get('from', ''))
     return TraceLine(
         number,
         fields['op'],
         path,
         target=fields.get('to', ''),
-        details=details_of(fields),
+        details=details_text(fields),
         note=fields.get('note', ''),
     )
 
 
-def details_of(fields: Dict[str, Any]) -> str:
-    """What the fields of an operation have in addition to its paths, in words: a say's text, cut to
-    LARGEST_SAY letters, and of a write only how many bytes. Empty if there is no more."""
+def details_text(fields: Dict[str, Any]) -> str:
+    """What reports show of an operation in addition to its paths: a say's text, cut to LARGEST_SAY
+    letters; how many bytes a write or an fsync_range has, and where, or `all bytes` if that is any
+    file before version 4; a symlink's target; a length; the rights that a chmod or chown sets.
+    Empty for the others. KeyError if a key of its operation is missing."""
     if fields['op'] == 'say':
         text: str = fields['text']
         return text if len(text) <= LARGEST_SAY else f'{text[:LARGEST_SAY]}..'
@@ -133,39 +139,37 @@ def details_of(fields: Dict[str, Any]) -> str:
         if fields['offset'] == 0 and fields['length'] == limits.FILE_BYTES:
             return 'all bytes'
         return f"{fields['length']:,} bytes at {fields['offset']:,}"
-    return ' '.join(
-        fields[key]
-        for key in ('mode', 'owner', 'group')
-        if key in fields and fields['op'] in ('chmod', 'chown')
-    )
+    if fields['op'] not in ('chmod', 'chown'):
+        return ''
+    return ' '.join(fields[key] for key in ('mode', 'owner', 'group') if key in fields)
 
 
 class TraceText(NamedTuple):
-    """What reports need of a trace that `crashfs` has accepted: its operations, by the numbers of
-    their lines, and the acknowledged texts, whole and in their order."""
+    """What reports need of a trace: its operations, by the numbers of their lines, and the
+    acknowledged texts, uncut, in their order."""
 
     operations: Dict[int, TraceLine]
     acknowledged: List[str]
 
 
-def read_text(text: str) -> TraceText:
-    """The operations and acknowledged texts of a trace that `crashfs` has accepted, of any version.
-    For others it may raise TraceError, KeyError or TypeError."""
+def parse_trace_text(text: str) -> TraceText:
+    """The operations and acknowledged texts of a trace of any version that `crashfs` has accepted.
+    For other texts it may raise TraceError, KeyError, TypeError or AttributeError."""
     operations: Dict[int, TraceLine] = {}
     acknowledged: List[str] = []
-    for number, fields in fields_of_lines(text.split('\n')):
+    for number, fields in parse_lines(text.split('\n')):
         if 'op' in fields:
-            operations[number] = line_in_words(number, fields)
+            operations[number] = trace_line_of_fields(number, fields)
             if fields['op'] == 'say':
                 acknowledged.append(fields['text'])
     return TraceText(operations, acknowledged)
 
 
 def trace_version(text: str) -> int:
-    """The version that a trace's header gives, known or not; 0 if there is no header, or if its
-    version is no whole number. Nothing after the header is read."""
+    """The version in a trace's header, known or not; 0 if there is no header, or if its version is
+    no whole number. Only the header is read."""
     try:
-        _, header = next(fields_of_lines(StringIO(text)))
+        _, header = next(parse_lines(StringIO(text)))
         version = header['trace']
     except (TraceError, StopIteration, KeyError, TypeError):
         return 0
@@ -173,43 +177,44 @@ def trace_version(text: str) -> int:
 
 
 def root_owner(lines: Iterable[str]) -> str:
-    """The owner of the root, from the lines of a trace that `crashfs` has accepted: of them only
-    the header is read."""
-    _, header = next(fields_of_lines(lines))
+    """The owner of the root, from the lines of a trace that `crashfs` has accepted. Only the header
+    is read."""
+    _, header = next(parse_lines(lines))
     return str(header['owner'])
 
 
-def with_syncs(text: str, points: Iterable[Tuple[int, str]]) -> str:
-    """The text of a trace with more syncs. Each of the points is the number of a line, and the path
-    of an fsync that comes after it; those after one line are in the order of their paths. The
-    numbers are those before any is added."""
-    paths: Dict[int, List[str]] = {}
-    for number, path in sorted(points):
-        paths.setdefault(number, []).append(path)
+def with_syncs(text: str, sync_points: Iterable[Tuple[int, str]]) -> str:
+    """The text of a trace with more fsyncs. Each of `sync_points` has the number that a line has
+    now, and the path of an fsync that is added after it; several after one line are in the order of
+    their paths. A point after the last line is left out. Whether the trace has the paths isn't
+    checked."""
+    paths_by_line: Dict[int, List[str]] = {}
+    for number, path in sorted(sync_points):
+        paths_by_line.setdefault(number, []).append(path)
     lines: List[str] = []
     for number, line in enumerate(text.split('\n'), 1):
-        syncs = [{'op': 'fsync', 'path': path} for path in paths.get(number, [])]
+        syncs = [{'op': 'fsync', 'path': path} for path in paths_by_line.get(number, [])]
         lines += [line, *(json.dumps(sync, ensure_ascii=False) for sync in syncs)]
     return '\n'.join(lines)
 
 
 def without_says(text: str) -> str:
-    """The text of a trace without its acknowledged lines. TraceError if a line is no JSON. If
-    nothing is left out, it is the same text."""
+    """The text of a trace without its acknowledged lines; the same text if it has none. TraceError
+    if a line isn't JSON, AttributeError if it isn't an object."""
     lines = text.split('\n')
-    says = {number for number, fields in fields_of_lines(lines) if fields.get('op') == 'say'}
-    return '\n'.join(line for number, line in enumerate(lines, 1) if number not in says)
+    say_numbers = {number for number, fields in parse_lines(lines) if fields.get('op') == 'say'}
+    return '\n'.join(line for number, line in enumerate(lines, 1) if number not in say_numbers)
 
 
-def is_large_trace(lines: Iterable[str], most_entries: int, most_bytes: int) -> bool:
-    """Whether a trace has at least `most_entries` start lines, or `most_bytes` bytes in its lines
-    and in the lengths that truncates set. No line is read after that is known. TraceError if a line
-    before is no JSON."""
+def is_large_trace(lines: Iterable[str], least_entries: int, least_bytes: int) -> bool:
+    """Whether a trace has at least `least_entries` start lines, or `least_bytes` bytes: those of
+    its lines, with their ends, and the lengths that truncates set. No more lines are read than that
+    needs. TraceError if one of these isn't JSON, AttributeError if it isn't an object."""
     entries = size = 0
     for number, line in enumerate(lines, 1):
-        fields = fields_of_line(number, line) if line.strip(BLANKS) else {}
+        fields = parse_line(number, line) if line.strip(BLANKS) else {}
         entries += 'start' in fields
         size += fields['length'] if fields.get('op') == 'truncate' else len(line.encode(*ENCODING))
-        if entries >= most_entries or size >= most_bytes:
+        if entries >= least_entries or size >= least_bytes:
             return True
     return False

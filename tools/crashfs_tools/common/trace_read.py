@@ -17,40 +17,39 @@ from .trace import (
     StartLink,
     StartSymlink,
     Trace,
-    TraceError,
-    fields_of_lines,
 )
 from .sparse import SparseBytes
+from .trace_fields import TraceError, parse_lines
 from .tree import Tree
 
 VERSIONS = (1, 2, 3, 4)
 STARTS: Dict[str, Type[Any]] = {'link': StartLink, 'symlink': StartSymlink}
 
 
-def read_trace(text: str) -> Trace:
-    """The trace of a text. TraceError for a line that is none of its version, or if there is no
-    header; whether lines fit each other isn't checked."""
-    *_, (_, trace) = read_lines(text.split('\n'))
+def read_trace(trace_text: str) -> Trace:
+    """The trace that a text has. TraceError if a line isn't one of its version, or if there is no
+    header. Whether lines fit together isn't checked."""
+    *_, (_, trace) = read_lines(trace_text.split('\n'))
     return trace
 
 
-def read_numbered(text: str) -> Tuple[Trace, List[int]]:
-    """The trace of a text, and for each of its operations the number of its line, from 1.
-    TraceError as read_trace()."""
-    numbers: List[int] = []
-    for number, trace in read_lines(text.split('\n')):
-        if len(trace.operations) > len(numbers):
-            numbers.append(number)
-    return trace, numbers
+def read_trace_with_numbers(trace_text: str) -> Tuple[Trace, List[int]]:
+    """The trace that a text has, and the number, from 1, of each operation's line. TraceError as
+    read_trace()."""
+    line_numbers: List[int] = []
+    for number, trace in read_lines(trace_text.split('\n')):
+        if len(trace.operations) > len(line_numbers):
+            line_numbers.append(number)
+    return trace, line_numbers
 
 
-def replay(lines: Iterable[str]) -> Tree:
-    """The tree at a trace's end; only one line is kept at a time. TraceError for a line that is
-    none of the trace's version, ValueError for an operation that doesn't fit the tree. Start lines
-    aren't checked so: one that doesn't fit may raise KeyError."""
+def tree_at_end(lines: Iterable[str]) -> Tree:
+    """The tree at a trace's end; only one line at a time is in memory. TraceError for a line that
+    isn't one of the trace's version, ValueError for an operation that is impossible in the tree.
+    Start lines aren't checked so: an impossible one may raise KeyError."""
     tree: Optional[Tree] = None
     for number, trace in read_lines(lines):
-        tree = tree or tree_of(trace)
+        tree = tree or tree_without_start(trace)
         while trace.start:
             tree.add_start(trace.start.pop())
         while trace.operations:
@@ -63,19 +62,19 @@ def replay(lines: Iterable[str]) -> Tree:
     return tree
 
 
-def tree_of(trace: Trace) -> Tree:
-    """The tree of a trace before its start lines: the root only, in the trace's version and
+def tree_without_start(trace: Trace) -> Tree:
+    """The tree of a trace without its start lines: only the root, in the trace's version and
     profile."""
     header = trace.header
     return Tree(header.owner, header.group, header.mode, trace.block, trace.version, trace.profile)
 
 
 def read_lines(lines: Iterable[str]) -> Iterator[Tuple[int, Trace]]:
-    """Each line's number, and the one trace, always the same object, that grows by it; the header
-    comes first. A caller may take out what it has read. TraceError for a line that is none of the
-    trace's version, and, at the end, if there was no header."""
+    """Reads a trace line by line. Yields each line's number, and always the same Trace, to which
+    the line was added; the caller may remove lines from it. TraceError for a line that isn't one of
+    the trace's version, and, at the end, if there was no header."""
     trace: Optional[Trace] = None
-    for number, fields in fields_of_lines(lines):
+    for number, fields in parse_lines(lines):
         try:
             if trace is None:
                 trace = read_header(fields)
@@ -89,14 +88,14 @@ def read_lines(lines: Iterable[str]) -> Iterator[Tuple[int, Trace]]:
 
 
 def read_header(fields: Dict[str, Any]) -> Trace:
-    """A trace that has a header and nothing else. ValueError, KeyError or TypeError if its version
-    is unknown, or has no such header."""
+    """A trace that has only this header. ValueError, KeyError or TypeError if its version is
+    unknown, or its fields aren't those of its version."""
     version = fields['trace']
     header = Header(fields['owner'], fields['group'], int(fields['mode'], 8))
     profile, block = fields.get('profile'), fields.get('block')
     is_known = (
         version in VERSIONS
-        and (profile in profiles_of(version) if version > 1 else profile is None)
+        and (profile in profiles_of_version(version) if version > 1 else profile is None)
         and (block in BLOCK_SIZES if version > 2 else block is None)
     )
     if not is_known:
@@ -104,21 +103,21 @@ def read_header(fields: Dict[str, Any]) -> Trace:
     return Trace(header, version=version, profile=profile or BLOCKS, block=block or BLOCK_SIZES[-1])
 
 
-def profiles_of(version: int) -> Tuple[str, ...]:
-    """The profiles that a header of a version may have. Version 1, whose header has none, isn't
-    asked for."""
+def profiles_of_version(version: int) -> Tuple[str, ...]:
+    """The profiles that a header of a version from 2 on may have; a header of version 1 has
+    none."""
     return (*PROFILES, JOURNAL) if version >= 4 else PROFILES
 
 
 def read_line(trace: Trace, fields: Dict[str, Any]) -> None:
-    """Adds a start line or an operation to a trace, from its fields, of which `note` is taken out.
-    ValueError, KeyError or TypeError if it is neither, in the trace's version. A key too many isn't
-    noticed."""
+    """Adds a start line or an operation to a trace, from its fields, and removes `note` from these:
+    only an operation's is kept. ValueError, KeyError or TypeError if it isn't a line of the trace's
+    version. Unknown keys aren't noticed."""
     note = fields.pop('note', None) if trace.version >= 3 else None
-    kind = type_of_line(fields)
-    if not trace.has_kind(kind):
+    line_class = class_of_line(fields)
+    if not trace.has_kind(line_class):
         raise ValueError(f'{fields} in a trace of version {trace.version}')
-    item: Any = kind(**read_values(fields, kind, trace.version))
+    item: Any = line_class(**read_values(fields, line_class, trace.version))
     if 'start' in fields:
         trace.start.append(item)
         return
@@ -127,37 +126,41 @@ def read_line(trace: Trace, fields: Dict[str, Any]) -> None:
     trace.operations.append(item)
 
 
-def type_of_line(fields: Dict[str, Any]) -> Type[Any]:
-    """The class of a start line or an operation, from its fields. Directories and files are both
-    Start, and so is a start line of an unknown kind; an unknown operation is a KeyError."""
+def class_of_line(fields: Dict[str, Any]) -> Type[Any]:
+    """The class of a start line or an operation, from its fields. Directories, files and start
+    lines of an unknown kind are Start. KeyError for an unknown operation."""
     if 'start' in fields:
         return STARTS.get(fields['start'], Start)
     return KINDS[fields['op']]
 
 
-def read_values(fields: Dict[str, Any], kind: Type[Any], version: int) -> Dict[str, Any]:
-    """The values of a line for the fields of its class, by the fields' names. ValueError, KeyError
-    or TypeError for one that is missing or can't be read."""
-    return {part.name: read_value(part.name, fields, version) for part in dataclasses.fields(kind)}
+def read_values(fields: Dict[str, Any], line_class: Type[Any], version: int) -> Dict[str, Any]:
+    """The values of a line's fields by the attributes of its class. ValueError, KeyError or
+    TypeError if one is missing or can't be read."""
+    return {
+        attribute.name: read_value(attribute.name, fields, version)
+        for attribute in dataclasses.fields(line_class)
+    }
 
 
-def read_value(name: str, fields: Dict[str, Any], version: int) -> Any:
-    """The value that a line has for a field of its class; None for the bytes of a directory.
-    KeyError if the line lacks it, ValueError or TypeError if bytes or a mode can't be read. Other
-    values are taken as they are, whatever their type."""
-    if name == 'data':
+def read_value(attribute: str, fields: Dict[str, Any], version: int) -> Any:
+    """The value of an attribute of a line; None for the bytes of a directory. KeyError if the line
+    has no such field; ValueError or TypeError if bytes, parts or a mode can't be read. Parts may be
+    in any order, and past the length. Other values are kept as they are, of any type."""
+    if attribute == 'data':
         if fields.get('start') == 'dir':
             return None
         if version >= 4 and 'parts' in fields:
             parts = [(int(part['at']), read_bytes(part, version)) for part in fields['parts']]
             return SparseBytes(int(fields['length']), parts)
         return read_bytes(fields, version)
-    value = fields[KEYS.get(name, name)]
-    return int(value, 8) if name == 'mode' else value
+    value = fields[KEYS.get(attribute, attribute)]
+    return int(value, 8) if attribute == 'mode' else value
 
 
 def read_bytes(fields: Dict[str, Any], version: int) -> bytes:
-    """The bytes of a line or a part: those of `bytes`, in hexadecimal digits, or, since version 3
-    and if it isn't there, of `text`. KeyError if there is neither, ValueError for other digits."""
+    """The bytes of a line or a part: `bytes`, in hexadecimal digits, or, since version 3 and if
+    that is missing, `text`. KeyError if both are missing, TypeError if `bytes` isn't a text,
+    ValueError for other digits. Blanks between bytes aren't noticed."""
     is_text = version >= 3 and 'bytes' not in fields
     return str(fields['text']).encode() if is_text else bytes.fromhex(fields['bytes'])

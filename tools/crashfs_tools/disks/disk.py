@@ -9,25 +9,25 @@ from dataclasses import dataclass
 from typing import Dict, Iterator, List, NamedTuple, Tuple
 
 from crashfs_tools.common.entry import Entries, Entry
-from crashfs_tools.common.file_bytes import file_bytes
+from crashfs_tools.common.file_bytes import read_file_bytes
 from crashfs_tools.common.sparse import LARGE_BYTES, SparseBytes
 
-from .levers import Lever
+from .flushes import FlushKind
 from .moments import Moment
 from .owners import Owners
 
 
 class Crash(NamedTuple):
-    """When the power failed, and what the kernel had been made to write by then."""
+    """A power failure: its moment, and what the kernel was made to write before it."""
 
     moment: Moment
-    lever: Lever
+    flush_kind: FlushKind
 
     @property
     def rank(self) -> Tuple[int, int]:
-        """A key for sorting: crashes for which the kernel was made to write less come first, then
-        earlier ones."""
-        return self.lever.rank, self.moment.done
+        """A key for sorting: crashes with the least forced writes come first, and of these the
+        earliest."""
+        return self.flush_kind.rank, self.moment.operation_count
 
 
 @dataclass
@@ -40,44 +40,43 @@ class Disk:
 
     @property
     def line_counts(self) -> List[int]:
-        """How many lines may be acknowledged when the disk has this tree: each number that one of
-        its crashes allows, once, ascending."""
-        return sorted({count for one in self.crashes for count in one.moment.line_counts})
+        """Each number of lines that may be acknowledged when the disk has this tree, by any of its
+        crashes; ascending."""
+        return sorted({count for crash in self.crashes for count in crash.moment.line_counts})
 
 
 def read_tree(top: str, owners: Owners) -> Entries:
-    """Reads the tree below a directory, which is `/` in it, in the order of its paths. No symbolic
-    link is followed. A directory whose entries can't be listed has none; any other error is an
-    OSError."""
+    """Reads the tree below a directory, which is `/` in it, sorted by path. Symbolic links aren't
+    followed. A directory that can't be listed counts as empty; any other error is an OSError."""
     tree: Entries = {'/': read_entry(top, owners)}
-    for here, names, files in os.walk(top):
-        base = here[len(top) :]
-        for name in [*names, *files]:
-            tree[f'{base}/{name}'] = read_entry(os.path.join(here, name), owners)
+    for folder, folder_names, file_names in os.walk(top):
+        tree_folder = folder[len(top) :]
+        for name in [*folder_names, *file_names]:
+            tree[f'{tree_folder}/{name}'] = read_entry(os.path.join(folder, name), owners)
     return dict(sorted(tree.items()))
 
 
 def read_entry(path: str, owners: Owners) -> Entry:
-    """Reads a directory, a file with its bytes, or a symbolic link with its target; of a mode only
-    the permission bits. A number of a user or group that the trace doesn't name is a text of its
-    digits."""
+    """Reads a directory, a file with its bytes, or a symbolic link with its target. Of its mode
+    only the permission bits are kept. A user or group that the trace doesn't name is the digits of
+    its number. OSError if something can't be read."""
     status = os.lstat(path)
     user, group = owners.users.name(status.st_uid), owners.groups.name(status.st_gid)
     entry = Entry(user, group, status.st_mode & 0o777, None)
     if stat.S_ISLNK(status.st_mode):
         entry.link = os.readlink(path)
     elif not stat.S_ISDIR(status.st_mode):
-        file = os.open(path, os.O_RDONLY | os.O_NOFOLLOW | os.O_CLOEXEC)
+        descriptor = os.open(path, os.O_RDONLY | os.O_NOFOLLOW | os.O_CLOEXEC)
         try:
-            entry.data = file_bytes(file)
+            entry.data = read_file_bytes(descriptor)
         finally:
-            os.close(file)
+            os.close(descriptor)
     return entry
 
 
 def digest_of(tree: Entries) -> str:
-    """A digest that equal trees share, in whatever order their paths are and however their bytes
-    are kept; different trees have different ones."""
+    """A digest of a tree: equal for equal trees, in whatever order their paths are and however
+    their bytes are kept, and different for different ones."""
     digest = hashlib.sha256()
     for path in sorted(tree):
         for piece in digested_pieces(path, tree[path]):
@@ -87,9 +86,9 @@ def digest_of(tree: Entries) -> str:
 
 
 def digested_pieces(path: str, entry: Entry) -> Iterator[bytes]:
-    """What a digest has of one entry: its path, its rights and its content. A letter says whether
-    that is a link's target (l), a file's bytes (f) or a large file's pages (s). Of these only pages
-    with data are given, with their numbers, since zeros may be kept as holes or not."""
+    """The pieces of an entry that a digest is made from: its path, its rights and its content. That
+    begins with a letter, l for a link's target, f for a file's bytes, and s for a large file, of
+    which only the pages with data count, with their numbers: zeros may be kept as holes or not."""
     yield os.fsencode(path)
     yield f'{entry.owner}\0{entry.group}\0{entry.mode:o}'.encode('utf-8', 'surrogateescape')
     if entry.link is not None:
@@ -104,11 +103,12 @@ def digested_pieces(path: str, entry: Entry) -> Iterator[bytes]:
             yield number.to_bytes(8, 'little') + page
 
 
-def different_disks(found: Iterator[Tuple[Entries, Crash]]) -> List[Disk]:
-    """The different trees that crashes left, each with all its crashes. Trees are in the order of
-    their first crashes, and crashes in that of `found`."""
+def different_disks(crashed_trees: Iterator[Tuple[Entries, Crash]]) -> List[Disk]:
+    """The different trees that crashes left, each with all its crashes and with the digest that
+    they share; of equal trees the first is kept. Trees are in the order of their first crashes, and
+    crashes in that of `crashed_trees`."""
     disks: Dict[str, Disk] = {}
-    for tree, crash in found:
+    for tree, crash in crashed_trees:
         digest = digest_of(tree)
         disks.setdefault(digest, Disk(tree, digest, [])).crashes.append(crash)
     return list(disks.values())

@@ -9,27 +9,36 @@ from typing import Dict, List, Optional, Sequence, Tuple
 
 from crashfs_tools.common.command import Refused
 from crashfs_tools.common.sparse import PAGE_BYTES, SparseBytes
-from crashfs_tools.common.trace import Start, StartLine, Trace, Write
+from crashfs_tools.common.trace import (
+    Creat,
+    Link,
+    Mkdir,
+    Start,
+    StartLine,
+    Symlink,
+    Trace,
+    Write,
+)
 
 from .loops import LOOP_CONTROL
-from .own_mounts import missing_own_mounts
+from .own_mounts import own_mounts_fault
 
 MEBIBYTE = 1 << 20
 # So many images of each file system a process has at once: the start, the disk, and its copy.
 IMAGES = 3
 # The programs that images are made by, besides `mkfs`.
 PROGRAMS = ('fallocate',)
-EXT_BLOCKS = ('-q', '-F', '-b', '4096')
+# An inode for each block, also in images of 512 MiB and more, which have fewer by default.
+EXT_BLOCKS = ('-q', '-F', '-b', '4096', '-i', '4096')
 LAZY = ('-E', 'lazy_itable_init=0,lazy_journal_init=0')
 
 
 @dataclass(frozen=True)
 class FileSystem:
     """How a file system is made and mounted. name is that of --disks. program makes it, `mkfs.` and
-    its type, with words before the image's path; size is the image's in bytes. options are the data
-    that mount(2) passes to it: those of all file systems, such as `ro`, are flags, and refused.
-    repair is the command that must be run on an image before it can be mounted after a crash, if it
-    has no log."""
+    its type, with `words` before the image's path; size is the image's, in bytes. options are the
+    data of mount(2): those of all file systems, such as `ro`, are flags, and refused. repair is the
+    command that an image needs after a crash; empty if a log is replayed."""
 
     name: str
     program: str
@@ -40,7 +49,7 @@ class FileSystem:
 
     @property
     def kind(self) -> str:
-        """The type that mount(2) is given."""
+        """The file system's type, as mount(2) takes it."""
         return self.program.partition('.')[2]
 
 
@@ -48,7 +57,7 @@ EXT4 = FileSystem('ext4', 'mkfs.ext4', (*EXT_BLOCKS, '-J', 'size=4', *LAZY), 24 
 
 
 def ext4_with(name: str, options: str) -> FileSystem:
-    """ext4 with other options, as mount(2) passes them, under another name."""
+    """ext4 with other options, as the data of mount(2), and another name."""
     return FileSystem(name, EXT4.program, EXT4.words, EXT4.size, options)
 
 
@@ -67,28 +76,33 @@ KNOWN: Dict[str, FileSystem] = {
 }
 # An image of the usual size has room for so many bytes of a session.
 USUAL_BYTES = 8 * MEBIBYTE
+# The operations that make a name where none was; a rename moves one.
+NAME_MAKERS = (Creat, Mkdir, Link, Symlink)
 
 
-def with_room(filesystem: FileSystem, size: int) -> FileSystem:
-    """The file system with images that have room for a session that writes `size` bytes. Above
-    USUAL_BYTES each byte takes two, in whole MiB, since a file system may keep the old bytes of a
-    file until the new ones are committed."""
-    more = max(0, size - USUAL_BYTES)
-    return replace(filesystem, size=filesystem.size + -(-2 * more // MEBIBYTE) * MEBIBYTE)
+def with_room_for(filesystem: FileSystem, session_bytes: int) -> FileSystem:
+    """The file system with images that have room for a session of so many bytes. Each byte above
+    USUAL_BYTES takes two, rounded up to whole MiB, since a file system may keep a file's old bytes
+    until the new ones are committed."""
+    extra_bytes = max(0, session_bytes - USUAL_BYTES)
+    return replace(filesystem, size=filesystem.size + -(-2 * extra_bytes // MEBIBYTE) * MEBIBYTE)
 
 
-def bytes_written(trace: Trace) -> int:
-    """How many bytes the files of a session take at most: those of the start tree and of each
-    write. Each run of bytes counts two pages more, in which it may begin and end. Truncates count
-    nothing: they make holes."""
+def most_session_bytes(trace: Trace) -> int:
+    """How many bytes on a disk a session takes at most: those of the files of the start tree and of
+    each write, with two pages more for each of these runs, in which it begins and ends; and a page
+    for each name that the start tree has or that is made, with its inode. Truncates count nothing:
+    they make holes."""
     sizes = [len(run) for line in trace.start for run in start_runs(line)]
-    sizes += [len(one.data) for one in trace.operations if isinstance(one, Write)]
-    return sum(size + 2 * PAGE_BYTES for size in sizes)
+    sizes += [len(operation.data) for operation in trace.operations if isinstance(operation, Write)]
+    new_names = sum(isinstance(operation, NAME_MAKERS) for operation in trace.operations)
+    name_bytes = (len(trace.start) + new_names) * PAGE_BYTES
+    return name_bytes + sum(size + 2 * PAGE_BYTES for size in sizes)
 
 
 def start_runs(line: StartLine) -> List[bytes]:
-    """The bytes of a start line's file, in runs, without holes if it has them; none if it is no
-    file."""
+    """The bytes of a start line's file, in runs, without holes if it has them. Empty if the line
+    isn't a file."""
     if not isinstance(line, Start) or line.data is None:
         return []
     if isinstance(line.data, SparseBytes):
@@ -96,34 +110,36 @@ def start_runs(line: StartLine) -> List[bytes]:
     return [line.data]
 
 
-def filesystems_of(names: Sequence[str]) -> List[FileSystem]:
-    """The file systems that --disks names, each once, in the order of the names. Refused if one
+def filesystems_by_names(disk_names: Sequence[str]) -> List[FileSystem]:
+    """The file systems that --disks names, each once, in the order of the names. Refused if a name
     isn't known. Whether this machine has them isn't checked."""
-    unknown = [name for name in names if name not in KNOWN]
+    unknown = [name for name in disk_names if name not in KNOWN]
     if unknown:
         raise Refused(f'--disks {unknown[0]}: no such file system (known: {", ".join(KNOWN)})')
-    return [KNOWN[name] for name in dict.fromkeys(names)]
+    return [KNOWN[name] for name in dict.fromkeys(disk_names)]
 
 
 def require_filesystems(names: Sequence[str]) -> None:
-    """Refused if a file system isn't known, or if this machine or user can't make and mount it."""
-    missing = missing_requirement(filesystems_of(names))
+    """Refused if --disks names an unknown file system, or if this machine or user can't make and
+    mount one. OSError if the system can't fork."""
+    missing = missing_requirement(filesystems_by_names(names))
     if missing is not None:
         raise Refused(f'--disks: {missing}')
 
 
 def missing_requirement(filesystems: Sequence[FileSystem]) -> Optional[str]:
-    """The first thing that these file systems need and that this machine or user lacks, in words;
-    None if nothing is missing. Whether the kernel can mount them isn't tried."""
+    """The first requirement of these file systems that this machine or user doesn't meet, in words;
+    None if all are met. Whether the kernel can mount them isn't tried. OSError if the system can't
+    fork."""
     if os.geteuid() != 0:
         return 'it needs root, to make and mount disk images'
-    mounts = missing_own_mounts()
-    if mounts is not None:
-        return mounts
+    mounts_fault = own_mounts_fault()
+    if mounts_fault is not None:
+        return mounts_fault
     if not os.path.exists(LOOP_CONTROL):
         return f'it needs loop devices ({LOOP_CONTROL} is missing)'
-    for one in filesystems:
-        for program in (one.program, *one.repair[:1], *PROGRAMS):
+    for filesystem in filesystems:
+        for program in (filesystem.program, *filesystem.repair[:1], *PROGRAMS):
             if shutil.which(program) is None:
-                return f'{one.name} needs {program}, which is not installed'
+                return f'{filesystem.name} needs {program}, which is not installed'
     return None

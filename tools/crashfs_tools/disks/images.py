@@ -14,7 +14,7 @@ from crashfs_tools.common.command import Refused
 from crashfs_tools.common.file_bytes import data_ranges
 
 from .filesystems import FileSystem
-from .loops import attached
+from .loops import attached_loop_device
 
 UMOUNT_TRIES, UMOUNT_SECONDS = 50, 0.05
 PIECE_BYTES = 1 << 20
@@ -25,89 +25,93 @@ libc = ctypes.CDLL(None, use_errno=True)
 
 
 def make_image(filesystem: FileSystem, image: str) -> None:
-    """Makes an empty file system in a new image. FileExistsError if there is one already; Refused
-    if the file system's program fails, OSError if it isn't there: then the image stays."""
+    """Makes an empty file system in a new image. FileExistsError if the image is there; Refused if
+    the file system's program fails, OSError if it isn't there: then the image stays."""
     with open(image, 'xb') as file:
         file.truncate(filesystem.size)
     run_program([filesystem.program, *filesystem.words, image])
 
 
 def dig_holes(image: str) -> None:
-    """Makes holes of the zeros in an image, such as those of a new log, so that copies are faster.
-    Its bytes stay the same. Refused if that fails."""
+    """Turns the zeros in an image, such as those of a new log, into holes, so that copies are
+    faster. Refused if that fails, OSError if `fallocate` isn't there."""
     run_program(['fallocate', '--dig-holes', image])
 
 
 @contextmanager
-def mounted(filesystem: FileSystem, image: str, point: str) -> Iterator[str]:
+def mounted_image(filesystem: FileSystem, image: str, mount_point: str) -> Iterator[str]:
     """Within this an image is mounted at a directory, which is made if it isn't there, and stays.
-    Yields the directory's path. The mount keeps the loop device, which is free again after the
-    unmount. Refused if no device is free or the image can't be mounted; OSError, at the end, if it
-    is still in use."""
-    os.makedirs(point, exist_ok=True)
-    with attached(image) as device:
-        mount(filesystem, device, point)
+    Yields the directory's path. The loop device is free again after the unmount. Refused if no
+    device is free or the image can't be mounted; OSError if it can't be opened, or as unmount()
+    raises it at the end."""
+    os.makedirs(mount_point, exist_ok=True)
+    with attached_loop_device(image) as device:
+        mount(filesystem, device, mount_point)
     try:
-        yield point
+        yield mount_point
     finally:
-        unmount(point)
+        unmount(mount_point)
 
 
-def mount(filesystem: FileSystem, device: str, point: str) -> None:
-    """Mounts a device with the file system's options; Refused if it can't be mounted. It uses the
-    system call: the program `mount` takes four times as long."""
-    words = [os.fsencode(word) for word in (device, point, filesystem.kind, filesystem.options)]
+def mount(filesystem: FileSystem, device: str, mount_point: str) -> None:
+    """Mounts a device with the file system's options. Refused if it can't be mounted. It makes the
+    system call itself: the program `mount` takes four times as long."""
+    words = [
+        os.fsencode(word) for word in (device, mount_point, filesystem.kind, filesystem.options)
+    ]
     if libc.mount(*words[:3], 0, words[3]):
-        why = os.strerror(ctypes.get_errno())
-        raise Refused(f'--disks: an image of {filesystem.name} can not be mounted: {why}')
+        reason = os.strerror(ctypes.get_errno())
+        raise Refused(f'--disks: an image of {filesystem.name} can not be mounted: {reason}')
 
 
-def unmount(point: str) -> None:
-    """Unmounts what is mounted at a directory. The kernel may use it for a moment longer, so it is
-    tried again for UMOUNT_TRIES times UMOUNT_SECONDS. OSError if it is in use even then, or if
-    nothing is mounted there."""
+def unmount(mount_point: str) -> None:
+    """Unmounts what is mounted at a directory. While that is in use, it tries up to UMOUNT_TRIES
+    times, with UMOUNT_SECONDS after each: the kernel may use it for a moment longer. OSError if it
+    is in use even then, or if nothing is mounted there."""
     for _ in range(UMOUNT_TRIES):
-        if libc.umount2(os.fsencode(point), 0) == 0:
+        if libc.umount2(os.fsencode(mount_point), 0) == 0:
             return
         if ctypes.get_errno() != errno.EBUSY:
             break
         time.sleep(UMOUNT_SECONDS)
-    raise OSError(ctypes.get_errno(), os.strerror(ctypes.get_errno()), point)
+    raise OSError(ctypes.get_errno(), os.strerror(ctypes.get_errno()), mount_point)
 
 
 def copy_image(source: str, target: str) -> None:
-    """Copies an image to a path, and replaces the bytes of what is there. Holes stay holes. After
-    an OSError a part of the copy is left."""
-    with open(source, 'rb') as old, open(target, 'wb') as new:
-        size = os.fstat(old.fileno()).st_size
-        new.truncate(size)
-        for begin, end in data_ranges(old.fileno(), size):
-            os.lseek(old.fileno(), begin, os.SEEK_SET)
-            os.lseek(new.fileno(), begin, os.SEEK_SET)
-            while begin < end:
-                begin += os.sendfile(
-                    new.fileno(), old.fileno(), None, min(end - begin, PIECE_BYTES)
+    """Copies an image to a path, and replaces the bytes of a file that is there. Holes stay holes.
+    After an OSError a part of the copy is left."""
+    with open(source, 'rb') as source_file, open(target, 'wb') as target_file:
+        size = os.fstat(source_file.fileno()).st_size
+        target_file.truncate(size)
+        for offset, end in data_ranges(source_file.fileno(), size):
+            os.lseek(source_file.fileno(), offset, os.SEEK_SET)
+            os.lseek(target_file.fileno(), offset, os.SEEK_SET)
+            while offset < end:
+                offset += os.sendfile(
+                    target_file.fileno(), source_file.fileno(), None, min(end - offset, PIECE_BYTES)
                 )
 
 
 def repair_image(filesystem: FileSystem, image: str) -> None:
-    """Repairs an image of a file system without a log, which can't be mounted after a crash. Does
-    nothing for one with a log, which the mount replays. Refused if it can't be repaired."""
+    """Repairs an image after a crash, if its file system has no log and so can't be mounted before;
+    otherwise nothing is done, since the mount replays the log. Refused if it can't be repaired,
+    OSError if the program isn't there."""
     if filesystem.repair:
         run_program([*filesystem.repair, image], highest_status=REPAIRED)
 
 
 def run_program(words: Sequence[str], highest_status: int = 0) -> None:
-    """Runs a program to its end. Refused, with the first line that it printed, if its status is
-    above `highest_status` or a signal has ended it; OSError if it can't be started."""
-    done = subprocess.run(
+    """Runs a program, and waits for it without limit. Refused, with the first line that it printed,
+    if its status is above `highest_status`, or if a signal ended it. OSError if it can't be
+    started."""
+    completed = subprocess.run(
         words,
         stdin=subprocess.DEVNULL,
         stdout=subprocess.PIPE,
         stderr=subprocess.STDOUT,
         check=False,
     )
-    if not 0 <= done.returncode <= highest_status:
-        printed = done.stdout.decode('utf-8', 'replace').strip().splitlines()
-        first = printed[0] if printed else f'it failed with status {done.returncode}'
-        raise Refused(f'--disks: {words[0]}: {first}')
+    if not 0 <= completed.returncode <= highest_status:
+        lines = completed.stdout.decode('utf-8', 'replace').strip().splitlines()
+        cause = lines[0] if lines else f'it failed with status {completed.returncode}'
+        raise Refused(f'--disks: {words[0]}: {cause}')

@@ -24,43 +24,45 @@ TRIES = 100
 
 
 @contextmanager
-def attached(image: str) -> Iterator[str]:
-    """Within this an image is a loop device. Yields the device's path. If the device is mounted
-    meanwhile, it keeps the image until it is unmounted. Refused if no device is free."""
-    descriptor, path = open_loop_device(image)
+def attached_loop_device(image: str) -> Iterator[str]:
+    """Within this an image is attached to a loop device. Yields the device's path. If the device is
+    mounted meanwhile, it keeps the image until it is unmounted. Refused and OSError as
+    open_loop_device()."""
+    device, device_path = open_loop_device(image)
     try:
-        yield path
+        yield device_path
     finally:
-        os.close(descriptor)
+        os.close(device)
 
 
 def open_loop_device(image: str) -> Tuple[int, str]:
-    """Opens a free loop device and gives it an image; returns its descriptor, which the caller
-    closes, and its path. Refused if other processes took each of TRIES devices first; OSError if
-    one can't be opened."""
-    control = os.open(LOOP_CONTROL, os.O_RDWR | os.O_CLOEXEC)
-    file = os.open(image, os.O_RDWR | os.O_CLOEXEC)
+    """Opens a free loop device and attaches an image to it. Returns its descriptor, which the
+    caller closes, and its path. Refused if other processes took each of TRIES devices first.
+    OSError if the image or a device can't be opened, or as open_with_image()."""
+    control_fd = os.open(LOOP_CONTROL, os.O_RDWR | os.O_CLOEXEC)
+    image_fd = os.open(image, os.O_RDWR | os.O_CLOEXEC)
     try:
         for _ in range(TRIES):
-            path = f'/dev/loop{fcntl.ioctl(control, LOOP_CTL_GET_FREE)}'
-            device = open_with_file(path, file)
-            if device is not None:
-                return device, path
+            device_path = f'/dev/loop{fcntl.ioctl(control_fd, LOOP_CTL_GET_FREE)}'
+            device_fd = open_with_image(device_path, image_fd)
+            if device_fd is not None:
+                return device_fd, device_path
     finally:
-        os.close(control)
-        os.close(file)
+        os.close(control_fd)
+        os.close(image_fd)
     raise Refused('--disks: no loop device is free')
 
 
-def open_with_file(path: str, file: int) -> Optional[int]:
-    """Opens a loop device and gives it an image's file, which may be closed then; returns its
-    descriptor. None if another process has taken the device; any other fault is an OSError."""
-    device = os.open(path, os.O_RDWR | os.O_CLOEXEC)
+def open_with_image(device_path: str, image_fd: int) -> Optional[int]:
+    """Opens a loop device and attaches an open image to it, which may be closed then. Returns the
+    device's descriptor; None if another process has taken the device. Any other fault is an
+    OSError, also that Linux is older than 5.8."""
+    device_fd = os.open(device_path, os.O_RDWR | os.O_CLOEXEC)
     try:
-        fcntl.ioctl(device, LOOP_CONFIGURE, CONFIG.pack(file, 0, AUTOCLEAR))
+        fcntl.ioctl(device_fd, LOOP_CONFIGURE, CONFIG.pack(image_fd, 0, AUTOCLEAR))
     except OSError as error:
-        os.close(device)
+        os.close(device_fd)
         if error.errno != errno.EBUSY:
             raise
         return None
-    return device
+    return device_fd

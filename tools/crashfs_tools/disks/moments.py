@@ -2,39 +2,39 @@
 
 from __future__ import annotations
 
-from typing import Iterator, List, NamedTuple
+from typing import Iterator, List, NamedTuple, Sequence
 
 from crashfs_tools.common.trace import Operation, Say
 
 
 class Moment(NamedTuple):
-    """A moment of a session after its first `done` operations, at which from `least` to `most`
-    lines may be acknowledged. `line` is the number of the last operation's line in the trace, 0
-    before the first."""
+    """A moment of a session after its first operations, so many as operation_count says. Then from
+    least_says to most_says lines may be acknowledged. `line` is the number of the last operation's
+    line in the trace, 0 before the first."""
 
-    done: int
-    least: int
-    most: int
+    operation_count: int
+    least_says: int
+    most_says: int
     line: int
 
     @property
     def line_counts(self) -> range:
-        """Each number of lines that may be acknowledged at the moment."""
-        return range(self.least, self.most + 1)
+        """Each number of lines that may be acknowledged at this moment, ascending."""
+        return range(self.least_says, self.most_says + 1)
 
 
-def moments(operations: List[Operation], first_line: int) -> Iterator[Moment]:
+def crash_moments(operations: List[Operation], line_numbers: Sequence[int]) -> Iterator[Moment]:
     """The moments at which the disk may differ, from the start to the end: the start, and one after
-    each operation that is no say. To acknowledge a line changes nothing on the disk, so the says
-    that follow an operation are in its moment. `first_line` is the number of the first operation's
+    each operation that isn't a say. A say changes nothing on the disk: those that follow an
+    operation, or the start, are in its moment. `line_numbers` has the number of each operation's
     line."""
-    done = says = 0
+    operation_count = say_count = 0
     while True:
-        least = says
-        moment = done
-        while done < len(operations) and isinstance(operations[done], Say):
-            done, says = done + 1, says + 1
-        yield Moment(moment, least, says, first_line + moment - 1 if moment else 0)
-        if done >= len(operations):
+        made_count, least_says = operation_count, say_count
+        while operation_count < len(operations) and isinstance(operations[operation_count], Say):
+            operation_count, say_count = operation_count + 1, say_count + 1
+        line = line_numbers[made_count - 1] if made_count else 0
+        yield Moment(made_count, least_says, say_count, line)
+        if operation_count >= len(operations):
             return
-        done += 1
+        operation_count += 1

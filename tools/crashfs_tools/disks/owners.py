@@ -22,42 +22,45 @@ FIRST_UNKNOWN = 200_000
 
 
 class Numbers:
-    """The numbers of users, or of groups. A name keeps the number that it was given first."""
+    """The numbers of users, or of groups. A name keeps the first number that it gets."""
 
-    def __init__(self, are_groups: bool) -> None:
-        self.are_groups = are_groups
+    def __init__(self, is_for_groups: bool) -> None:
+        """With is_for_groups they are numbers of groups, else of users. No name has a number
+        yet."""
+        self.is_for_groups = is_for_groups
         self.numbers: Dict[str, int] = {}
         self.names: Dict[int, str] = {}
 
     def number(self, name: str) -> int:
-        """The number of a name, which is given to it at the first call: this machine's if it knows
-        the name, else one from FIRST_UNKNOWN on."""
+        """The number of a name. The first call gives it one: this machine's if it knows the name,
+        else one from FIRST_UNKNOWN on."""
         if name not in self.numbers:
-            self.numbers[name] = self.first_number(name)
+            self.numbers[name] = self.new_number(name)
             self.names.setdefault(self.numbers[name], name)
         return self.numbers[name]
 
-    def first_number(self, name: str) -> int:
-        """The number for a name that has none yet. It isn't kept here: number() does that, so that
-        each unknown name gets another one."""
+    def new_number(self, name: str) -> int:
+        """A number for a name that has none. Only number() stores it: until then another unknown
+        name would get the same."""
         try:
-            return grp.getgrnam(name).gr_gid if self.are_groups else pwd.getpwnam(name).pw_uid
+            return grp.getgrnam(name).gr_gid if self.is_for_groups else pwd.getpwnam(name).pw_uid
         except KeyError:
             return FIRST_UNKNOWN + len(self.numbers)
 
     def name(self, number: int) -> str:
-        """The first of the names that were given this number, as several may share it; if none was,
-        the number as a text."""
+        """The name that has a number, the first one if several do; if none does, the number's
+        digits."""
         return self.names.get(number, str(number))
 
 
 class Owners:
-    """The numbers of a trace's users and groups. They are given in the order in which the trace
-    names them, so that each process that makes its session again has the same."""
+    """The numbers of a trace's users and groups. Names get them in the order in which the trace has
+    them, so each process that makes the session again has the same numbers."""
 
     def __init__(self, trace: Trace) -> None:
-        self.users = Numbers(are_groups=False)
-        self.groups = Numbers(are_groups=True)
+        """Gives each name of the trace its number, for which it reads the system's accounts."""
+        self.users = Numbers(is_for_groups=False)
+        self.groups = Numbers(is_for_groups=True)
         for line in (trace.header, *trace.start, *trace.operations):
             if isinstance(line, (Header, Start, StartSymlink, Creat, Mkdir, Symlink, Chown)):
                 self.users.number(line.owner)

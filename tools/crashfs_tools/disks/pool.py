@@ -15,7 +15,7 @@ from crashfs_tools.common.trace import Trace
 from .crashing import CrashMaker
 from .disk import Crash, Disk, different_disks
 from .filesystems import FileSystem
-from .levers import Lever
+from .flushes import FlushKind
 from .moments import Moment
 from .own_mounts import use_own_mounts
 from .workers import DiskWorkers
@@ -33,51 +33,63 @@ class Task(NamedTuple):
 
 class DiskPool:
     """The disks that crashes of a session leave on file systems. `folder` is for their images,
-    which stay there; `levers` are those that are pulled at each moment, all by default."""
+    which stay there; `flush_kinds` are those that are tried at each moment, by default all;
+    `line_numbers` are those of the operations, as CrashMaker takes them."""
 
     def __init__(
         self,
         filesystems: Sequence[FileSystem],
         trace: Trace,
         folder: str,
-        levers: Sequence[Lever] = tuple(Lever),
+        flush_kinds: Sequence[FlushKind] = tuple(FlushKind),
+        line_numbers: Sequence[int] = (),
     ) -> None:
-        self.makers = {one.name: CrashMaker(one, trace, folder) for one in filesystems}
-        self.levers = levers
+        """The folder must be there. Nothing is made or started yet."""
+        self.makers = {
+            filesystem.name: CrashMaker(filesystem, trace, folder, line_numbers)
+            for filesystem in filesystems
+        }
+        self.flush_kinds = flush_kinds
 
     def tasks(self) -> List[Task]:
         """Each moment of the session on each file system, one file system after the other."""
         return [
-            Task(name, moment) for name, maker in self.makers.items() for moment in maker.moments()
+            Task(name, moment)
+            for name, maker in self.makers.items()
+            for moment in maker.crash_moments()
         ]
 
     def disks(self, jobs: int, on_step: Callable[[int, int], None]) -> Dict[str, List[Disk]]:
         """The different disks of each file system, by its name, made by up to `jobs` processes.
-        on_step is called with how many of the tasks are done, and with how many there are. Refused
-        if an image can't be made or mounted, or if a process was killed; other faults of a process
-        are an OSError or a workers.Fault."""
+        on_step is called after each task, with how many tasks are done and how many there are.
+        Refused if an image can't be made or mounted, or if a process was killed; other faults of a
+        process are an OSError or a workers.Fault."""
         tasks = self.tasks()
-        found: Dict[str, CrashedTrees] = {name: [] for name in self.makers}
+        trees_by_name: Dict[str, CrashedTrees] = {name: [] for name in self.makers}
         with DiskWorkers(jobs, partial(become_worker, os.getpid()), self.crash) as workers:
-            for count, (name, crashes) in enumerate(workers.results(tasks), 1):
-                found[name] += crashes
-                on_step(count, len(tasks))
-        return {name: different_disks(crashes_in_order(crashes)) for name, crashes in found.items()}
+            for done_count, (name, crashed_trees) in enumerate(workers.results(tasks), 1):
+                trees_by_name[name] += crashed_trees
+                on_step(done_count, len(tasks))
+        return {
+            name: different_disks(crashes_in_order(crashed_trees))
+            for name, crashed_trees in trees_by_name.items()
+        }
 
     def crash(self, task: Task) -> Tuple[str, CrashedTrees]:
-        """In a worker: what crashes at a task's moment leave, after the file system's name."""
-        return task.name, list(self.makers[task.name].crashes(task.moment, self.levers))
+        """In a worker: the file system's name, and the trees that crashes at the task's moment
+        leave on it."""
+        return task.name, list(self.makers[task.name].crashes(task.moment, self.flush_kinds))
 
 
 def become_worker(parent: int) -> None:
-    """Makes this process a worker, which the process `parent` has forked: it ends with the parent,
-    at once if that is gone; it ignores SIGINT and SIGHUP; its mounts are its own, and its umask is
-    0; and it may open as many files as the system allows, since a replay keeps each file open.
-    Refused if it can't have mounts of its own."""
-    _, most = resource.getrlimit(resource.RLIMIT_NOFILE)
-    resource.setrlimit(resource.RLIMIT_NOFILE, (most, most))
-    for number in (signal.SIGINT, signal.SIGHUP):
-        signal.signal(number, signal.SIG_IGN)
+    """Makes this process a worker of the process `parent`, which forked it. It ends with the
+    parent, at once if that is gone; ignores SIGINT and SIGHUP; is ended by SIGTERM; has mounts of
+    its own and the umask 0; and may open as many files as its hard limit allows, since a replay
+    keeps files open. Refused if it can't have mounts of its own."""
+    _, hard_limit = resource.getrlimit(resource.RLIMIT_NOFILE)
+    resource.setrlimit(resource.RLIMIT_NOFILE, (hard_limit, hard_limit))
+    for signal_number in (signal.SIGINT, signal.SIGHUP):
+        signal.signal(signal_number, signal.SIG_IGN)
     signal.signal(signal.SIGTERM, signal.SIG_DFL)
     die_with_parent()
     if os.getppid() != parent:
@@ -86,7 +98,7 @@ def become_worker(parent: int) -> None:
     use_own_mounts()
 
 
-def crashes_in_order(found: CrashedTrees) -> Iterator[Tuple[Entries, Crash]]:
-    """The crashes in the order of their moments, and those of one moment in that of their levers;
-    workers give them in any order. Those of one lever at one moment stay in theirs."""
-    return iter(sorted(found, key=lambda one: (one[1].moment, one[1].lever.rank)))
+def crashes_in_order(crashed_trees: CrashedTrees) -> Iterator[Tuple[Entries, Crash]]:
+    """The crashes in the order of their moments, and at one moment of their kinds of flushes:
+    workers send them in any order. Those of one kind at one moment stay in theirs."""
+    return iter(sorted(crashed_trees, key=lambda pair: (pair[1].moment, pair[1].flush_kind.rank)))

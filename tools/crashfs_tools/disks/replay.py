@@ -46,193 +46,196 @@ libc = ctypes.CDLL(None, use_errno=True)
 
 
 def lay_out_start(trace: Trace, top: str, owners: Owners) -> None:
-    """Makes the start tree of a trace in a new directory, and writes it to the disk. Owners and
-    modes are set from the last entry to the first, so that a directory's come after those of what
-    is in it. Symbolic links come last: nothing is made through one. FileExistsError if the
-    directory is there; after an OSError a part of the tree is left."""
+    """Makes the start tree of a trace in a new directory, and writes it to the disk.
+    FileExistsError if the directory is there; after an OSError a part of the tree is left."""
     os.mkdir(top, NEW_DIRECTORY)
-    for entry in trace.start:
-        if isinstance(entry, StartLink):
-            os.link(top + entry.source, top + entry.path)
-        elif isinstance(entry, Start):
-            make_entry(top + entry.path, entry.data)
-    rights: List[Union[Header, Start]] = [trace.header]
-    rights += [one for one in trace.start if isinstance(one, Start)]
-    for one in reversed(rights):
-        path = top + (one.path if isinstance(one, Start) else '')
-        os.chown(path, owners.users.number(one.owner), owners.groups.number(one.group))
-        os.chmod(path, one.mode)
-    for entry in trace.start:
-        if isinstance(entry, StartSymlink):
-            make_symlink(top + entry.path, entry, owners)
+    for line in trace.start:
+        if isinstance(line, StartLink):
+            os.link(top + line.source, top + line.path)
+        elif isinstance(line, Start):
+            make_entry(top + line.path, line.data)
+    entries: List[Union[Header, Start]] = [trace.header]
+    entries += [line for line in trace.start if isinstance(line, Start)]
+    # A directory's owner and mode come after those of what is in it.
+    for entry in reversed(entries):
+        path = top + (entry.path if isinstance(entry, Start) else '')
+        os.chown(path, owners.users.number(entry.owner), owners.groups.number(entry.group))
+        os.chmod(path, entry.mode)
+    # Symbolic links come last: nothing is made through one.
+    for line in trace.start:
+        if isinstance(line, StartSymlink):
+            make_symlink(top + line.path, line, owners)
     sync_file_system(top)
 
 
 def make_entry(path: str, data: Union[bytes, SparseBytes, None]) -> None:
-    """Makes a file with these bytes; pages of zeros of SparseBytes become holes. Or a directory, if
-    `data` is None. Owner and mode aren't set here. FileExistsError if something is there."""
+    """Makes a file with these bytes, or a directory if `data` is None. SparseBytes' pages of zeros
+    become holes. Owner and mode are the caller's task. FileExistsError if something is there."""
     if data is None:
         os.mkdir(path, NEW_DIRECTORY)
         return
     with open(path, 'xb') as file:
-        for at, part in data.page_runs() if isinstance(data, SparseBytes) else [(0, data)]:
-            file.seek(at)
-            file.write(part)
+        for offset, piece in data.page_runs() if isinstance(data, SparseBytes) else [(0, data)]:
+            file.seek(offset)
+            file.write(piece)
         file.truncate(len(data))
 
 
-def make_symlink(path: str, made: Union[Symlink, StartSymlink], owners: Owners) -> None:
-    """Makes a symbolic link, and sets its owner and group, unless it has them already: a call that
-    changes them is one that the session didn't make."""
-    os.symlink(made.link, path)
-    rights = owners.users.number(made.owner), owners.groups.number(made.group)
+def make_symlink(path: str, line: Union[Symlink, StartSymlink], owners: Owners) -> None:
+    """Makes a symbolic link. Sets its owner and group only if they differ, as the session made no
+    such call otherwise. FileExistsError if something is there."""
+    os.symlink(line.link, path)
+    owner_and_group = owners.users.number(line.owner), owners.groups.number(line.group)
     status = os.lstat(path)
-    if (status.st_uid, status.st_gid) != rights:
-        os.lchown(path, *rights)
+    if (status.st_uid, status.st_gid) != owner_and_group:
+        os.lchown(path, *owner_and_group)
 
 
 class UnsyncedChange(NamedTuple):
-    """An operation that changed a file's bytes or size: the number of operations up to it, itself
-    included, and the file's path then."""
+    """An operation that changed a file's bytes or size: operation_count is how many operations were
+    made, with this one, and path the file's path then."""
 
-    done: int
+    operation_count: int
     path: str
 
 
 class Replay:
-    """The session in the directory `top`, made again as root, so that modes don't hinder it. Each
-    kind of operation has a method of its name; an OSError of its call is raised. Files stay open
-    until the end of the `with`, so that a file is written and synced by the same descriptor. done
-    is how many operations were made.
+    """The session made again in the directory `top`, as root, so that modes don't hinder it. Each
+    kind of operation has a method of its name, which raises the OSError of its call;
+    operation_count counts them. Files stay open until the end of the `with`: a file is written and
+    synced by one descriptor.
 
-    unsynced has, by inode, the changes of each file since the last sync that covers them all; the
-    files are in the order of their first ones.
+    unsynced has the changes of each file, by its inode, since the last sync that covers them all;
+    the files are in the order of their first such changes.
     """
 
     def __init__(self, top: str, owners: Owners) -> None:
+        """The directory must have the start tree, by lay_out_start()."""
         self.top = top
         self.owners = owners
-        self.files: Dict[int, int] = {}
-        self.done = 0
+        self.descriptors: Dict[int, int] = {}
+        self.operation_count = 0
         self.unsynced: Dict[int, List[UnsyncedChange]] = {}
 
     def __enter__(self) -> Replay:
         return self
 
     def __exit__(self, *_: object) -> None:
-        for descriptor in self.files.values():
+        for descriptor in self.descriptors.values():
             os.close(descriptor)
 
-    def path(self, path: str) -> str:
+    def disk_path(self, path: str) -> str:
         """The path on the disk of a path of the trace."""
         return self.top if path == '/' else self.top + path
 
     def descriptor(self, path: str) -> int:
-        """The descriptor of a file, which is opened at the first call and stays open. It is found
-        by the inode, since a file may have several names, or another one than when it was
-        opened."""
+        """The descriptor of a file, which the first call opens, and which stays open. A file is
+        known by its inode, since it may have several names, or have been renamed. OSError if it
+        can't be opened, as a directory or a symbolic link."""
         inode = self.inode(path)
-        if inode not in self.files:
-            self.files[inode] = os.open(self.path(path), OPEN_FILE)
-        return self.files[inode]
+        if inode not in self.descriptors:
+            self.descriptors[inode] = os.open(self.disk_path(path), OPEN_FILE)
+        return self.descriptors[inode]
 
     def inode(self, path: str) -> int:
-        """The inode of what is at a path of the trace; FileNotFoundError if nothing is."""
-        return os.lstat(self.path(path)).st_ino
+        """The inode of what is at a path of the trace. FileNotFoundError if nothing is."""
+        return os.lstat(self.disk_path(path)).st_ino
 
-    def do(self, operation: Operation) -> None:
-        """Makes an operation; those before it must have been made. It counts in `done` even if it
+    def make_operation(self, operation: Operation) -> None:
+        """Makes an operation, after all those before it. It counts in operation_count even if it
         raises an OSError."""
-        self.done += 1
+        self.operation_count += 1
         CALLS[type(operation)](self, operation)
 
-    def creat(self, made: Creat) -> None:
+    def creat(self, operation: Creat) -> None:
         """Makes a new file, and keeps it open. FileExistsError if something is there."""
-        descriptor = os.open(self.path(made.path), NEW_FILE, made.mode)
-        self.files[os.fstat(descriptor).st_ino] = descriptor
-        self.set_rights(made)
+        descriptor = os.open(self.disk_path(operation.path), NEW_FILE, operation.mode)
+        self.descriptors[os.fstat(descriptor).st_ino] = descriptor
+        self.set_rights(operation)
 
-    def mkdir(self, made: Mkdir) -> None:
-        os.mkdir(self.path(made.path), made.mode)
-        self.set_rights(made)
+    def mkdir(self, operation: Mkdir) -> None:
+        os.mkdir(self.disk_path(operation.path), operation.mode)
+        self.set_rights(operation)
 
-    def set_rights(self, made: Union[Creat, Mkdir]) -> None:
-        """Sets the owner, group and mode of what was made, unless it has them already: a call that
-        changes them is one that the session didn't make."""
-        user = self.owners.users.number(made.owner)
-        group = self.owners.groups.number(made.group)
-        status = os.lstat(self.path(made.path))
+    def set_rights(self, operation: Union[Creat, Mkdir]) -> None:
+        """Sets the owner, group and mode of what an operation made, but only those that differ:
+        otherwise the session made no such call."""
+        user = self.owners.users.number(operation.owner)
+        group = self.owners.groups.number(operation.group)
+        status = os.lstat(self.disk_path(operation.path))
         if (status.st_uid, status.st_gid) != (user, group):
-            os.lchown(self.path(made.path), user, group)
-        if status.st_mode & 0o777 != made.mode:
-            os.chmod(self.path(made.path), made.mode)
+            os.lchown(self.disk_path(operation.path), user, group)
+        if status.st_mode & 0o777 != operation.mode:
+            os.chmod(self.disk_path(operation.path), operation.mode)
 
-    def unlink(self, one: Unlink) -> None:
-        os.unlink(self.path(one.path))
+    def unlink(self, operation: Unlink) -> None:
+        os.unlink(self.disk_path(operation.path))
 
-    def rmdir(self, one: Rmdir) -> None:
-        os.rmdir(self.path(one.path))
+    def rmdir(self, operation: Rmdir) -> None:
+        os.rmdir(self.disk_path(operation.path))
 
-    def rename(self, one: Rename) -> None:
-        os.rename(self.path(one.source), self.path(one.target))
+    def rename(self, operation: Rename) -> None:
+        os.rename(self.disk_path(operation.source), self.disk_path(operation.target))
 
-    def link(self, one: Link) -> None:
-        os.link(self.path(one.source), self.path(one.target))
+    def link(self, operation: Link) -> None:
+        os.link(self.disk_path(operation.source), self.disk_path(operation.target))
 
-    def write(self, one: Write) -> None:
-        """Writes all bytes, by as many calls as that takes. A write of no bytes counts as a change
-        too."""
-        left, at = one.data, one.offset
-        while left:
-            count = os.pwrite(self.descriptor(one.path), left, at)
-            left, at = left[count:], at + count
-        self.note_unsynced(one.path)
+    def write(self, operation: Write) -> None:
+        """Writes all bytes, by as many calls as that takes; after an OSError some may be written. A
+        write of no bytes counts as unsynced too."""
+        remaining, offset = operation.data, operation.offset
+        while remaining:
+            count = os.pwrite(self.descriptor(operation.path), remaining, offset)
+            remaining, offset = remaining[count:], offset + count
+        self.note_unsynced(operation.path)
 
-    def truncate(self, one: Truncate) -> None:
-        os.ftruncate(self.descriptor(one.path), one.length)
-        self.note_unsynced(one.path)
+    def truncate(self, operation: Truncate) -> None:
+        os.ftruncate(self.descriptor(operation.path), operation.length)
+        self.note_unsynced(operation.path)
 
     def note_unsynced(self, path: str) -> None:
-        """Notes that the operation in progress changed a file's bytes or size, which no sync covers
+        """Notes that the present operation changed a file's bytes or size, and no sync covers that
         yet."""
-        self.unsynced.setdefault(self.inode(path), []).append(UnsyncedChange(self.done, path))
+        self.unsynced.setdefault(self.inode(path), []).append(
+            UnsyncedChange(self.operation_count, path)
+        )
 
-    def chmod(self, one: Chmod) -> None:
-        os.chmod(self.path(one.path), one.mode)
+    def chmod(self, operation: Chmod) -> None:
+        os.chmod(self.disk_path(operation.path), operation.mode)
 
-    def chown(self, one: Chown) -> None:
-        """Changes the owner and group of what is at a path; of a symbolic link its own."""
+    def chown(self, operation: Chown) -> None:
+        """Changes the owner and group of what is at a path, also of a symbolic link itself."""
         users, groups = self.owners.users, self.owners.groups
-        user, group = users.number(one.owner), groups.number(one.group)
-        os.chown(self.path(one.path), user, group, follow_symlinks=False)
+        user, group = users.number(operation.owner), groups.number(operation.group)
+        os.chown(self.disk_path(operation.path), user, group, follow_symlinks=False)
 
-    def fsync(self, one: Fsync) -> None:
+    def fsync(self, operation: Fsync) -> None:
         """Syncs a directory, or a file, which then has no unsynced changes."""
-        if os.path.isdir(self.path(one.path)):
-            sync_directory(self.path(one.path))
+        if os.path.isdir(self.disk_path(operation.path)):
+            sync_directory(self.disk_path(operation.path))
         else:
-            os.fsync(self.descriptor(one.path))
-            self.unsynced.pop(self.inode(one.path), None)
+            os.fsync(self.descriptor(operation.path))
+            self.unsynced.pop(self.inode(operation.path), None)
 
-    def symlink(self, made: Symlink) -> None:
-        make_symlink(self.path(made.path), made, self.owners)
+    def symlink(self, operation: Symlink) -> None:
+        make_symlink(self.disk_path(operation.path), operation, self.owners)
 
-    def fdatasync(self, one: Fdatasync) -> None:
-        os.fdatasync(self.descriptor(one.path))
-        self.unsynced.pop(self.inode(one.path), None)
+    def fdatasync(self, operation: Fdatasync) -> None:
+        os.fdatasync(self.descriptor(operation.path))
+        self.unsynced.pop(self.inode(operation.path), None)
 
-    def fsync_range(self, one: FsyncRange) -> None:
-        """A sync of the whole file is an fdatasync; one of a part is made by msync, which syncs
-        only the pages of the part. After the latter all changes of the file still count as
-        unsynced. A part past the file's end syncs nothing."""
-        descriptor = self.descriptor(one.path)
+    def fsync_range(self, operation: FsyncRange) -> None:
+        """Syncs the whole file by fdatasync(), and a part of it by msync(), which syncs only the
+        part's pages: then all changes of the file still count as unsynced. A part past the file's
+        end syncs nothing."""
+        descriptor = self.descriptor(operation.path)
         size = os.fstat(descriptor).st_size
-        if one.offset == 0 and one.length >= size:
+        if operation.offset == 0 and operation.length >= size:
             os.fdatasync(descriptor)
-            self.unsynced.pop(self.inode(one.path), None)
+            self.unsynced.pop(self.inode(operation.path), None)
             return
-        begin = one.offset // mmap.PAGESIZE * mmap.PAGESIZE
-        end = min(one.offset + one.length, size)
+        begin = operation.offset // mmap.PAGESIZE * mmap.PAGESIZE
+        end = min(operation.offset + operation.length, size)
         if begin < end:
             with mmap.mmap(descriptor, end - begin, offset=begin) as pages:
                 pages.flush()
@@ -245,11 +248,11 @@ class Replay:
         """Does nothing: to acknowledge a line changes nothing on the disk."""
 
     def write_back(self, inode: int) -> None:
-        """Writes the bytes of a file, given by its inode, to the disk, and nothing of the log. Does
-        nothing for a file that the session hasn't opened, which has none to write. OSError if it
-        fails. The file still counts as unsynced."""
-        if inode in self.files and libc.sync_file_range(
-            self.files[inode],
+        """Writes the bytes of the file with an inode to the disk, and nothing of the log; nothing
+        for a file that the session hasn't opened. The file still counts as unsynced. OSError if it
+        fails."""
+        if inode in self.descriptors and libc.sync_file_range(
+            self.descriptors[inode],
             ctypes.c_int64(0),
             ctypes.c_int64(0),
             SYNC_FILE_RANGE_WRITE_AND_WAIT,
@@ -279,13 +282,13 @@ CALLS: Dict[Type[Any], Callable[[Replay, Any], None]] = {
 
 
 def sync_directory(path: str) -> None:
-    """Makes the names in a directory durable; OSError if it can't."""
+    """Makes the names in a directory durable. OSError if that fails."""
     with open_directory(path) as descriptor:
         os.fsync(descriptor)
 
 
 def sync_file_system(path: str) -> None:
-    """Makes all of the file system that a directory is in durable; OSError if it can't."""
+    """Makes the whole file system of a directory durable. OSError if that fails."""
     with open_directory(path) as descriptor:
         if libc.syncfs(descriptor):
             raise OSError(ctypes.get_errno(), os.strerror(ctypes.get_errno()), path)
@@ -293,7 +296,7 @@ def sync_file_system(path: str) -> None:
 
 @contextmanager
 def open_directory(path: str) -> Iterator[int]:
-    """Within this a directory is open. Yields its descriptor."""
+    """Within this a directory is open. Yields its descriptor. OSError if it can't be opened."""
     descriptor = os.open(path, os.O_RDONLY | os.O_DIRECTORY | os.O_CLOEXEC)
     try:
         yield descriptor

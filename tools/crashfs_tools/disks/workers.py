@@ -10,7 +10,7 @@ from multiprocessing.connection import Connection, Pipe, wait
 from typing import Callable, Dict, Generic, Iterator, List, NoReturn, Optional, Set, TypeVar, Union
 
 from crashfs_tools.common.command import Refused
-from crashfs_tools.common.guard import stops_blocked
+from crashfs_tools.common.guard import stop_signals_blocked
 
 Task = TypeVar('Task')
 Result = TypeVar('Result')
@@ -25,15 +25,18 @@ class Fault(Exception):
 
 
 class DiskWorkers(Generic[Task, Result]):
-    """At most `count` processes that do tasks, used by `with`. Each calls `begin` first, and `do`
-    with each of its tasks. They are forks of this process, so both may be any functions; tasks and
-    results are sent through pipes, so they must be of a kind that can be pickled. At the end the
-    processes are killed."""
+    """At most `most_processes` processes that do tasks, used by `with`. Each calls `set_up` first,
+    and then `do_task` with each of its tasks. They are forks of this process, so both may be any
+    functions; tasks and results go through pipes, so they must be of a kind that can be pickled. At
+    the end the processes are killed."""
 
-    def __init__(self, count: int, begin: Callable[[], None], do: Callable[[Task], Result]) -> None:
-        self.count = count
-        self.begin = begin
-        self.do = do
+    def __init__(
+        self, most_processes: int, set_up: Callable[[], None], do_task: Callable[[Task], Result]
+    ) -> None:
+        """Starts no process: results() does."""
+        self.most_processes = most_processes
+        self.set_up = set_up
+        self.do_task = do_task
         # The processes by this process's ends of their pipes.
         self.processes: Dict[Connection, int] = {}
 
@@ -50,24 +53,24 @@ class DiskWorkers(Generic[Task, Result]):
         self.processes.clear()
 
     def results(self, tasks: List[Task]) -> Iterator[Result]:
-        """The results of tasks, in the order in which they come. It starts the processes, so it may
-        be called only once. Raises what `begin` or `do` raised: Refused and OSError as they are,
-        anything else as a Fault. Refused also if a process was killed. No result comes after
+        """The results of tasks, in the order in which they arrive. It starts the processes, so it
+        may be called only once. Raises what `set_up` or `do_task` raised, Refused and OSError as
+        they are, anything else as a Fault; and Refused if a process was killed. No result follows
         that."""
-        left = iter(tasks)
-        for _ in range(min(self.count, len(tasks))):
+        remaining_tasks = iter(tasks)
+        for _ in range(min(self.most_processes, len(tasks))):
             self.start_process()
-        busy = [pipe for pipe in self.processes if send_next(pipe, left)]
-        while busy:
-            for pipe in wait(busy, TURN_SECONDS):
+        busy_pipes = [pipe for pipe in self.processes if send_next_task(pipe, remaining_tasks)]
+        while busy_pipes:
+            for pipe in wait(busy_pipes, TURN_SECONDS):
                 assert isinstance(pipe, Connection)
                 yield self.receive(pipe)
-                if not send_next(pipe, left):
-                    busy.remove(pipe)
+                if not send_next_task(pipe, remaining_tasks):
+                    busy_pipes.remove(pipe)
 
     def receive(self, pipe: Connection) -> Result:
-        """The result that a process sends for its task, after waiting for it. Raises what the
-        process raised, or Refused if it was killed."""
+        """Waits without limit for the result of a process's task. Raises what the process raised,
+        as caught_fault() returned it, or Refused if the process was killed."""
         try:
             result = pipe.recv()
         except (EOFError, OSError) as error:
@@ -78,23 +81,24 @@ class DiskWorkers(Generic[Task, Result]):
 
     def start_process(self) -> None:
         """Starts a process, and adds it to `processes`. Signals wait meanwhile: the new process
-        must not take one as this one does."""
-        ours, its = Pipe()
-        with stops_blocked() as before:
+        must not handle one as this process does. OSError if the system can't fork."""
+        own_end, worker_end = Pipe()
+        with stop_signals_blocked() as blocked_before:
             process = os.fork()
             if process == 0:
-                ours.close()
-                self.work(its, before)
-            self.processes[ours] = process
-        its.close()
+                own_end.close()
+                self.work(worker_end, blocked_before)
+            self.processes[own_end] = process
+        worker_end.close()
 
-    def work(self, pipe: Connection, before: Set[Union[int, signal.Signals]]) -> NoReturn:
-        """In the new process: sends the result of each task that comes through its pipe, and never
-        returns. Signals wait until `begin` has returned; `before` is what was blocked before the
-        fork. If `begin` raises, that is the result of each task."""
+    def work(self, pipe: Connection, blocked_before: Set[Union[int, signal.Signals]]) -> NoReturn:
+        """In the new process, never returns: sends the result of each task that its pipe brings. If
+        `set_up` raises, that is each result. Signals wait until `set_up` has returned; those of
+        `blocked_before`, blocked before the fork, wait on. A result that can't be pickled ends the
+        process: receive() then takes it as killed."""
         try:
-            fault = fault_of(self.begin)
-            signal.pthread_sigmask(signal.SIG_SETMASK, before)
+            fault = caught_fault(self.set_up)
+            signal.pthread_sigmask(signal.SIG_SETMASK, blocked_before)
             while True:
                 task = pipe.recv()
                 pipe.send(fault or self.result_of(task))
@@ -102,16 +106,17 @@ class DiskWorkers(Generic[Task, Result]):
             os._exit(0)
 
     def result_of(self, task: Task) -> Union[Result, Exception]:
-        """In the new process: the result of a task, or what it raised, as fault_of() returns it."""
+        """In the new process: does a task, and returns its result, or what it raised, as
+        caught_fault() does."""
         results: List[Result] = []
-        fault = fault_of(lambda: results.append(self.do(task)))
+        fault = caught_fault(lambda: results.append(self.do_task(task)))
         return fault or results[0]
 
 
-def send_next(pipe: Connection, left: Iterator[Task]) -> bool:
-    """Sends the next of the tasks that are left to a process. Returns False if none is left.
-    Refused if the process was killed."""
-    for task in left:
+def send_next_task(pipe: Connection, remaining_tasks: Iterator[Task]) -> bool:
+    """Sends the next of the remaining tasks to a process. Returns False if there is none. Refused
+    if the process was killed."""
+    for task in remaining_tasks:
         try:
             pipe.send(task)
         except OSError as error:
@@ -120,9 +125,10 @@ def send_next(pipe: Connection, left: Iterator[Task]) -> bool:
     return False
 
 
-def fault_of(call: Callable[[], None]) -> Optional[Exception]:
+def caught_fault(call: Callable[[], None]) -> Optional[Exception]:
     """Calls a function, and returns what it raises, in a form that a pipe can send: Refused and
-    OSError as they are, any other Exception as a Fault. None if it raises nothing."""
+    OSError as they are, any other Exception as a Fault; None if it raises nothing. Other
+    BaseExceptions, such as SystemExit, aren't caught."""
     try:
         call()
     except (Refused, OSError) as fault:

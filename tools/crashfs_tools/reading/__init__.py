@@ -8,7 +8,7 @@ is no program, and the tests compare the two.
 from __future__ import annotations
 
 from .faults import ReadingFault
-from .plan import StateList, plan_of
-from .trace import Reading, read
+from .plan import StateList, make_plan
+from .trace import Reading, parse_trace
 
-__all__ = ['Reading', 'ReadingFault', 'StateList', 'plan_of', 'read']
+__all__ = ['Reading', 'ReadingFault', 'StateList', 'make_plan', 'parse_trace']

@@ -4,40 +4,43 @@ from __future__ import annotations
 
 import tarfile
 from io import BytesIO
-from typing import BinaryIO, Dict, List, Optional, Tuple
+from typing import BinaryIO, Dict, List, Optional
 
 from .data import Data
 from .plan import StateList
-from .sparse import has_many_zeros, map_of, runs_of
+from .sparse import Extent, data_extents, extent_map, has_many_zeros
 from .states import Item
 
 KINDS = {'dir': tarfile.DIRTYPE, 'file': tarfile.REGTYPE, 'symlink': tarfile.SYMTYPE}
 
 
 class ArchiveWriter:
-    """Writes an archive of states of a plan to `out`, a stream that stays open. Use it in a `with`,
-    at whose end the archive is ended. The numbers of states must be those of the plan. With
-    `sparse`, large files with many zeros are written in pieces."""
+    """Writes an archive of states of a plan to a stream, which stays open. Use it in a `with`, at
+    whose end the archive is ended and what is buffered is written. The numbers of states must be
+    those of the plan. If is_sparse is set, large files with many zeros are written as extents. All
+    methods that write raise an OSError of the stream."""
 
-    def __init__(self, plan: StateList, out: BinaryIO, sparse: bool = False) -> None:
+    def __init__(self, plan: StateList, stream: BinaryIO, *, is_sparse: bool = False) -> None:
         self.plan = plan
-        self.sparse = sparse
-        self.file = tarfile.open(fileobj=out, mode='w|', format=tarfile.PAX_FORMAT)
+        self.is_sparse = is_sparse
+        self.archive = tarfile.open(fileobj=stream, mode='w|', format=tarfile.PAX_FORMAT)
 
     def __enter__(self) -> ArchiveWriter:
         return self
 
     def __exit__(self, *_: object) -> None:
-        """Ends the archive by two blocks of zeros, also after an error, which isn't caught. The
-        padding that fills a tape's record, which tarfile itself would add, is left out."""
-        stream = self.file.fileobj
+        """Ends the archive by two blocks of zeros, also after an error, which isn't caught: an
+        archive that lacks states may look whole then. The padding that fills a tape's record, which
+        tarfile itself would add, is left out."""
+        stream = self.archive.fileobj
         assert stream is not None
         stream.write(bytes(2 * tarfile.BLOCKSIZE))
         stream.close()
 
-    def tree(self, number: int) -> Dict[str, Item]:
+    def tree_of_state(self, number: int) -> Dict[str, Item]:
         """The tree of the state with this number: what is at each path."""
-        return self.plan.trees.tree(self.plan.states[number][1])
+        _, place_set = self.plan.states[number]
+        return self.plan.trees.tree(place_set)
 
     def write_state(self, number: int) -> None:
         """Writes the tree of one state. The root's name is `./`; the other names are the paths
@@ -54,85 +57,91 @@ class ArchiveWriter:
         """Writes how each of some states N differs from state 0: first a file `N.missing` with the
         names of the paths that only state 0 has, each ended by a NUL; then, below `N/`, the entries
         that are new or differ. A state that doesn't differ has only its empty `N.missing`."""
-        start = self.tree(0)
+        first_tree = self.tree_of_state(0)
         for number in numbers:
-            tree = self.tree(number)
-            gone = [path for path in paths_in_order(start) if path not in tree]
-            shown = ''.join(shown_name(path, start[path]) + '\0' for path in gone).encode()
-            missing = tarfile.TarInfo(f'{number}.missing')
-            missing.size = len(shown)
-            self.file.addfile(missing, BytesIO(shown))
+            tree = self.tree_of_state(number)
+            self.write_missing(number, first_tree, tree)
             for path in paths_in_order(tree):
-                if start.get(path) != tree[path]:
+                if first_tree.get(path) != tree[path]:
                     self.write_item(f'{number}{path}', tree[path])
 
-    def write_tree(self, number: int, top: str) -> None:
-        """Writes the tree of a state. `top`, which ends in a slash, is the name of the root; the
-        other names begin with it, unless it is `./`, which they leave out."""
-        tree = self.tree(number)
+    def write_missing(
+        self, number: int, first_tree: Dict[str, Item], tree: Dict[str, Item]
+    ) -> None:
+        """Writes the file `N.missing` of state N, whose tree is `tree`: the names of the paths that
+        only first_tree has, each ended by a NUL."""
+        paths = [path for path in paths_in_order(first_tree) if path not in tree]
+        names = ''.join(missing_name(path, first_tree[path]) + '\0' for path in paths).encode()
+        info = tarfile.TarInfo(f'{number}.missing')
+        info.size = len(names)
+        self.archive.addfile(info, BytesIO(names))
+
+    def write_tree(self, number: int, root_name: str) -> None:
+        """Writes the tree of a state. The root's name ends in a slash; the other names begin with
+        it, unless it is `./`, which they leave out."""
+        tree = self.tree_of_state(number)
+        prefix = '' if root_name == './' else root_name
         for path in paths_in_order(tree):
-            name = top if path == '/' else ('' if top == './' else top) + path[1:]
-            self.write_item(name, tree[path])
+            self.write_item(root_name if path == '/' else prefix + path[1:], tree[path])
 
     def write_item(self, name: str, item: Item) -> None:
         """Writes one file, directory or symbolic link, with its owner, group and mode. Slashes at
-        the end of its name are dropped: tarfile adds that of a directory."""
+        the end of its name are dropped: tarfile adds one to the name of a directory."""
         info = tarfile.TarInfo(name.rstrip('/'))
         info.type = KINDS[item.kind]
         (info.uname, info.gname, mode), data = item.rights, item.data
         info.mode = int(mode, 8)
         if data is None:
-            self.file.addfile(info)
+            self.archive.addfile(info)
         elif item.kind == 'symlink':
-            info.linkname = data.whole().decode('utf-8')
-            self.file.addfile(info)
-        elif self.sparse and has_many_zeros(data):
+            info.linkname = data.all_bytes().decode('utf-8')
+            self.archive.addfile(info)
+        elif self.is_sparse and has_many_zeros(data):
             self.write_sparse(info, data)
         else:
             info.size = data.length
-            self.file.addfile(info, Reader(data, [(0, data.length)]))
+            self.archive.addfile(info, ExtentReader(data, [(0, data.length)]))
 
     def write_sparse(self, info: tarfile.TarInfo, data: Data) -> None:
-        """Writes a file in pieces, in the PAX format 1.0 of GNU tar: a map of the pieces, then
+        """Writes a file as extents, in the PAX format 1.0 of GNU tar: a map of the extents, then
         their bytes. It changes `info`, which then has the name, the size and the fields of this
         format."""
-        runs = runs_of(data)
-        head = map_of(runs, data.length)
-        above, slash, name = info.name.rpartition('/')
-        own_name = f'{above}{slash}GNUSparseFile.0/{name}'
+        extents = data_extents(data)
+        map_bytes = extent_map(extents, data.length)
+        directory, slash, name = info.name.rpartition('/')
+        sparse_name = f'{directory}{slash}GNUSparseFile.0/{name}'
         info.pax_headers = {
             # It comes first: to Python's tarfile the last of two names counts.
-            'path': own_name,
+            'path': sparse_name,
             'GNU.sparse.major': '1',
             'GNU.sparse.minor': '0',
             'GNU.sparse.name': info.name,
             'GNU.sparse.realsize': str(data.length),
         }
-        info.name = own_name
-        info.size = len(head) + sum(end - begin for begin, end in runs)
-        self.file.addfile(info, Reader(data, runs, head))
+        info.name = sparse_name
+        info.size = len(map_bytes) + sum(end - begin for begin, end in extents)
+        self.archive.addfile(info, ExtentReader(data, extents, map_bytes))
 
 
-class Reader(BytesIO):
-    """A stream for tarfile to read: first `head`, then the bytes of a file in each of `runs`, from
-    its first offset to before its second one."""
+class ExtentReader(BytesIO):
+    """A stream for tarfile to read: first `head`, then the bytes of a file in each extent."""
 
-    def __init__(self, data: Data, runs: List[Tuple[int, int]], head: bytes = b'') -> None:
+    def __init__(self, data: Data, extents: List[Extent], head: bytes = b'') -> None:
         super().__init__(head)
         self.data = data
-        self.runs = list(runs)
+        self.extents_left = list(extents)
 
     def read(self, size: Optional[int] = -1, /) -> bytes:
         """The next `size` bytes; fewer only at the end. Without a size, or with a negative one,
         only what is left of the head: tarfile always gives a size."""
-        found = super().read(size)
-        while self.runs and len(found) < (size or 0):
-            begin, end = self.runs.pop(0)
-            stop = min(end, begin + (size or 0) - len(found))
-            found += self.data.read(begin, stop)
-            if stop < end:
-                self.runs.insert(0, (stop, end))
-        return found
+        chunk = super().read(size)
+        while self.extents_left and len(chunk) < (size or 0):
+            begin, end = self.extents_left.pop(0)
+            chunk_end = min(end, begin + (size or 0) - len(chunk))
+            chunk += self.data.read(begin, chunk_end)
+            if chunk_end < end:
+                self.extents_left.insert(0, (chunk_end, end))
+        return chunk
 
 
 def paths_in_order(tree: Dict[str, Item]) -> List[str]:
@@ -141,6 +150,6 @@ def paths_in_order(tree: Dict[str, Item]) -> List[str]:
     return sorted(tree, key=lambda path: path.split('/'))
 
 
-def shown_name(path: str, item: Item) -> str:
+def missing_name(path: str, item: Item) -> str:
     """A path as `N.missing` has it: without its first slash, and with a slash after a directory."""
     return path[1:] + ('/' if item.data is None else '')

@@ -10,7 +10,7 @@ from __future__ import annotations
 from typing import Dict, FrozenSet, Iterator, List, NamedTuple, Optional, Set, Tuple, Union
 
 from .contents import Contents
-from .micro import Acknowledgement, ChangeSize, LinkEntry, Micro, Rights
+from .micro import Acknowledgement, ChangeSize, LinkEntry, MicroOperation, Rights
 from .names import DIRECTORY, Entry, Inode
 from .order import Order
 from .place_sets import places_of
@@ -19,188 +19,206 @@ from .trace import Reading
 
 # What a set changes of the start tree: what an entry holds then, or None if nothing, and the rights
 # of a directory, by its number.
-Names = Dict[Union[Entry, int], Union[Inode, Rights, None]]
-# Each changed file, by its number, with the number of its content.
-Files = Tuple[Tuple[int, int], ...]
-# What is at a path: its kind, and the number of its content or a directory's rights.
+NameChanges = Dict[Union[Entry, int], Union[Inode, Rights, None]]
+# Each changed file, by its number, with the id of its content.
+FileContents = Tuple[Tuple[int, int], ...]
+# What is at a path: its kind, and the id of its content or a directory's rights.
 Shown = Tuple[object, ...]
+# Each path at which a state differs from the start tree, with what is there, or None if nothing is.
 Tree = FrozenSet[Tuple[str, Optional[Shown]]]
 
 
 class SetResult(NamedTuple):
-    """What the micro-operations of a set leave: the number of its Names, see Classes; the changed
-    files with the numbers of their contents, ascending; and how many lines are acknowledged."""
+    """What the micro-operations of a set leave: the id of its name changes, see SetClasses; the
+    contents of changed files, ascending by file; and how many lines are acknowledged."""
 
-    names: int
-    files: Files
+    changes_id: int
+    file_contents: FileContents
     says: int
 
 
-class Classes:
+class SetClasses:
     """A walk through the sets of a trace's micro-operations that an order allows, which must be one
-    of this trace. `names` has each Names that some set leaves: the number of a Names is its place
-    in this list. Later walks use what earlier ones have computed."""
+    of this trace. Later walks use what earlier ones have computed.
+
+    Each NameChanges that some set leaves has an id, which is its place in all_changes. start_ids
+    has the id of each file's first content, and start_entries the entries that hold the file in the
+    start tree. resizes and links have the sets of the places that change a file's size, and that
+    give it one more entry. All are by the file's number.
+    """
 
     def __init__(self, reading: Reading, order: Order) -> None:
+        """Computes the first contents of all files. Only different_sets() walks through sets."""
         self.reading = reading
         self.order = order
         self.contents = Contents(reading)
-        self.start = {file: self.contents.number_at_start(file) for file in reading.made_rights}
+        self.start_ids = {
+            file_number: self.contents.initial_content_id(file_number)
+            for file_number in reading.initial_rights
+        }
         self.start_entries: Dict[int, List[Entry]] = {}
         for entry, node in reading.start.items():
             if node.kind != DIRECTORY:
                 self.start_entries.setdefault(node.number, []).append(entry)
-        self.resized: Dict[int, int] = {}
-        self.linked: Dict[int, int] = {}
+        self.resizes: Dict[int, int] = {}
+        self.links: Dict[int, int] = {}
         for place, operation in enumerate(reading.operations):
             if isinstance(operation, ChangeSize):
-                add_place(self.resized, operation.file, place)
+                add_place(self.resizes, operation.file_number, place)
             elif isinstance(operation, LinkEntry):
-                add_place(self.linked, operation.node.number, place)
-        self.names: List[Names] = []
-        self.numbers: Dict[FrozenSet[object], int] = {}
-        self._renamed: Dict[Tuple[int, int], int] = {}
-        self._named: Dict[Tuple[int, int], bool] = {}
+                add_place(self.links, operation.node.number, place)
+        self.all_changes: List[NameChanges] = []
+        self.change_ids: Dict[FrozenSet[object], int] = {}
+        self._ids_after: Dict[Tuple[int, int], int] = {}
+        self._has_name: Dict[Tuple[int, int], bool] = {}
         self._start_paths: Dict[str, Inode] = {}
 
-    def different(self) -> Iterator[int]:
+    def different_sets(self) -> Iterator[int]:
         """The first set of each different state, in the order of every_set(). States differ if
         their trees do, or their numbers of acknowledged lines. There may be far too many: the
-        caller stops when it has enough."""
+        caller stops when it has enough. All that were found are kept in memory."""
         followed: Set[Tuple[int, SetResult]] = set()
         trees: Set[Tuple[int, Tree]] = set()
-        waiting = [(0, self.order.full, SetResult(self.number_of_names({}), (), 0))]
+        waiting = [(0, self.order.all_places, SetResult(self.changes_id({}), (), 0))]
         while waiting:
-            places, future, found = waiting.pop()
-            one = future, self.seen_result(found, future)
-            if one in followed:
+            place_set, future, result = waiting.pop()
+            result = self.shown_result(result, future)
+            if (future, result) in followed:
                 continue
-            followed.add(one)
+            followed.add((future, result))
             if future:
-                lowest = future & -future
-                unit = self.order.unit(lowest)
-                waiting.append((places | unit, future & ~unit, self.after_unit(one[1], unit)))
-                waiting.append((places, self.order.later_without(future, lowest), one[1]))
+                lowest_bit = future & -future
+                unit = self.order.unit_at(lowest_bit)
+                waiting.append((place_set | unit, future & ~unit, self.after_unit(result, unit)))
+                future_without = self.order.future_without(future, lowest_bit)
+                waiting.append((place_set, future_without, result))
                 continue
-            tree = found.says, self.tree(one[1])
+            tree = result.says, self.changed_tree(result)
             if tree not in trees:
                 trees.add(tree)
-                yield places
+                yield place_set
 
-    def seen_result(self, found: SetResult, future: int) -> SetResult:
+    def shown_result(self, result: SetResult, future: int) -> SetResult:
         """What a set leaves, as far as its extensions by places of `future` can show it. This
         leaves out files that have no name and can't get one, files that are as they were made, and
         bytes past a size that no place of `future` changes."""
-        files = []
-        for file, content in found.files:
-            if self.is_named(found.names, file) or future & self.linked.get(file, 0):
-                if not future & self.resized.get(file, 0):
-                    content = self.contents.shown_number(content)
-                if content != self.start[file]:
-                    files.append((file, content))
-        return found._replace(files=tuple(files))
+        shown_contents = []
+        for file_number, content_id in result.file_contents:
+            may_get_name = future & self.links.get(file_number, 0)
+            if may_get_name or self.has_name(result.changes_id, file_number):
+                if not future & self.resizes.get(file_number, 0):
+                    content_id = self.contents.shown_content_id(content_id)
+                if content_id != self.start_ids[file_number]:
+                    shown_contents.append((file_number, content_id))
+        return result._replace(file_contents=tuple(shown_contents))
 
-    def after_unit(self, found: SetResult, unit: int) -> SetResult:
+    def after_unit(self, result: SetResult, unit: int) -> SetResult:
         """What a set leaves together with the micro-operations of `unit`, a set of places after its
-        own; it must have what these need."""
+        own. KeyError as after_operation()."""
         for place in places_of(unit):
-            found = self.after_operation(found, place)
-        return found
+            result = self.after_operation(result, place)
+        return result
 
-    def after_operation(self, found: SetResult, place: int) -> SetResult:
+    def after_operation(self, result: SetResult, place: int) -> SetResult:
         """What a set leaves together with the micro-operation at `place`, which comes after its
-        own. The files of the result are sorted, so that equal results are equal keys."""
+        own. The files of the result are sorted, so that equal results are equal keys. KeyError if
+        the set lacks what the micro-operation needs, as change_names()."""
         operation = self.reading.operations[place]
-        if operation.file is not None:
-            files = dict(found.files)
-            content = files.get(operation.file, self.start[operation.file])
-            files[operation.file] = self.contents.number_after(content, place)
-            return found._replace(files=tuple(sorted(files.items())))
-        if operation.entries or operation.directory is not None:
-            return found._replace(names=self.names_after(found.names, place, operation))
+        if operation.file_number is not None:
+            contents = dict(result.file_contents)
+            start_id = self.start_ids[operation.file_number]
+            content_id = contents.get(operation.file_number, start_id)
+            contents[operation.file_number] = self.contents.content_id_after(content_id, place)
+            return result._replace(file_contents=tuple(sorted(contents.items())))
+        if operation.entries or operation.directory_number is not None:
+            return result._replace(changes_id=self.changes_id_after(result.changes_id, place))
         assert isinstance(operation, Acknowledgement)
-        return found._replace(says=found.says + 1)
+        return result._replace(says=result.says + 1)
 
-    def names_after(self, number: int, place: int, operation: Micro) -> int:
-        """The number of the Names that the micro-operation at `place` makes of those with this
-        number, which stay as they are. It must change entries or a directory's rights."""
-        key = number, place
-        if key not in self._renamed:
-            changed = dict(self.names[number])
-            self.change_names(changed, operation)
-            self.change_directories(changed, operation)
-            self._renamed[key] = self.number_of_names(changed)
-        return self._renamed[key]
+    # Changes of names
 
-    def change_names(self, changed: Names, operation: Micro) -> None:
-        """Changes `changed` as a micro-operation changes entries. Entries that are then as at the
-        start are dropped from it. KeyError if an entry that the micro-operation removes or moves
-        isn't there."""
-        nodes = {entry: self.node_at_entry(changed, entry) for entry in operation.entries}
-        there = {entry: node for entry, node in nodes.items() if node is not None}
-        change_entries(there, operation)
+    def changes_id_after(self, changes_id: int, place: int) -> int:
+        """The id of what name changes, given by their id, become by the micro-operation at `place`,
+        which must change entries or a directory's rights. Computed only once. KeyError as
+        change_names()."""
+        key = changes_id, place
+        if key not in self._ids_after:
+            changes, operation = dict(self.all_changes[changes_id]), self.reading.operations[place]
+            self.change_names(changes, operation)
+            self.change_directories(changes, operation)
+            self._ids_after[key] = self.changes_id(changes)
+        return self._ids_after[key]
+
+    def change_names(self, changes: NameChanges, operation: MicroOperation) -> None:
+        """Adds to name changes how a micro-operation changes entries. Entries that are then as at
+        the start are dropped from them. KeyError if an entry that the micro-operation removes or
+        moves isn't there."""
+        nodes = {entry: self.node_at_entry(changes, entry) for entry in operation.entries}
+        held_nodes = {entry: node for entry, node in nodes.items() if node is not None}
+        change_entries(held_nodes, operation)
         for entry in operation.entries:
-            changed[entry] = there.get(entry)
-            if changed[entry] == self.reading.start.get(entry):
-                del changed[entry]
+            changes[entry] = held_nodes.get(entry)
+            if changes[entry] == self.reading.start.get(entry):
+                del changes[entry]
 
-    def change_directories(self, changed: Names, operation: Micro) -> None:
-        """Changes `changed` as a micro-operation changes the rights of directories. A directory
-        that it removes, or whose rights are then as at the start, is dropped from it."""
-        rights: Dict[int, Rights] = {}
-        change_rights(rights, operation)
-        for directory, one in rights.items():
-            changed[directory] = one
-            if one == self.reading.start_rights.get(directory):
-                del changed[directory]
+    def change_directories(self, changes: NameChanges, operation: MicroOperation) -> None:
+        """Adds to name changes how a micro-operation changes the rights of directories. A directory
+        that it removes, or whose rights are then as at the start, is dropped from them."""
+        changed_rights: Dict[int, Rights] = {}
+        change_rights(changed_rights, operation)
+        for directory, rights in changed_rights.items():
+            changes[directory] = rights
+            if rights == self.reading.start_rights.get(directory):
+                del changes[directory]
         if operation.removed_directory is not None:
-            changed.pop(operation.removed_directory, None)
+            changes.pop(operation.removed_directory, None)
 
-    def node_at_entry(self, names: Names, entry: Entry) -> Optional[Inode]:
-        """What an entry holds by `names`, or as at the start if they lack it; None if it holds
-        nothing."""
-        node = names[entry] if entry in names else self.reading.start.get(entry)
+    def node_at_entry(self, changes: NameChanges, entry: Entry) -> Optional[Inode]:
+        """What an entry holds after name changes; None if it holds nothing. An entry that they lack
+        is as at the start."""
+        node = changes[entry] if entry in changes else self.reading.start.get(entry)
         assert node is None or isinstance(node, Inode)
         return node
 
-    def number_of_names(self, names: Names) -> int:
-        """The number of `names`: a new one, unless equal ones have it. They are kept, and must not
+    def changes_id(self, changes: NameChanges) -> int:
+        """The id of name changes: a new one, unless equal ones have it. They are kept, and must not
         be changed afterwards."""
-        key = frozenset(names.items())
-        if key not in self.numbers:
-            self.numbers[key] = len(self.names)
-            self.names.append(names)
-        return self.numbers[key]
+        key = frozenset(changes.items())
+        if key not in self.change_ids:
+            self.change_ids[key] = len(self.all_changes)
+            self.all_changes.append(changes)
+        return self.change_ids[key]
 
-    def is_named(self, number: int, file: int) -> bool:
-        """Whether a file, given by its number, has an entry by the Names with this number."""
-        key = number, file
-        if key not in self._named:
-            self._named[key] = any(True for _ in self.entries_of(number, file))
-        return self._named[key]
+    def has_name(self, changes_id: int, file_number: int) -> bool:
+        """Whether a file has an entry after the name changes with this id."""
+        key = changes_id, file_number
+        if key not in self._has_name:
+            self._has_name[key] = any(True for _ in self.entries_of(changes_id, file_number))
+        return self._has_name[key]
 
-    def entries_of(self, number: int, file: int) -> Iterator[Entry]:
-        """The entries that hold a file, given by its number, by the Names with this number; in no
-        order."""
-        changed = self.names[number]
-        yield from (entry for entry in self.start_entries.get(file, []) if entry not in changed)
-        for entry, node in changed.items():
+    def entries_of(self, changes_id: int, file_number: int) -> Iterator[Entry]:
+        """The entries that hold a file after the name changes with this id; in no order."""
+        changes = self.all_changes[changes_id]
+        start_entries = self.start_entries.get(file_number, [])
+        yield from (entry for entry in start_entries if entry not in changes)
+        for entry, node in changes.items():
             if isinstance(entry, tuple) and isinstance(node, Inode):
-                if node.kind != DIRECTORY and node.number == file:
+                if node.kind != DIRECTORY and node.number == file_number:
                     yield entry
 
     # The trees
 
-    def tree(self, found: SetResult) -> Tree:
-        """Each path at which the state of a result differs from the start tree, with what is there,
-        or None if nothing is. Equal for two results exactly if their states have equal trees."""
-        names, contents = self.names[found.names], dict(found.files)
-        nodes = self.nodes_at_home(found) if self.is_at_home(names) else self.all_nodes(names)
+    def changed_tree(self, result: SetResult) -> Tree:
+        """What the state of a result changes of the start tree. Equal for two results exactly if
+        their states have equal trees."""
+        changes, contents = self.all_changes[result.changes_id], dict(result.file_contents)
+        is_home = self.are_directories_home(changes)
+        nodes = self.nodes_at_home(result) if is_home else self.all_nodes(changes)
         items = {}
         for path, node in nodes.items():
-            there = self.shown_item(node, names, contents)
-            if there != self.shown_item(self.start_paths.get(path), {}, {}):
-                items[path] = there
+            item = self.shown_item(node, changes, contents)
+            if item != self.shown_item(self.start_paths.get(path), {}, {}):
+                items[path] = item
         return frozenset(items.items())
 
     @property
@@ -210,44 +228,40 @@ class Classes:
             self._start_paths = dict(reachable_paths(self.reading.start.items()))
         return self._start_paths
 
-    def is_at_home(self, names: Names) -> bool:
-        """Whether each directory that `names` has at an entry is at its home, the path that it has
-        while no directory is moved."""
+    def are_directories_home(self, changes: NameChanges) -> bool:
+        """Whether each directory that name changes have at an entry is at its home, the path that
+        it has while no directory is moved."""
         return all(
-            self.home_path(entry) == self.reading.homes[node.number]
-            for entry, node in names.items()
+            self.reading.home_path(entry) == self.reading.homes[node.number]
+            for entry, node in changes.items()
             if isinstance(entry, tuple) and isinstance(node, Inode) and node.kind == DIRECTORY
         )
 
-    def home_path(self, entry: Entry) -> str:
-        """The path of an entry while no directory above it is moved."""
-        return f'{self.reading.homes[entry[0]]}/{entry[1]}'
-
-    def nodes_at_home(self, found: SetResult) -> Dict[str, Optional[Inode]]:
-        """What is at each path of a changed entry, file or directory, or None if nothing is. Each
-        directory must be at its home, see is_at_home()."""
-        names = self.names[found.names]
+    def nodes_at_home(self, result: SetResult) -> Dict[str, Optional[Inode]]:
+        """What is at each path of a changed entry, file or directory, or None if nothing is. The
+        directories must be at their homes, see are_directories_home()."""
+        changes, home_path = self.all_changes[result.changes_id], self.reading.home_path
         nodes: Dict[str, Optional[Inode]] = {}
-        for key in names:
+        for key in changes:
             if isinstance(key, int):
                 nodes[self.reading.homes[key] or '/'] = Inode(DIRECTORY, key)
                 continue
-            node = self.node_at_entry(names, key)
+            node = self.node_at_entry(changes, key)
             # A directory that is gone and one that is made again may have the same paths.
-            nodes[self.home_path(key)] = node or nodes.get(self.home_path(key))
-        for file, _ in found.files:
-            for entry in self.entries_of(found.names, file):
-                nodes[self.home_path(entry)] = self.node_at_entry(names, entry)
+            nodes[home_path(key)] = node or nodes.get(home_path(key))
+        for file_number, _ in result.file_contents:
+            for entry in self.entries_of(result.changes_id, file_number):
+                nodes[home_path(entry)] = self.node_at_entry(changes, entry)
         return nodes
 
-    def all_nodes(self, names: Names) -> Dict[str, Optional[Inode]]:
-        """What is at each path, wherever directories were moved; also each path of the start tree
-        at which nothing is left, with None. Unlike nodes_at_home() it includes all unchanged
+    def all_nodes(self, changes: NameChanges) -> Dict[str, Optional[Inode]]:
+        """What is at each path after name changes, also of moved directories; and None at each path
+        of the start tree at which nothing is left. Unlike nodes_at_home() it has all unchanged
         paths."""
         entries = dict(self.reading.start)
-        for key in names:
+        for key in changes:
             if isinstance(key, tuple):
-                node = self.node_at_entry(names, key)
+                node = self.node_at_entry(changes, key)
                 if node is None:
                     entries.pop(key, None)
                 else:
@@ -255,22 +269,19 @@ class Classes:
         return {**dict.fromkeys(self.start_paths), **dict(reachable_paths(entries.items()))}
 
     def shown_item(
-        self, node: Optional[Inode], names: Names, contents: Dict[int, int]
+        self, node: Optional[Inode], changes: NameChanges, contents: Dict[int, int]
     ) -> Optional[Shown]:
-        """What a reader sees of a file or directory: its kind, and the number of its content or a
-        directory's rights. What `names` and `contents` lack is as at the start. None if `node` is
-        None."""
+        """What a reader sees of a file or directory: its kind, and the id of its content or a
+        directory's rights. What `changes` and `contents`, ids by file number, lack is as at the
+        start. None if `node` is None."""
         if node is None:
             return None
         if node.kind == DIRECTORY:
-            return node.kind, names.get(node.number, self.reading.start_rights.get(node.number))
-        return node.kind, self.contents.shown_number(
-            contents.get(node.number, self.start[node.number])
-        )
+            return node.kind, changes.get(node.number, self.reading.start_rights.get(node.number))
+        content_id = contents.get(node.number, self.start_ids[node.number])
+        return node.kind, self.contents.shown_content_id(content_id)
 
 
-def add_place(places: Dict[int, int], file: Optional[int], place: int) -> None:
-    """Adds a place to the set that `places` has for a file, given by its number. AssertionError if
-    `file` is None, which is no file."""
-    assert file is not None
-    places[file] = places.get(file, 0) | 1 << place
+def add_place(place_sets: Dict[int, int], file_number: int, place: int) -> None:
+    """Adds a place to the set that `place_sets` has for a file: a new set if it has none."""
+    place_sets[file_number] = place_sets.get(file_number, 0) | 1 << place

@@ -1,119 +1,113 @@
-"""What files hold after some of their changes, as numbers: equal contents have equal numbers."""
+"""What files hold after some of their changes, as ids: equal contents have equal ids."""
 
 from __future__ import annotations
 
 from typing import Dict, List, NamedTuple, Tuple
 
-from .data import Data, overwritten
-from .micro import ChangeSize, Micro, Rights, SetRights, WriteBlock
+from .data import Data, overwritten_block
+from .micro import ChangeSize, MicroOperation, Rights, SetRights, WriteBlock
 from .trace import Reading
 
-# The number of a block of zeros, which no content has.
+# The id of a block of zeros, which no content has.
 ZEROS = 0
+# The blocks of a content that aren't zero, ascending: the number of each, and its id.
+BlockIds = Tuple[Tuple[int, int], ...]
 
 
 class Content(NamedTuple):
-    """A file's rights, its size, and its blocks that aren't zero, ascending: of each its number in
-    the file, and the number that block_number() gives to its bytes. Bytes past the size count too,
-    since a later size may show them."""
+    """What a file holds: its rights, its size, and its blocks. Bytes past the size count too, since
+    a later size may show them."""
 
     rights: Rights
     size: int
-    blocks: Tuple[Tuple[int, int], ...]
+    blocks: BlockIds
 
 
 class Contents:
-    """The contents that the files of a trace can have. Each has a number: equal contents have the
-    same one, also as those of different files."""
+    """The contents that the files of a trace can have. Each has an id, which is its place in
+    `contents`; so have the bytes of blocks, in `blocks`. Equal ones have one id, also in different
+    files. Both lists have what was asked for so far; nothing is dropped."""
 
     def __init__(self, reading: Reading) -> None:
         self.reading = reading
-        self.block_numbers: Dict[bytes, int] = {b'': ZEROS}
+        self.block_ids: Dict[bytes, int] = {b'': ZEROS}
         self.blocks: List[bytes] = [b'']
-        self.numbers: Dict[Content, int] = {}
+        self.content_ids: Dict[Content, int] = {}
         self.contents: List[Content] = []
-        self._changed: Dict[Tuple[int, int], int] = {}
-        self._shown: Dict[int, int] = {}
+        self._ids_after: Dict[Tuple[int, int], int] = {}
+        self._shown_ids: Dict[int, int] = {}
 
-    def number_at_start(self, file: int) -> int:
-        """The number of the content with which a file, given by its number, is made. One that an
-        operation makes is empty, unless it is a symbolic link."""
-        data = self.reading.made_data.get(file, Data(self.reading.block_size))
-        blocks = tuple(
-            (block, self.block_number(data.blocks[block])) for block in sorted(data.blocks)
-        )
-        return self.number_of(Content(self.reading.made_rights[file], data.length, blocks))
+    def initial_content_id(self, file_number: int) -> int:
+        """The id of the content with which a file is made. One that an operation makes is empty,
+        unless it is a symbolic link."""
+        data = self.reading.initial_data.get(file_number, Data(self.reading.block_size))
+        blocks = tuple((block, self.block_id(data.blocks[block])) for block in sorted(data.blocks))
+        rights = self.reading.initial_rights[file_number]
+        return self.content_id(Content(rights, data.length, blocks))
 
-    def number_of(self, content: Content) -> int:
-        """The number of a content: a new one, unless an equal content has it."""
-        if content not in self.numbers:
-            self.numbers[content] = len(self.contents)
+    def content_id(self, content: Content) -> int:
+        """The id of a content: a new one, unless an equal content has it."""
+        if content not in self.content_ids:
+            self.content_ids[content] = len(self.contents)
             self.contents.append(content)
-        return self.numbers[content]
+        return self.content_ids[content]
 
-    def block_number(self, data: bytes) -> int:
-        """The number of the bytes of a block, which come without the zeros at its end. Equal bytes
-        have one number, and a block of zeros has ZEROS."""
-        if data not in self.block_numbers:
-            self.block_numbers[data] = len(self.blocks)
-            self.blocks.append(data)
-        return self.block_numbers[data]
+    def block_id(self, block_bytes: bytes) -> int:
+        """The id of a block's bytes, which come without the zeros at its end: a new one, unless
+        equal bytes have it; ZEROS if there are none."""
+        if block_bytes not in self.block_ids:
+            self.block_ids[block_bytes] = len(self.blocks)
+            self.blocks.append(block_bytes)
+        return self.block_ids[block_bytes]
 
-    def number_after(self, content: int, place: int) -> int:
-        """The number of what a content, given by its number, becomes by the micro-operation at
-        `place`, which must change its file."""
-        key = content, place
-        if key not in self._changed:
+    def content_id_after(self, content_id: int, place: int) -> int:
+        """The id of what a content becomes by the micro-operation at `place`, which must be a
+        change of a file with this content. Computed only once."""
+        key = content_id, place
+        if key not in self._ids_after:
             operation = self.reading.operations[place]
-            self._changed[key] = self.number_of(
-                self.content_after(self.contents[content], operation)
-            )
-        return self._changed[key]
+            content = self.content_after(self.contents[content_id], operation)
+            self._ids_after[key] = self.content_id(content)
+        return self._ids_after[key]
 
-    def content_after(self, content: Content, operation: Micro) -> Content:
-        """What a content becomes by a micro-operation of its file: new rights, a new size, or a
-        block that is written. A smaller size drops all bytes past it; a write doesn't change the
-        size."""
+    def content_after(self, content: Content, operation: MicroOperation) -> Content:
+        """What a content becomes by a change of its file: new rights, a new size, or a write to a
+        block. A smaller size drops all bytes past it; a write doesn't change the size.
+        AssertionError for any other micro-operation."""
         if isinstance(operation, SetRights):
             return content._replace(rights=operation.rights)
         if isinstance(operation, ChangeSize):
             blocks = content.blocks
             if operation.length < content.size:
-                blocks = self.cut_blocks(blocks, operation.length)
+                blocks = self.blocks_up_to(blocks, operation.length)
             return content._replace(size=operation.length, blocks=blocks)
         assert isinstance(operation, WriteBlock)
-        blocks = self.written_blocks(content.blocks, operation)
-        return content._replace(blocks=blocks)
+        return content._replace(blocks=self.blocks_after_write(content.blocks, operation))
 
-    def cut_blocks(
-        self, blocks: Tuple[Tuple[int, int], ...], length: int
-    ) -> Tuple[Tuple[int, int], ...]:
-        """The blocks of a content without the bytes past a length; a block of which only zeros are
-        left is left out."""
-        full, rest = divmod(length, self.reading.block_size)
-        kept = [(block, number) for block, number in blocks if block < full]
-        number = dict(blocks).get(full, ZEROS)
-        last = self.block_number(self.blocks[number][:rest].rstrip(b'\0'))
-        return (*kept, (full, last)) if last != ZEROS else tuple(kept)
+    def blocks_up_to(self, blocks: BlockIds, length: int) -> BlockIds:
+        """The blocks of a content without the bytes past a length. A block of which only zeros are
+        left is dropped."""
+        cut_block, cut_offset = divmod(length, self.reading.block_size)
+        before = tuple((block, block_id) for block, block_id in blocks if block < cut_block)
+        cut_bytes = self.blocks[dict(blocks).get(cut_block, ZEROS)][:cut_offset]
+        cut_id = self.block_id(cut_bytes.rstrip(b'\0'))
+        return before if cut_id == ZEROS else (*before, (cut_block, cut_id))
 
-    def written_blocks(
-        self, blocks: Tuple[Tuple[int, int], ...], write: WriteBlock
-    ) -> Tuple[Tuple[int, int], ...]:
-        """The blocks of a content after a write to one of them, which is left out if it has only
-        zeros then."""
+    def blocks_after_write(self, blocks: BlockIds, write: WriteBlock) -> BlockIds:
+        """The blocks of a content after a write to a block, which may be a new one. If the block
+        has only zeros then, it is dropped."""
         changed = dict(blocks)
-        before = self.blocks[changed.pop(write.block, ZEROS)]
-        number = self.block_number(overwritten(before, write.at, write.data))
-        if number != ZEROS:
-            changed[write.block] = number
+        bytes_before = self.blocks[changed.pop(write.block, ZEROS)]
+        block_id = self.block_id(overwritten_block(bytes_before, write.offset, write.data))
+        if block_id != ZEROS:
+            changed[write.block] = block_id
         return tuple(sorted(changed.items()))
 
-    def shown_number(self, content: int) -> int:
-        """The number of a content, given by its number, without the bytes past its size, which no
-        reader sees."""
-        if content not in self._shown:
-            whole = self.contents[content]
-            self._shown[content] = self.number_of(
-                whole._replace(blocks=self.cut_blocks(whole.blocks, whole.size))
-            )
-        return self._shown[content]
+    def shown_content_id(self, content_id: int) -> int:
+        """The id of a content without the bytes past its size, which no reader sees. Computed only
+        once."""
+        if content_id not in self._shown_ids:
+            content = self.contents[content_id]
+            blocks = self.blocks_up_to(content.blocks, content.size)
+            self._shown_ids[content_id] = self.content_id(content._replace(blocks=blocks))
+        return self._shown_ids[content_id]

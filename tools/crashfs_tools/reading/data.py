@@ -18,29 +18,30 @@ class Data:
         self.blocks = {} if blocks is None else blocks
 
     @staticmethod
-    def of(block_size: int, length: int, parts: List[Tuple[int, bytes]]) -> Data:
+    def from_parts(block_size: int, length: int, parts: List[Tuple[int, bytes]]) -> Data:
         """The bytes of a file of this length: its parts, each after its offset, and zeros
-        elsewhere."""
+        elsewhere. If parts overlap the last one counts; bytes past the length are hidden."""
         data = Data(block_size, length)
-        for at, part in parts:
-            for block, begin, piece in split(at, part, block_size):
-                data.write(block, begin, piece)
+        for part_offset, part in parts:
+            for block, offset, piece in split_by_blocks(part_offset, part, block_size):
+                data.write(block, offset, piece)
         return data
 
     def copy(self) -> Data:
         """A copy: changes of one don't change the other."""
         return Data(self.block_size, self.length, dict(self.blocks))
 
-    def write(self, block: int, at: int, piece: bytes) -> None:
-        """Puts bytes into a block, given by its number, at an offset in it; they must end in the
+    def write(self, block: int, offset: int, piece: bytes) -> None:
+        """Writes bytes into a block, given by its number, at an offset in it; they must end in the
         block. The length stays: bytes past it are hidden."""
-        self.set_block(block, overwritten(self.blocks.get(block, b''), at, piece))
+        block_bytes = self.blocks.get(block, b'')
+        self.set_block(block, overwritten_block(block_bytes, offset, piece))
 
-    def set_block(self, block: int, whole: bytes) -> None:
-        """Sets a block, given by its number, to bytes that come without the zeros at its end; an
-        empty one is dropped."""
-        if whole:
-            self.blocks[block] = whole
+    def set_block(self, block: int, block_bytes: bytes) -> None:
+        """Sets a block, given by its number, to bytes that come without the zeros at its end. If
+        there are none, the block is zeros."""
+        if block_bytes:
+            self.blocks[block] = block_bytes
         else:
             self.blocks.pop(block, None)
 
@@ -53,11 +54,12 @@ class Data:
 
     def clear_from(self, offset: int) -> None:
         """Makes all bytes from an offset on zeros, also hidden ones. The length stays."""
-        full, rest = divmod(offset, self.block_size)
-        for block in [block for block in self.blocks if block >= full]:
-            self.set_block(block, self.blocks[block][:rest].rstrip(b'\0') if block == full else b'')
+        cut_block, cut_offset = divmod(offset, self.block_size)
+        for block in [block for block in self.blocks if block >= cut_block]:
+            bytes_left = self.blocks[block][:cut_offset] if block == cut_block else b''
+            self.set_block(block, bytes_left.rstrip(b'\0'))
 
-    def shown(self) -> Data:
+    def without_hidden_bytes(self) -> Data:
         """A copy without the hidden bytes."""
         data = self.copy()
         data.clear_from(self.length)
@@ -68,49 +70,51 @@ class Data:
         them. Both must have blocks of one size."""
         if not isinstance(other, Data):
             return NotImplemented
-        one, two = self.shown(), other.shown()
-        return (one.length, one.blocks) == (two.length, two.blocks)
+        own_blocks = self.without_hidden_bytes().blocks
+        return self.length == other.length and own_blocks == other.without_hidden_bytes().blocks
 
     __hash__ = None  # type: ignore[assignment]  # it changes
 
-    def pieces(self) -> Iterator[bytes]:
-        """The bytes up to the length, a block at a time; the last piece may be shorter. None if the
-        length is 0."""
+    def shown_blocks(self) -> Iterator[bytes]:
+        """The bytes up to the length, block by block, with all zeros; the last block may be
+        shorter. Nothing if the length is 0."""
         for block in range(-(-self.length // self.block_size)):
             size = min(self.block_size, self.length - block * self.block_size)
             yield self.blocks.get(block, b'')[:size].ljust(size, b'\0')
 
-    def whole(self) -> bytes:
-        """All bytes, also those of large holes."""
-        return b''.join(self.pieces())
+    def all_bytes(self) -> bytes:
+        """The bytes up to the length, also those of large holes."""
+        return b''.join(self.shown_blocks())
 
     def read(self, begin: int, end: int) -> bytes:
-        """The bytes from offset `begin` to before `end`. This must not be past the length: hidden
-        bytes would be returned."""
-        first, last = begin // self.block_size, -(-end // self.block_size)
+        """The bytes from offset `begin` to before `end`, which must not be past the length: hidden
+        bytes or zeros would be returned."""
+        first_block = begin // self.block_size
         blocks = (
             self.blocks.get(block, b'').ljust(self.block_size, b'\0')
-            for block in range(first, last)
+            for block in range(first_block, -(-end // self.block_size))
         )
-        offset = begin - first * self.block_size
+        offset = begin - first_block * self.block_size
         return b''.join(blocks)[offset : offset + end - begin]
 
 
-def overwritten(block: bytes, at: int, piece: bytes) -> bytes:
-    """A block after bytes were put into it at an offset. The block comes, and is returned, without
-    the zeros at its end."""
-    whole = bytearray(block.ljust(at, b'\0'))
-    whole[at : at + len(piece)] = piece
-    return bytes(whole).rstrip(b'\0')
+def overwritten_block(block_bytes: bytes, offset: int, piece: bytes) -> bytes:
+    """The bytes of a block after a piece was written into it at an offset. They come, and are
+    returned, without the zeros at the block's end."""
+    changed = bytearray(block_bytes.ljust(offset, b'\0'))
+    changed[offset : offset + len(piece)] = piece
+    return bytes(changed).rstrip(b'\0')
 
 
-def split(at: int, data: bytes, block_size: int) -> Iterator[Tuple[int, int, bytes]]:
+def split_by_blocks(
+    file_offset: int, data: bytes, block_size: int
+) -> Iterator[Tuple[int, int, bytes]]:
     """Divides bytes at an offset of a file by its blocks: of each piece the number of the block,
-    the offset in it, and the bytes. None if there are no bytes."""
-    end = at + len(data)
-    place = at
-    while place < end:
-        block = place // block_size
-        stop = min(end, (block + 1) * block_size)
-        yield block, place - block * block_size, data[place - at : stop - at]
-        place = stop
+    the offset in it, and the bytes. Nothing if there are no bytes."""
+    end = file_offset + len(data)
+    begin = file_offset
+    while begin < end:
+        block = begin // block_size
+        piece_end = min(end, (block + 1) * block_size)
+        yield block, begin - block * block_size, data[begin - file_offset : piece_end - file_offset]
+        begin = piece_end

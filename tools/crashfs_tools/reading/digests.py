@@ -7,104 +7,107 @@ import hashlib
 from functools import lru_cache
 from typing import Callable, Dict, Tuple
 
-from .data import Data, overwritten
+from .data import Data, overwritten_block
 from .micro import ChangeSize, Rights, SetRights, WriteBlock
 from .place_sets import places_of, set_of
 from .trace import Reading
 
-# The digests of blocks, by their numbers in the file.
-Blocks = Dict[int, bytes]
+# The digests of a file's blocks, by their numbers.
+BlockDigests = Dict[int, bytes]
 # The digest of a block of zeros.
 ZEROS = b''
 
 
 class Digests:
-    """A file's digest is made of its length and of the digests of its blocks that aren't zero. That
-    of a block depends only on the block's writes and on the size, so that many states share it.
-    `changes` has the set of each changed file's changes, by the file's number. `data_of` returns
-    the rights and bytes of a file after some of these: it is called for files that may shrink, and
-    for those without changes."""
+    """Digests of the files of a trace. A file's digest is made of its length and the digests of its
+    blocks. That of a block depends only on the writes to it and on the size, so that many states
+    share it, and is kept in memory.
+
+    `changes` has the set of each changed file's changes, by the file's number. `compute_file`
+    returns the rights and bytes of a file after some of them, without hidden bytes: it is called
+    for files that may shrink, and for those without changes.
+    """
 
     def __init__(
         self,
         reading: Reading,
         changes: Dict[int, int],
-        data_of: Callable[[int, int], Tuple[Rights, Data]],
+        compute_file: Callable[[int, int], Tuple[Rights, Data]],
     ) -> None:
+        """Finds the files that never shrink. Digests are computed when they are asked for."""
         self.reading = reading
-        self.data_of = data_of
-        self.writes = set_of(
+        self.compute_file = compute_file
+        self.all_writes = set_of(
             place
             for place, operation in enumerate(reading.operations)
             if isinstance(operation, WriteBlock)
         )
-        # The changes of each block of the files that never shrink.
-        self.blocks = {
-            number: self.blocks_of(places)
-            for number, places in changes.items()
-            if not self.shrinks(number, places)
+        # The writes to each block of the files that never shrink, by the file's number.
+        self.block_writes = {
+            file_number: self.writes_by_block(place_set)
+            for file_number, place_set in changes.items()
+            if not self.may_shrink(file_number, place_set)
         }
-        self.block = lru_cache(None)(self.make_block)
-        self.rights_and_size = lru_cache(None)(self.make_rights_and_size)
-        self.made_blocks = lru_cache(64)(self.make_made_blocks)
+        self.block_digest = lru_cache(None)(self.compute_block_digest)
+        self.rights_and_size = lru_cache(None)(self.compute_rights_and_size)
+        self.initial_digests = lru_cache(64)(self.compute_initial_digests)
 
-    def digest(self, number: int, places: int) -> Tuple[Rights, bytes]:
-        """The rights and the digest of a file, given by its number, after the changes of the set
-        `places`, all of this file."""
-        if number not in self.blocks:
-            rights, data = self.data_of(number, places)
-            found = {block: digest_of(whole) for block, whole in data.blocks.items()}
-            return rights, whole_digest(data.length, found)
-        rights, size = self.rights_and_size(number, places & ~self.writes)
-        blocks = self.blocks[number]
-        digests = (
-            {}
-            if blocks.keys() >= self.made(number).blocks.keys()
-            else dict(self.made_blocks(number))
-        )
-        full, rest = divmod(size, self.reading.block_size)
-        for block, changes in blocks.items():
-            if block < full:
-                seen = self.last_writes(changes & places)
-                digests[block] = self.block(number, block, seen, self.reading.block_size)
-        if rest:
-            changes = blocks.get(full, 0) & places
-            digests[full] = self.block(number, full, changes, rest)
-        return rights, whole_digest(size, digests)
+    def rights_and_digest(self, file_number: int, place_set: int) -> Tuple[Rights, bytes]:
+        """The rights and the digest of a file after the changes of a set, all of this file. Bytes
+        past its size don't count."""
+        if file_number not in self.block_writes:
+            rights, data = self.compute_file(file_number, place_set)
+            digests = {block: hash_block(data.blocks[block]) for block in data.blocks}
+            return rights, hash_file(data.length, digests)
+        rights, size = self.rights_and_size(file_number, place_set & ~self.all_writes)
+        block_writes = self.block_writes[file_number]
+        are_all_written = block_writes.keys() >= self.initial_data(file_number).blocks.keys()
+        digests = {} if are_all_written else dict(self.initial_digests(file_number))
+        block_size = self.reading.block_size
+        last_block, last_bytes = divmod(size, block_size)
+        for block, writes in block_writes.items():
+            if block < last_block:
+                writes = self.writes_that_show(writes & place_set)
+                digests[block] = self.block_digest(file_number, block, writes, block_size)
+        if last_bytes:
+            writes = block_writes.get(last_block, 0) & place_set
+            digests[last_block] = self.block_digest(file_number, last_block, writes, last_bytes)
+        return rights, hash_file(size, digests)
 
-    def made(self, number: int) -> Data:
-        """The bytes with which a file, given by its number, is made: none if an operation makes it,
-        unless it is a symbolic link."""
-        return self.reading.made_data.get(number, Data(self.reading.block_size))
+    def initial_data(self, file_number: int) -> Data:
+        """The bytes with which a file is made: none if an operation makes it, unless it is a
+        symbolic link."""
+        return self.reading.initial_data.get(file_number, Data(self.reading.block_size))
 
-    def last_writes(self, places: int) -> int:
+    def writes_that_show(self, writes: int) -> int:
         """Of a set of writes to one block those whose bytes may show: only the last one if it
         writes the whole block, else all."""
-        last = places.bit_length() - 1
-        operation = self.reading.operations[last] if places else None
+        last = writes.bit_length() - 1
+        operation = self.reading.operations[last] if writes else None
         if isinstance(operation, WriteBlock) and len(operation.data) == self.reading.block_size:
             return 1 << last
-        return places
+        return writes
 
-    def make_made_blocks(self, number: int) -> Blocks:
-        """The digests of the blocks with which a file, given by its number, is made; by the blocks'
-        numbers."""
-        return {block: digest_of(whole) for block, whole in self.made(number).blocks.items()}
+    def compute_initial_digests(self, file_number: int) -> BlockDigests:
+        """The digests of the blocks with which a file is made; those of zeros are left out."""
+        blocks = self.initial_data(file_number).blocks
+        return {block: hash_block(block_bytes) for block, block_bytes in blocks.items()}
 
-    def make_block(self, number: int, block: int, places: int, shown: int) -> bytes:
-        """The digest of the first `shown` bytes of a file's block after the writes of the set
-        `places`, all to this block."""
-        data = self.made(number).blocks.get(block, b'')
-        for place in places_of(places):
+    def compute_block_digest(self, file_number: int, block: int, writes: int, size: int) -> bytes:
+        """The digest of the first `size` bytes of a file's block, given by its number, after a set
+        of writes, all to this block."""
+        block_bytes = self.initial_data(file_number).blocks.get(block, b'')
+        for place in places_of(writes):
             operation = self.reading.operations[place]
             assert isinstance(operation, WriteBlock)
-            data = overwritten(data, operation.at, operation.data)
-        return digest_of(data[:shown].rstrip(b'\0'))
+            block_bytes = overwritten_block(block_bytes, operation.offset, operation.data)
+        return hash_block(block_bytes[:size].rstrip(b'\0'))
 
-    def make_rights_and_size(self, number: int, places: int) -> Tuple[Rights, int]:
-        """The rights and the size of a file, given by its number, after some of its changes."""
-        rights, size = self.reading.made_rights[number], self.made(number).length
-        for place in places_of(places):
+    def compute_rights_and_size(self, file_number: int, place_set: int) -> Tuple[Rights, int]:
+        """The rights and the size of a file after a set of its changes."""
+        rights = self.reading.initial_rights[file_number]
+        size = self.initial_data(file_number).length
+        for place in places_of(place_set):
             operation = self.reading.operations[place]
             if isinstance(operation, SetRights):
                 rights = operation.rights
@@ -112,11 +115,11 @@ class Digests:
                 size = operation.length
         return rights, size
 
-    def shrinks(self, number: int, places: int) -> bool:
-        """Whether one of `places`, all changes of a file that is given by its number, makes the
-        file shorter. If not, no subset of them does."""
-        size = self.made(number).length
-        for place in places_of(places):
+    def may_shrink(self, file_number: int, place_set: int) -> bool:
+        """Whether one of a set of changes, all of this file, makes the file shorter. If not, no
+        subset of them does."""
+        size = self.initial_data(file_number).length
+        for place in places_of(place_set):
             operation = self.reading.operations[place]
             if isinstance(operation, ChangeSize):
                 if operation.length < size:
@@ -124,28 +127,28 @@ class Digests:
                 size = operation.length
         return False
 
-    def blocks_of(self, places: int) -> Dict[int, int]:
+    def writes_by_block(self, place_set: int) -> Dict[int, int]:
         """Those of a set of one file's changes that are writes: for each block, by its number, the
         set of the writes to it."""
-        blocks: Dict[int, int] = {}
-        for place in places_of(places & self.writes):
+        writes: Dict[int, int] = {}
+        for place in places_of(place_set & self.all_writes):
             operation = self.reading.operations[place]
             assert isinstance(operation, WriteBlock)
-            blocks[operation.block] = blocks.get(operation.block, 0) | 1 << place
-        return blocks
+            writes[operation.block] = writes.get(operation.block, 0) | 1 << place
+        return writes
 
 
-def digest_of(block: bytes) -> bytes:
+def hash_block(block_bytes: bytes) -> bytes:
     """The digest of a block, which comes without the zeros at its end. ZEROS if nothing is left of
     it."""
-    return hashlib.sha256(block).digest() if block else ZEROS
+    return hashlib.sha256(block_bytes).digest() if block_bytes else ZEROS
 
 
-def whole_digest(length: int, blocks: Blocks) -> bytes:
-    """The digest of a file, from its length and the digests of its blocks; those that are ZEROS
-    don't count."""
+def hash_file(length: int, block_digests: BlockDigests) -> bytes:
+    """The digest of a file, from its length and the digests of its blocks. A block that is left out
+    counts as zeros."""
     digest = hashlib.sha256(length.to_bytes(8, 'little'))
-    for block in sorted(blocks):
-        if blocks[block]:
-            digest.update(block.to_bytes(8, 'little') + blocks[block])
+    for block in sorted(block_digests):
+        if block_digests[block]:
+            digest.update(block.to_bytes(8, 'little') + block_digests[block])
     return digest.digest()

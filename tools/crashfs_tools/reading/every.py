@@ -20,93 +20,91 @@ def every_set(order: Order) -> Iterator[int]:
     """All sets that an order allows, as a stream. At the first place in which two sets differ, the
     set without this place comes first. There may be far too many: the caller stops when it has
     enough."""
-    waiting = [(0, order.full)]
+    waiting = [(0, order.all_places)]
     while waiting:
-        places, future = waiting.pop()
+        place_set, future = waiting.pop()
         if not future:
-            yield places
+            yield place_set
             continue
-        lowest = future & -future
-        unit = order.unit(lowest)
-        waiting.append((places | unit, future & ~unit))
-        waiting.append((places, order.later_without(future, lowest)))
+        lowest_bit = future & -future
+        unit = order.unit_at(lowest_bit)
+        waiting.append((place_set | unit, future & ~unit))
+        waiting.append((place_set, order.future_without(future, lowest_bit)))
 
 
-def futures(order: Order) -> List[Dict[int, int]]:
+def count_futures(order: Order) -> List[Dict[int, int]]:
     """For each k, from 0 to the number of places, the futures of the allowed sets of places below
     k, each with how many sets have it. ReadingFault if one k has more than MOST_FUTURES."""
-    levels = [{order.full: 1}]
+    levels = [{order.all_places: 1}]
     for place in range(order.count):
-        lowest = 1 << place
         level: Dict[int, int] = {}
         for future, sets in levels[-1].items():
-            for longer in next_futures(order, future, lowest):
-                level[longer] = level.get(longer, 0) + sets
+            for next_future in next_futures(order, future, 1 << place):
+                level[next_future] = level.get(next_future, 0) + sets
         if len(level) > MOST_FUTURES:
             raise ReadingFault('too many sets to count')
         levels.append(level)
     return levels
 
 
-def next_futures(order: Order, future: int, lowest: int) -> List[int]:
-    """The futures that follow a future when a place, given by `lowest` as a set of one, is decided:
-    first that of the sets without it, then that of the sets with it. If the future lacks the place,
-    only the future itself."""
-    if not future & lowest:
+def next_futures(order: Order, future: int, bit: int) -> List[int]:
+    """The futures that follow a future when the next place, given by its bit, is decided: first
+    that of the sets without the place, then that of the sets with it. If the future lacks the
+    place, only the future itself."""
+    if not future & bit:
         return [future]
-    return [order.later_without(future, lowest), future & ~order.unit(lowest)]
+    return [order.future_without(future, bit), future & ~order.unit_at(bit)]
 
 
 def count_sets(order: Order) -> int:
     """How many sets an order allows, exactly, even if there are more than 2^64. ReadingFault if one
     k has more than MOST_FUTURES futures."""
-    return sum(futures(order)[-1].values())
+    return sum(count_futures(order)[-1].values())
 
 
-def drawn_sets(order: Order, wanted: int, seed: int) -> Iterator[int]:
-    """Draws `wanted` allowed sets, each time with the same chance for every set, so one may come
+def drawn_sets(order: Order, count: int, seed: int) -> Iterator[int]:
+    """Draws so many allowed sets, each time with the same chance for every set, so one may come
     twice. The same seed gives the same sets. ReadingFault, only when the first set is taken, if
     there are more than MOST_MEMBERS sets, or more than MOST_FUTURES futures of one k."""
     extensions = count_extensions(order)
-    total = extensions[0][order.full]
-    if total > MOST_MEMBERS:
+    set_count = extensions[0][order.all_places]
+    if set_count > MOST_MEMBERS:
         raise ReadingFault('too many sets to count')
-    draw = random.Random(seed)
-    for _ in range(wanted):
-        yield set_at(order, extensions, draw.randrange(total))
+    generator = random.Random(seed)
+    for _ in range(count):
+        yield nth_set(order, extensions, generator.randrange(set_count))
 
 
 def count_extensions(order: Order) -> List[Dict[int, int]]:
     """For each k and each future there, how many allowed sets extend a set of places below k that
     has this future. ReadingFault if one k has more than MOST_FUTURES."""
-    levels = futures(order)
-    found: List[Dict[int, int]] = [{0: 1}]
+    futures = count_futures(order)
+    levels: List[Dict[int, int]] = [{0: 1}]
     for place in range(order.count - 1, -1, -1):
-        above = found[-1]
-        found.append(
+        next_level = levels[-1]
+        levels.append(
             {
-                future: sum(above[longer] for longer in next_futures(order, future, 1 << place))
-                for future in levels[place]
+                future: sum(next_level[it] for it in next_futures(order, future, 1 << place))
+                for future in futures[place]
             }
         )
-    found.reverse()
-    return found
+    levels.reverse()
+    return levels
 
 
-def set_at(order: Order, extensions: List[Dict[int, int]], number: int) -> int:
-    """The allowed set that has `number` sets before it in the order of every_set(). The number must
-    be less than that of all allowed sets; `extensions` are those of count_extensions() for the same
-    order."""
-    places, future = 0, order.full
+def nth_set(order: Order, extensions: List[Dict[int, int]], number: int) -> int:
+    """The allowed set that has `number` sets before it in the order of every_set(); there must be
+    more than `number` sets. `extensions` are those of count_extensions() for the same order."""
+    place_set, future, sets_to_pass = 0, order.all_places, number
     for place in range(order.count):
-        lowest = 1 << place
-        if future & lowest:
-            without = order.later_without(future, lowest)
-            before = extensions[place + 1][without]
-            if number < before:
-                future = without
+        bit = 1 << place
+        if future & bit:
+            future_without = order.future_without(future, bit)
+            sets_without = extensions[place + 1][future_without]
+            if sets_to_pass < sets_without:
+                future = future_without
             else:
-                number -= before
-                places |= order.unit(lowest)
-                future &= ~order.unit(lowest)
-    return places
+                sets_to_pass -= sets_without
+                place_set |= order.unit_at(bit)
+                future &= ~order.unit_at(bit)
+    return place_set

@@ -25,11 +25,11 @@ class LineFault(Exception):
         self.kind = kind
         self.why = why
 
-    def at(self, line: int) -> ReadingFault:
+    def as_reading_fault(self, line: int) -> ReadingFault:
         """This fault as that of the line with this number, in the text that the program prints."""
         return ReadingFault(f'trace line {line}: {self.kind}', line, self.why)
 
 
-def syntax(why: str) -> LineFault:
-    """The fault of a line that isn't one of its version."""
+def syntax_fault(why: str) -> LineFault:
+    """The fault of a line that isn't well formed in its version."""
     return LineFault('Syntax', why)

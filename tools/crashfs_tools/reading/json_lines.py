@@ -6,7 +6,7 @@ import json
 import math
 from typing import Any, Dict, List
 
-from .faults import syntax
+from .faults import syntax_fault
 
 DEPTH = 127
 # Digits of the largest number of eight bytes.
@@ -19,30 +19,35 @@ def read_object(line: str) -> Dict[str, Any]:
     program doesn't read: no JSON, no object, a number that overflows, values nested deeper than
     DEPTH levels, half of a surrogate pair."""
     try:
-        value = json.loads(
-            line, parse_int=number, parse_float=finite, parse_constant=refuse_constant
-        )
+        value = load_json(line)
     except (ValueError, RecursionError) as error:
-        raise syntax(f'no JSON: {error}') from error
+        raise syntax_fault(f'no JSON: {error}') from error
     if not isinstance(value, dict):
-        raise syntax('no JSON object')
-    if line.count('[') + line.count('{') > DEPTH and is_deeper(value, DEPTH):
-        raise syntax(f'values nested deeper than {DEPTH} levels')
+        raise syntax_fault('no JSON object')
+    if line.count('[') + line.count('{') > DEPTH and has_more_levels(value, DEPTH):
+        raise syntax_fault(f'values nested deeper than {DEPTH} levels')
     if '\\u' in line:
-        refuse_surrogates(value)
+        refuse_half_surrogates(value)
     return value
 
 
-def number(text: str) -> float:
+def load_json(text: str) -> Any:
+    """The value of a JSON text, with numbers as parse_integer() and parse_float() read them.
+    ValueError if it is no JSON, RecursionError if Python can't read values nested so deep."""
+    return json.loads(
+        text, parse_int=parse_integer, parse_float=parse_float, parse_constant=refuse_constant
+    )
+
+
+def parse_integer(text: str) -> float:
     """The number that the digits of an integer mean. With a minus sign, or with more digits than
     any number of a trace has, it is a float, which no key accepts; ValueError if that is
     infinite."""
-    return int(text) if text[0] != '-' and len(text) <= DIGITS else finite(text)
+    return int(text) if text[0] != '-' and len(text) <= DIGITS else parse_float(text)
 
 
-def finite(text: str) -> float:
-    """The float of a number with a sign, a fraction or many digits; ValueError if it is
-    infinite."""
+def parse_float(text: str) -> float:
+    """The float that a text means; ValueError if it is infinite."""
     value = float(text)
     if math.isinf(value):
         raise ValueError(f'the number {text} is too large')
@@ -50,17 +55,17 @@ def finite(text: str) -> float:
 
 
 def refuse_constant(text: str) -> None:
-    """ValueError for `NaN` and `Infinity`, which Python's reader takes."""
+    """ValueError for `NaN`, `Infinity` and `-Infinity`: Python reads them, but they are no JSON."""
     raise ValueError(f'{text} is no number')
 
 
-def is_deeper(value: Any, levels: int) -> bool:
-    """Whether a value has more than so many levels of objects and arrays: it has none if it is
-    neither, and an empty one has 1."""
-    of_level = [value]
+def has_more_levels(value: Any, levels: int) -> bool:
+    """Whether a value has more than so many levels of objects and arrays: a text or a number has
+    none, and an empty array has 1."""
+    level_values = [value]
     for _ in range(levels):
-        of_level = [inner for outer in of_level for inner in inner_values(outer)]
-    return any(isinstance(one, (dict, list)) for one in of_level)
+        level_values = [inner for outer in level_values for inner in inner_values(outer)]
+    return any(isinstance(inner, (dict, list)) for inner in level_values)
 
 
 def inner_values(value: Any) -> List[Any]:
@@ -70,15 +75,15 @@ def inner_values(value: Any) -> List[Any]:
     return value if isinstance(value, list) else []
 
 
-def refuse_surrogates(value: Any) -> None:
+def refuse_half_surrogates(value: Any) -> None:
     """LineFault for a value that has a text, or a key, with half of a surrogate pair."""
     try:
         json.dumps(value, ensure_ascii=False).encode('utf-8')
     except UnicodeEncodeError as error:
-        raise syntax('half of a surrogate pair') from error
+        raise syntax_fault('half of a surrogate pair') from error
 
 
-def is_number(value: Any) -> bool:
+def is_trace_number(value: Any) -> bool:
     """Whether a value is a number that a trace may have: an int from 0 to LARGEST. A boolean is
     none."""
     return type(value) is int and 0 <= value <= LARGEST
@@ -88,14 +93,9 @@ def read_array(line: bytes) -> List[Any]:
     """The values of a line that is a JSON array; LineFault if it isn't one, or not UTF-8. What the
     values are isn't checked."""
     try:
-        value = json.loads(
-            line.decode('utf-8'),
-            parse_int=number,
-            parse_float=finite,
-            parse_constant=refuse_constant,
-        )
+        value = load_json(line.decode('utf-8'))
     except (ValueError, RecursionError) as error:
-        raise syntax(f'no JSON: {error}') from error
+        raise syntax_fault(f'no JSON: {error}') from error
     if not isinstance(value, list):
-        raise syntax('no JSON array')
+        raise syntax_fault('no JSON array')
     return value

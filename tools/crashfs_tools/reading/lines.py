@@ -6,8 +6,8 @@ import re
 from dataclasses import dataclass
 from typing import Any, Dict, Iterator, List, Set, Tuple
 
-from .faults import LineFault, syntax
-from .json_lines import is_number, read_object
+from .faults import LineFault, syntax_fault
+from .json_lines import is_trace_number, read_object
 
 NAME_BYTES, USER_BYTES, TARGET_BYTES = 255, 64, 4_095
 BLOCK_SIZES = (512, 1024, 2048, 4096)
@@ -80,45 +80,44 @@ class Line:
 
     @property
     def parts(self) -> List[Tuple[int, bytes]]:
-        """The parts of a start file, each after its offset. One that isn't written in parts has
-        one, with all its bytes, which may be none."""
+        """The parts of a start file, each after its offset. A file that isn't in parts has one
+        part, with all its bytes, which may be none."""
         if 'parts' not in self.fields:
             return [(0, self.data)]
         return [(part['at'], bytes_of(part)) for part in self.fields['parts']]
 
     @property
     def length(self) -> int:
-        """The length of a start file: that of its bytes, or, if it is written in parts, the one
-        that it gives."""
+        """The length of a start file: that of its bytes or, if it is in parts, its `length`."""
         return int(self.fields['length']) if 'parts' in self.fields else len(self.data)
 
 
 def bytes_of(fields: Fields) -> bytes:
-    """The bytes of a line, or of a part: `text` in UTF-8, or `bytes` in hexadecimal digits."""
+    """The bytes of a line, or of a part: its `text` in UTF-8, or else its `bytes`, hexadecimal
+    digits. KeyError if it has neither."""
     if 'text' in fields:
         return str(fields['text']).encode('utf-8')
     return bytes.fromhex(fields['bytes'])
 
 
-class LineJudge:
-    """Checks the lines of a trace one after the other, the header first, each by itself: whether it
-    fits the tree isn't seen here. `version` is the header's, 0 before it."""
+class LineReader:
+    """Reads the lines of a trace one after the other, the header first. Each is checked by itself:
+    whether it fits the tree isn't checked here. `version` is the header's, 0 before it."""
 
     def __init__(self) -> None:
         self.version = 0
         self.has_operation = False
 
-    def read(self, number: int, text: str) -> Line:
+    def read_line(self, number: int, text: str) -> Line:
         """The line with this number, from its text. LineFault for the first fault that it has by
-        itself. It must be given all lines that aren't empty, in their order, and none after a
-        fault."""
+        itself. Lines must be read in their order, without empty ones, and none after a fault."""
         fields = read_object(text)
         keys = [key for key in ('trace', 'start', 'op') if key in fields]
         if len(keys) != 1:
-            raise syntax('it needs one of the keys trace, start and op')
+            raise syntax_fault('it needs one of the keys trace, start and op')
         line = Line(number, keys[0], '', fields)
         if (line.key == 'trace') != (self.version == 0):
-            raise syntax('the first line, and no other, is the header')
+            raise syntax_fault('the first line, and no other, is the header')
         if line.key == 'trace':
             self.check_header(line)
         else:
@@ -130,78 +129,78 @@ class LineJudge:
         """Sets the version to that of a header. LineFault if the version is unknown, or if a key, a
         value or the profile isn't one of that version."""
         version = line.fields['trace']
-        if not is_number(version) or version not in HEADERS:
-            raise syntax(f'version {version} is not known (1, 2, 3, 4)')
+        if not is_trace_number(version) or version not in HEADERS:
+            raise syntax_fault(f'version {version} is not known (1, 2, 3, 4)')
         self.version = version
         self.check_keys(line, (*HEADERS[version], *RIGHTS))
         profile = line.fields.get('profile', 'blocks')
         if PROFILES_SINCE.get(profile, 1) > version:
-            raise syntax(f'profile "{profile}" is not known in version {version}')
+            raise syntax_fault(f'profile "{profile}" is not known in version {version}')
 
     def check_word(self, line: Line) -> None:
-        """Sets the word of a start line or an operation. LineFault if it is no text, if the version
-        has no such line (UnknownOp), if it is a start line after an operation, or if check_keys()
-        raises it."""
+        """Sets the word of a start line or an operation, and has_operation: no start line may come
+        after an operation. LineFault if one does, if the word is no text, or if the version has no
+        such line (UnknownOp); and as check_keys()."""
         if line.key == 'start' and self.has_operation:
-            raise syntax('a start line after an operation')
+            raise syntax_fault('a start line after an operation')
         self.has_operation = line.key == 'op'
         word = line.fields[line.key]
         if not isinstance(word, str):
-            raise syntax(f'{line.key} is no text')
-        since, keys = KINDS[line.key].get(word, (self.version + 1, ()))
-        if since > self.version:
+            raise syntax_fault(f'{line.key} is no text')
+        first_version, keys = KINDS[line.key].get(word, (self.version + 1, ()))
+        if first_version > self.version:
             raise LineFault('UnknownOp', f'unknown {line.key} "{word}" in version {self.version}')
         line.word = word
         self.check_keys(line, keys)
 
     def check_keys(self, line: Line, keys: Tuple[str, ...]) -> None:
         """LineFault if a line lacks one of `keys`, has another key, or has a value that its key may
-        not have. Since version 3 a line may have a `note` too, and may have its bytes as
-        other_bytes() allows."""
-        wanted, found = {line.key, *keys}, set(line.fields)
+        not have. Since version 3 a line may have a `note` too. Instead of `bytes` it may have what
+        keys_of_bytes() returns."""
+        expected_keys, own_keys = {line.key, *keys}, set(line.fields)
         if self.version >= 3:
-            wanted |= found & {'note'}
-        if 'bytes' in wanted and 'bytes' not in found:
-            wanted = wanted - {'bytes'} | self.other_bytes(line)
-        for key in sorted(found - wanted):
-            raise syntax(f'unknown key "{key}"')
-        for key in sorted(wanted - found):
-            raise syntax(f'no key "{key}"')
-        for key in sorted(wanted - {line.key}):
+            expected_keys |= own_keys & {'note'}
+        if 'bytes' in expected_keys and 'bytes' not in own_keys:
+            expected_keys = expected_keys - {'bytes'} | self.keys_of_bytes(line)
+        for key in sorted(own_keys - expected_keys):
+            raise syntax_fault(f'unknown key "{key}"')
+        for key in sorted(expected_keys - own_keys):
+            raise syntax_fault(f'no key "{key}"')
+        for key in sorted(expected_keys - {line.key}):
             check_value(key, line.fields[key])
-        if 'parts' in wanted:
+        if 'parts' in expected_keys:
             check_parts(line)
         if line.word == 'symlink':
             check_target(line.fields['target'])
 
-    def other_bytes(self, line: Line) -> Set[str]:
-        """The keys by which a line that lacks `bytes` gives its bytes: `text`, or in a start file
-        `length` and `parts`. If its version or its keys allow neither, `bytes`, which is then
-        reported as missing."""
+    def keys_of_bytes(self, line: Line) -> Set[str]:
+        """The keys by which a line that lacks `bytes` has its bytes: `text`, or in a start file
+        `length` and `parts`. If it has neither, or its version doesn't allow them, `bytes`, which
+        is then reported as missing."""
         if self.version >= 4 and line.key == 'start' and 'parts' in line.fields:
             return {'length', 'parts'}
         return {'text' if self.version >= 3 and 'text' in line.fields else 'bytes'}
 
 
 def check_value(key: str, value: Any) -> None:
-    """LineFault for a value that isn't of its key's kind. A key that isn't named here may have any
-    text."""
+    """LineFault for a value that its key may not have. A key that isn't named here may have any
+    text. What is in `parts` is checked by check_parts()."""
     if key in ('offset', 'length', 'block', 'at'):
-        if not is_number(value) or key == 'block' and value not in BLOCK_SIZES:
-            raise syntax(f'{key} {value} is no number that it may have')
+        if not is_trace_number(value) or key == 'block' and value not in BLOCK_SIZES:
+            raise syntax_fault(f'{key} {value} is no number that it may have')
     elif key == 'parts':
         if not isinstance(value, list) or not all(isinstance(part, dict) for part in value):
-            raise syntax('parts is no array of objects')
+            raise syntax_fault('parts is no array of objects')
     elif not isinstance(value, str):
-        raise syntax(f'{key} is no text')
+        raise syntax_fault(f'{key} is no text')
     elif key == 'mode' and not MODE.fullmatch(value):
-        raise syntax(f'mode "{value}" is not three octal digits')
+        raise syntax_fault(f'mode "{value}" is not three octal digits')
     elif key == 'bytes' and value.strip(HEXADECIMAL):
-        raise syntax('bytes has a character that is no hexadecimal digit')
+        raise syntax_fault('bytes has a character that is no hexadecimal digit')
     elif key == 'bytes' and len(value) % 2:
-        raise syntax('bytes has an odd number of digits')
+        raise syntax_fault('bytes has an odd number of digits')
     elif key == 'profile' and value not in PROFILES:
-        raise syntax(f'profile "{value}" is not known ({", ".join(PROFILES)})')
+        raise syntax_fault(f'profile "{value}" is not known ({", ".join(PROFILES)})')
 
 
 def check_parts(line: Line) -> None:
@@ -210,42 +209,48 @@ def check_parts(line: Line) -> None:
     nothing else."""
     for part in line.fields['parts']:
         if set(part) not in ({'at', 'bytes'}, {'at', 'text'}):
-            raise syntax('a part has at, and bytes or text, and nothing else')
+            raise syntax_fault('a part has at, and bytes or text, and nothing else')
         for key, value in part.items():
             check_value(key, value)
     end = 0
-    for at, data in line.parts:
+    for begin, data in line.parts:
         if not data:
-            raise syntax(f'the part at {at} is empty')
-        if at < end:
-            raise syntax(f'the part at {at} begins before {end}, where the one before it ends')
-        end = at + len(data)
+            raise syntax_fault(f'the part at {begin} is empty')
+        if begin < end:
+            why = f'the part at {begin} begins before {end}, where the one before it ends'
+            raise syntax_fault(why)
+        end = begin + len(data)
     if end > line.length:
-        raise syntax(f'a part ends at {end}, past the length {line.length}')
+        raise syntax_fault(f'a part ends at {end}, past the length {line.length}')
 
 
 def check_target(target: str) -> None:
     """LineFault for a symbolic link's target that is empty, longer than TARGET_BYTES, or has a
     NUL."""
     if not 1 <= len(target.encode('utf-8')) <= TARGET_BYTES or '\0' in target:
-        raise syntax(f'a target is 1 to {TARGET_BYTES} bytes without NUL')
+        raise syntax_fault(f'a target is 1 to {TARGET_BYTES} bytes without NUL')
 
 
 def check_names(line: Line) -> None:
     """LineFault (BadName) for a path, an owner or a group that no file can have. The path `/` is
-    accepted only of an fsync, a chmod and a chown."""
+    accepted only in an fsync, a chmod and a chown."""
     for path in line.paths():
         if path == '/' and line.word in TAKE_ROOT:
             continue
-        if not path.startswith('/') or not all(map(is_name, path[1:].split('/'))):
+        if not path.startswith('/') or not all(map(is_file_name, path[1:].split('/'))):
             raise LineFault('BadName', f'the path "{path}"')
     for key in ('owner', 'group'):
-        name = line.fields.get(key, 'a')
-        if not 1 <= len(name.encode('utf-8')) <= USER_BYTES or '\0' in name:
+        name = line.fields.get(key)
+        if name is not None and not is_user_name(name):
             raise LineFault('BadName', f'the {key} "{name}"')
 
 
-def is_name(name: str) -> bool:
+def is_user_name(name: str) -> bool:
+    """Whether a text may be an owner or a group: 1 to USER_BYTES bytes without NUL."""
+    return 1 <= len(name.encode('utf-8')) <= USER_BYTES and '\0' not in name
+
+
+def is_file_name(name: str) -> bool:
     """Whether a text, which has no slash, may be one name of a path: 1 to NAME_BYTES bytes without
     NUL, but not `.` or `..`."""
     return (

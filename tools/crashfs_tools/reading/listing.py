@@ -5,59 +5,59 @@ from __future__ import annotations
 import json
 from typing import Any, Dict, Iterator
 
-from .micro import Micro
+from .micro import MicroOperation
+from .order import Profiles
 from .place_sets import places_of
 from .plan import StateList
-from .order import Profiles
 from .states import Digest
 
 
-def listing(plan: StateList, lines: bool = False, same: bool = False) -> Iterator[str]:
+def plain_listing(
+    plan: StateList, *, has_lines: bool = False, has_same: bool = False
+) -> Iterator[str]:
     """The lines that `list` prints of a plan: one for each micro-operation, then one for each
-    state. With `lines` they have what --lines adds. With `same` each state has the number of the
-    first state that has an equal tree, which may be its own."""
+    state. With has_lines a micro-operation has what --lines adds. With has_same a state has the
+    number of the first state that has an equal tree, which may be its own."""
     for place, operation in enumerate(plan.reading.operations):
-        yield f'op {place} {operation.text}{origin_text(operation) if lines else ""}\n'
-    first: Dict[Digest, int] = {}
-    for number, (text, places) in enumerate(plan.states):
-        tail = ''
-        if same:
-            tail = f' same {first.setdefault(plan.trees.digest(places), number)}'
-        yield f'state {number} {text} says {plan.trees.count_says(places)}{tail}\n'
+        yield f'op {place} {operation.text}{origin_text(operation) if has_lines else ""}\n'
+    first_states: Dict[Digest, int] = {}
+    for number, (text, place_set) in enumerate(plan.states):
+        same_text = ''
+        if has_same:
+            same_text = f' same {first_states.setdefault(plan.trees.digest(place_set), number)}'
+        yield f'state {number} {text} says {plan.trees.count_says(place_set)}{same_text}\n'
 
 
-def origin_text(operation: Micro) -> str:
+def origin_text(operation: MicroOperation) -> str:
     """What --lines adds to the line of a micro-operation: the number of the trace's line that it
     comes from, and the path of a file that it changes. Other micro-operations have no path here."""
-    path = '' if operation.file is None else operation.path
-    return f' line {operation.line} {path}'.rstrip()
+    path = '' if operation.file_number is None else operation.path
+    return f' line {operation.line_number} {path}'.rstrip()
 
 
 def json_listing(plan: StateList) -> Iterator[str]:
     """The lines that `list --json` prints of a plan: one for each micro-operation, then one for
-    each state. What a micro-operation needs includes itself. Only in version 4 a state has the
-    profiles that allow it."""
+    each state, with the profiles that allow it. What a micro-operation needs includes itself."""
     for place, operation in enumerate(plan.reading.operations):
-        needs = list(places_of(plan.order.needs[place] | 1 << place))
-        yield as_line(
+        yield json_line(
             {
                 'op': place,
                 'kind': operation.text.split(' ')[0],
                 **operation.fields(),
-                'line': operation.line,
-                'needs': needs,
+                'line': operation.line_number,
+                'needs': list(places_of(plan.order.needs[place] | 1 << place)),
             }
         )
-    first: Dict[Digest, int] = {}
+    first_states: Dict[Digest, int] = {}
     profiles = Profiles(plan.reading)
-    for number, (text, places) in enumerate(plan.states):
-        yield as_line(
+    for number, (text, place_set) in enumerate(plan.states):
+        yield json_line(
             {
                 'state': number,
                 **state_fields(text),
-                'says': plan.trees.count_says(places),
-                'same': first.setdefault(plan.trees.digest(places), number),
-                'profiles': profiles.names(places),
+                'says': plan.trees.count_says(place_set),
+                'same': first_states.setdefault(plan.trees.digest(place_set), number),
+                'profiles': profiles.names_allowing(place_set),
             }
         )
 
@@ -73,6 +73,6 @@ def state_fields(text: str) -> Dict[str, Any]:
     return {'kind': kind, **dict(zip(names, map(int, numbers)))}
 
 
-def as_line(fields: Dict[str, Any]) -> str:
+def json_line(fields: Dict[str, Any]) -> str:
     """Fields as a line of JSON, without blanks between them."""
     return json.dumps(fields, separators=(',', ':'), ensure_ascii=False) + '\n'

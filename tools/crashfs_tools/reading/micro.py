@@ -10,26 +10,30 @@ from .names import DIRECTORY, Entry, Inode
 Rights = Tuple[str, str, str]
 
 
-class Micro:
-    """A micro-operation. paths: those that `list` prints of it. entries: those that it touches.
-    handled: the files, symbolic links and directories that it makes, links, moves, removes or
-    replaces. file: the number of the file whose size, bytes or rights it changes, with a path that
-    the file had then. directory: the number of the directory whose rights it changes. line: the
-    number of its line in the trace, 0 until Reading.read_line() sets it."""
+class MicroOperation:
+    """A micro-operation: what it changes, and where it comes from. What a kind doesn't have is None
+    or empty."""
 
+    # The paths that `list` prints of it.
     paths: Tuple[str, ...] = ()
+    # The entries that it touches.
     entries: Tuple[Entry, ...] = ()
-    handled: Tuple[Inode, ...] = ()
-    # The directory that it makes, or removes.
+    # What it makes, links, moves, removes or replaces.
+    handled_inodes: Tuple[Inode, ...] = ()
+    # The number of the directory that it makes, or removes.
     made_directory: Optional[int] = None
     removed_directory: Optional[int] = None
     moves_directory = False
     # Of a rename into another directory: 1 for its first half, 2 for its second one.
-    half = 0
-    file: Optional[int] = None
+    rename_half = 0
+    # The number of the file whose size, bytes or rights it changes, and a path that the file had
+    # then.
+    file_number: Optional[int] = None
     path = ''
-    directory: Optional[int] = None
-    line = 0
+    # The number of the directory whose rights it changes.
+    directory_number: Optional[int] = None
+    # The number of its line in the trace, 0 until Reading.read_line() sets it.
+    line_number = 0
 
     @property
     def text(self) -> str:
@@ -40,20 +44,20 @@ class Micro:
         """Its fields in `list --json`, except its kind, its line and its needs."""
         raise NotImplementedError
 
-    def path_of_file(self) -> Dict[str, Any]:
-        """The fields of a micro-operation on a file in `list --json`: a path of the file, None if
-        it has none, and its number."""
-        return {'path': self.path or None, 'file': self.file}
+    def file_fields(self) -> Dict[str, Any]:
+        """The fields in `list --json` of the file that it changes: a path of the file, None if it
+        has none, and its number."""
+        return {'path': self.path or None, 'file': self.file_number}
 
 
-class CreateEntry(Micro):
+class CreateEntry(MicroOperation):
     """A file, a symbolic link or a directory (`node`) is made at an entry, with these rights.
     target: that of a symbolic link, else empty."""
 
     def __init__(
         self, path: str, entry: Entry, node: Inode, rights: Rights, target: str = ''
     ) -> None:
-        self.paths, self.entries, self.handled = (path,), (entry,), (node,)
+        self.paths, self.entries, self.handled_inodes = (path,), (entry,), (node,)
         self.node = node
         self.rights = rights
         self.target = target
@@ -65,21 +69,22 @@ class CreateEntry(Micro):
         return f'create_dir_entry {self.paths[0]} {self.node.kind}'
 
     def fields(self) -> Dict[str, Any]:
-        """See Micro.fields. A directory has no `file`, and only a symbolic link has `target`."""
+        """See MicroOperation.fields. A directory has no `file`, and only a symbolic link has
+        `target`."""
         fields: Dict[str, Any] = {'path': self.paths[0], 'node': self.node.kind}
         if self.node.kind != DIRECTORY:
             fields['file'] = self.node.number
         return {**fields, 'target': self.target} if self.target else fields
 
 
-class DeleteEntry(Micro):
-    """An entry of a directory is removed; node is what it held. half is 2 if this is the second
-    half of a rename, else 0."""
+class DeleteEntry(MicroOperation):
+    """An entry of a directory is removed; `node` is what it held. rename_half is 2 if this is the
+    second half of a rename, else 0."""
 
-    def __init__(self, path: str, entry: Entry, node: Inode, half: int = 0) -> None:
-        self.paths, self.entries, self.handled = (path,), (entry,), (node,)
+    def __init__(self, path: str, entry: Entry, node: Inode, rename_half: int = 0) -> None:
+        self.paths, self.entries, self.handled_inodes = (path,), (entry,), (node,)
         self.node = node
-        self.half = half
+        self.rename_half = rename_half
         if node.kind == DIRECTORY:
             self.removed_directory = node.number
 
@@ -91,9 +96,10 @@ class DeleteEntry(Micro):
         return {'path': self.paths[0], 'node': self.node.kind}
 
 
-class MoveEntry(Micro):
+class MoveEntry(MicroOperation):
     """What is at the first of two entries (`node`) is moved to the second one. replaced: what was
-    there, or None. shows_node: whether JSON has the kind of what is moved, as in version 4."""
+    at the second one, or None. has_node_field: whether JSON has the kind of what is moved, as in
+    version 4."""
 
     def __init__(
         self,
@@ -101,12 +107,12 @@ class MoveEntry(Micro):
         entries: Tuple[Entry, Entry],
         node: Inode,
         replaced: Optional[Inode],
-        shows_node: bool,
+        has_node_field: bool,
     ) -> None:
         self.paths, self.entries = paths, entries
-        self.handled = (node,) if replaced is None else (node, replaced)
+        self.handled_inodes = (node,) if replaced is None else (node, replaced)
         self.node = node
-        self.shows_node = shows_node
+        self.has_node_field = has_node_field
         self.moves_directory = node.kind == DIRECTORY
         if replaced is not None and replaced.kind == DIRECTORY:
             self.removed_directory = replaced.number
@@ -117,25 +123,26 @@ class MoveEntry(Micro):
 
     def fields(self) -> Dict[str, Any]:
         fields = {'path': self.paths[0], 'to': self.paths[1]}
-        return {**fields, 'node': self.node.kind} if self.shows_node else fields
+        return {**fields, 'node': self.node.kind} if self.has_node_field else fields
 
 
-class LinkEntry(Micro):
-    """A file or symbolic link gets one more entry. half is 1 if this is the first half of a rename,
-    else 0. Only a first half may replace something: `replaced` is that, or None."""
+class LinkEntry(MicroOperation):
+    """A file or symbolic link (`node`) gets one more entry. rename_half is 1 if this is the first
+    half of a rename, else 0. Only a first half may replace something: `replaced` is that, or
+    None."""
 
     def __init__(
         self,
         path: str,
         entry: Entry,
         node: Inode,
-        half: int = 0,
+        rename_half: int = 0,
         replaced: Optional[Inode] = None,
     ) -> None:
         self.paths, self.entries = (path,), (entry,)
-        self.handled = (node,) if replaced is None else (node, replaced)
+        self.handled_inodes = (node,) if replaced is None else (node, replaced)
         self.node = node
-        self.half = half
+        self.rename_half = rename_half
 
     @property
     def text(self) -> str:
@@ -145,67 +152,83 @@ class LinkEntry(Micro):
         return {'path': self.paths[0], 'file': self.node.number}
 
 
-class ChangeSize(Micro):
-    """A file gets a size."""
+class ChangeSize(MicroOperation):
+    """A file, given by its number, gets a size."""
 
-    def __init__(self, file: int, length: int) -> None:
-        self.file = file
+    file_number: int
+
+    def __init__(self, file_number: int, length: int) -> None:
+        self.file_number = file_number
         self.length = length
 
     @property
     def text(self) -> str:
-        return f'change_file_size {self.file} {self.length}'
+        return f'change_file_size {self.file_number} {self.length}'
 
     def fields(self) -> Dict[str, Any]:
-        return {**self.path_of_file(), 'length': self.length}
+        return {**self.file_fields(), 'length': self.length}
 
 
-class WriteBlock(Micro):
-    """Bytes are written into a block of a file, at an offset in it; size is that of a block. begin
-    is their offset in the file."""
+class WriteBlock(MicroOperation):
+    """Bytes are written into a block of a file, both given by their numbers, at an offset in the
+    block. file_offset is their offset in the file."""
 
-    def __init__(self, file: int, block: int, size: int, at: int, data: bytes) -> None:
-        self.file = file
+    file_number: int
+
+    def __init__(
+        self, file_number: int, block: int, block_size: int, offset: int, data: bytes
+    ) -> None:
+        self.file_number = file_number
         self.block = block
-        self.at = at
-        self.begin = block * size + at
+        self.offset = offset
+        self.file_offset = block * block_size + offset
         self.data = data
 
     @property
     def text(self) -> str:
-        return f'write_block {self.file} {self.block} {self.at} {len(self.data)}'
+        return f'write_block {self.file_number} {self.block} {self.offset} {len(self.data)}'
 
     def fields(self) -> Dict[str, Any]:
-        return {**self.path_of_file(), 'block': self.block, 'at': self.at, 'count': len(self.data)}
+        write = {'block': self.block, 'at': self.offset, 'count': len(self.data)}
+        return {**self.file_fields(), **write}
 
 
-class SetRights(Micro):
-    """A file, given by its number, gets an owner, a group and a mode; or, if `file` is None, a
+class SetRights(MicroOperation):
+    """A file, given by its number, gets an owner, a group and a mode; or, if file_number is None, a
     directory, given by its number and path."""
 
     def __init__(
-        self, rights: Rights, file: Optional[int], directory: Optional[int] = None, path: str = ''
+        self,
+        rights: Rights,
+        file_number: Optional[int],
+        directory_number: Optional[int] = None,
+        path: str = '',
     ) -> None:
-        self.file = file
-        self.directory = directory
+        self.file_number = file_number
+        self.directory_number = directory_number
         self.path = path
         self.rights = rights
 
     @property
+    def is_directory(self) -> bool:
+        """Whether it is a directory that gets them."""
+        return self.file_number is None
+
+    @property
     def text(self) -> str:
-        """See Micro.text. A directory is printed by its path, a file by its number."""
+        """See MicroOperation.text. A directory is printed by its path, a file by its number."""
         owner, group, mode = self.rights
-        target = f'dir {self.path}' if self.file is None else f'file {self.file}'
+        target = f'dir {self.path}' if self.is_directory else f'file {self.file_number}'
         return f'set_attr {target} {mode} {owner} {group}'
 
     def fields(self) -> Dict[str, Any]:
-        """See Micro.fields. A directory has a path, a file also its number."""
-        place = self.path_of_file() if self.directory is None else {'path': self.path}
+        """See MicroOperation.fields. A directory has a path, a file also its number."""
+        target = {'path': self.path} if self.is_directory else self.file_fields()
         owner, group, mode = self.rights
-        return {**place, 'mode': mode, 'owner': owner, 'group': group}
+        return {**target, 'mode': mode, 'owner': owner, 'group': group}
 
 
-class Acknowledgement(Micro):
+class Acknowledgement(MicroOperation):
     """A line is acknowledged."""
 
     text = 'say'

@@ -11,7 +11,7 @@ FILE_BYTES, LARGE_FILE_BYTES = 16_777_216, 1_073_741_824
 PATH_NAMES, RECORDS, SAY_BYTES = 64, 65_536, 1_024
 MAKES_RECORD = ('creat', 'mkdir', 'dir', 'file', 'link', 'symlink')
 DIRECTORY, FILE, SYMLINK = 'dir', 'file', 'symlink'
-WORDS = {DIRECTORY: 'a directory', FILE: 'a file', SYMLINK: 'a symbolic link'}
+KIND_TEXTS = {DIRECTORY: 'a directory', FILE: 'a file', SYMLINK: 'a symbolic link'}
 ROOT = 0
 
 
@@ -27,25 +27,23 @@ class Inode(NamedTuple):
 Entry = Tuple[int, str]
 
 
-def parent(path: str) -> str:
+def parent_path(path: str) -> str:
     """The path of the directory that has a path's last name; the root's is the root itself."""
     return path.rpartition('/')[0] or '/'
 
 
-class Names:
+class NameTree:
     """The tree after the lines read so far: what each directory holds, and where each directory and
     file is. In versions 1 to 3 a directory's number is that of its path: one that is made again has
-    the old number.
-
-    children has what each directory holds, by its number; entries the entries of each file or
-    symbolic link, by its number, the oldest first; directories the entry of each directory, also of
-    one that is gone. Methods that change the tree don't check a line: refuse_unfit() comes first.
-    """
+    the old number. Methods that change the tree check nothing: call refuse_unfit_line() first."""
 
     def __init__(self, version: int = 1) -> None:
         self.version = version
+        # What each directory holds, by its number.
         self.children: Dict[int, Dict[str, Inode]] = {ROOT: {}}
+        # The entry of each directory, by its number, also of one that is gone.
         self.directories: Dict[int, Entry] = {}
+        # The entries of each file or symbolic link, by its number, the oldest first.
         self.entries: List[List[Entry]] = []
         # Up to version 3 the number of the directory that was first made at an entry.
         self.directory_numbers: Dict[Entry, int] = {}
@@ -59,41 +57,42 @@ class Names:
     def inode_at(self, path: str) -> Optional[Inode]:
         """What is at a path; None if nothing is. A file or a symbolic link has nothing below it:
         links aren't followed."""
-        found: Optional[Inode] = Inode(DIRECTORY, ROOT)
+        node: Optional[Inode] = Inode(DIRECTORY, ROOT)
         for name in path.split('/')[1:] if path != '/' else []:
-            if found is None or found.kind != DIRECTORY:
+            if node is None or node.kind != DIRECTORY:
                 return None
-            found = self.children[found.number].get(name)
-        return found
+            node = self.children[node.number].get(name)
+        return node
 
-    def entry(self, path: str) -> Entry:
-        """The entry of a path, at which something may be or not. AssertionError if its parent
-        directory isn't there."""
-        above = self.inode_at(parent(path))
-        assert above is not None and above.kind == DIRECTORY
-        return above.number, path.rpartition('/')[2]
+    def entry_at(self, path: str) -> Entry:
+        """The entry of a path other than the root, at which something may be or not. AssertionError
+        if its parent directory isn't there."""
+        directory = self.inode_at(parent_path(path))
+        assert directory is not None and directory.kind == DIRECTORY
+        return directory.number, path.rpartition('/')[2]
 
-    def file_number(self, path: str) -> int:
+    def file_number_at(self, path: str) -> int:
         """The number of the file or symbolic link at a path. AssertionError if none is there."""
         node = self.inode_at(path)
         assert node is not None and node.kind != DIRECTORY
         return node.number
 
-    def path_of(self, entry: Entry) -> str:
+    def path_of_entry(self, entry: Entry) -> str:
         """The path that an entry has in the tree as it is now; its directory must be there."""
         directory, name = entry
-        above = '' if directory == ROOT else self.path_of(self.directories[directory])
-        return f'{above}/{name}'
+        is_root = directory == ROOT
+        directory_path = '' if is_root else self.path_of_entry(self.directories[directory])
+        return f'{directory_path}/{name}'
 
-    def path_of_file(self, number: int) -> str:
-        """The oldest of the paths of a file or symbolic link, given by its number. IndexError if it
-        has none any more."""
-        return self.path_of(self.entries[number][0])
+    def path_of_file(self, file_number: int) -> str:
+        """The oldest of the paths of a file or symbolic link. IndexError if it has none any
+        more."""
+        return self.path_of_entry(self.entries[file_number][0])
 
     # What lines do
 
     def add_file(self, path: str, size: int, kind: str = FILE) -> Inode:
-        """Makes a file of a size, or a symbolic link, at a free path, and returns it. It has the
+        """Adds a file of this size, or a symbolic link, at a free path, and returns it. It has the
         next number."""
         self.sizes.append(size)
         self.entries.append([])
@@ -102,9 +101,9 @@ class Names:
         return node
 
     def add_directory(self, path: str) -> Inode:
-        """Makes an empty directory at a free path, and returns it. It has the next number; but up
-        to version 3 one that is made again at an entry has its old number."""
-        entry = self.entry(path)
+        """Adds an empty directory at a free path, and returns it. It has the next number; but up to
+        version 3 one that is made again at an entry has its old number."""
+        entry = self.entry_at(path)
         number = len(self.directories) + 1
         if self.version < 4:
             number = self.directory_numbers.setdefault(entry, number)
@@ -118,27 +117,28 @@ class Names:
         """Gives a file or directory a free path. This counts as a record, also after the path is
         gone."""
         self.records += 1
-        entry = self.entry(path)
+        entry = self.entry_at(path)
         self.children[entry[0]][entry[1]] = node
         if node.kind != DIRECTORY:
             self.entries[node.number].append(entry)
 
-    def remove(self, path: str) -> Inode:
+    def remove_path(self, path: str) -> Inode:
         """Removes the entry of a path, at which something must be, and returns what it held. A
         directory must be empty."""
-        entry = self.entry(path)
+        entry = self.entry_at(path)
         node = self.children[entry[0]].pop(entry[1])
         if node.kind != DIRECTORY:
             self.entries[node.number].remove(entry)
         return node
 
-    def move(self, old: str, new: str) -> None:
+    def move(self, old_path: str, new_path: str) -> None:
         """Moves what is at a path to another one, which isn't one of the same file; what is there
-        is replaced. In the order of a file's paths by age, the new path has the place of the old
-        one. In version 4 a move into another directory counts as a record."""
-        source, target = self.entry(old), self.entry(new)
-        if self.inode_at(new) is not None:
-            self.remove(new)
+        is replaced, a directory only if it is empty. In the order of a file's paths by age, the new
+        path has the place of the old one. In version 4 a move into another directory counts as a
+        record."""
+        source, target = self.entry_at(old_path), self.entry_at(new_path)
+        if self.inode_at(new_path) is not None:
+            self.remove_path(new_path)
         if self.version >= 4 and source[0] != target[0]:
             self.records += 1
         node = self.children[source[0]].pop(source[1])
@@ -149,89 +149,88 @@ class Names:
             entries = self.entries[node.number]
             entries[entries.index(source)] = target
 
-    def set_size(self, number: int, length: int) -> None:
-        """Sets the size of a file, by its number."""
-        self.sizes[number] = length
+    def set_size(self, file_number: int, length: int) -> None:
+        """Sets the size of a file."""
+        self.sizes[file_number] = length
 
     # What a line needs
 
-    def refuse_unfit(self, line: Line) -> None:
+    def refuse_unfit_line(self, line: Line) -> None:
         """LineFault with the first fault of a line in the tree as it is: a path is missing, taken
         or of another kind, or a limit is passed. It changes nothing. A header always fits."""
         if line.key == 'trace':
             return
         if line.word in ('creat', 'mkdir', 'dir', 'file', 'symlink'):
-            self.need_free(line.fields['path'])
+            self.require_free(line.fields['path'])
         elif line.word == 'link':
-            self.need_kind(line.fields['from'], (FILE,))
-            self.need_free(line.fields['path' if line.key == 'start' else 'to'])
+            self.require_kind(line.fields['from'], (FILE,))
+            self.require_free(line.fields['path' if line.key == 'start' else 'to'])
         elif line.word == 'rename':
             self.refuse_rename(line.fields['from'], line.fields['to'])
         elif line.word == 'rmdir':
             self.refuse_rmdir(line.fields['path'])
         elif line.word in ('fsync', 'chmod'):
-            self.need_kind(line.fields['path'], (DIRECTORY, FILE))
+            self.require_kind(line.fields['path'], (DIRECTORY, FILE))
         elif line.word == 'chown':
-            self.need(line.fields['path'])
+            self.require_inode(line.fields['path'])
         elif line.word == 'unlink':
-            self.need_kind(line.fields['path'], (FILE, SYMLINK))
+            self.require_kind(line.fields['path'], (FILE, SYMLINK))
         elif line.word in ('write', 'truncate', 'fdatasync', 'fsync_range'):
-            self.need_kind(line.fields['path'], (FILE,))
+            self.require_kind(line.fields['path'], (FILE,))
         self.refuse_too_large(line)
 
-    def need(self, path: str) -> Inode:
+    def require_inode(self, path: str) -> Inode:
         """What is at a path; LineFault (Missing) if nothing is."""
         node = self.inode_at(path)
         if node is None:
             raise LineFault('Missing', f'{path} is not there')
         return node
 
-    def need_kind(self, path: str, kinds: Tuple[str, ...]) -> None:
+    def require_kind(self, path: str, kinds: Tuple[str, ...]) -> None:
         """LineFault unless something of one of these kinds is at a path: Missing, or NotFile for
         another kind."""
-        node = self.need(path)
+        node = self.require_inode(path)
         if node.kind not in kinds:
-            raise LineFault('NotFile', f'{path} is {WORDS[node.kind]}')
+            raise LineFault('NotFile', f'{path} is {KIND_TEXTS[node.kind]}')
 
-    def need_parent(self, path: str) -> None:
+    def require_parent(self, path: str) -> None:
         """LineFault unless a path's parent directory is there: NoParent if nothing is, NotDir for a
         file or symbolic link."""
-        above = self.inode_at(parent(path))
-        if above is None:
-            raise LineFault('NoParent', f'{parent(path)} is not there')
-        if above.kind != DIRECTORY:
-            raise LineFault('NotDir', f'{parent(path)} is {WORDS[above.kind]}')
+        directory = self.inode_at(parent_path(path))
+        if directory is None:
+            raise LineFault('NoParent', f'{parent_path(path)} is not there')
+        if directory.kind != DIRECTORY:
+            raise LineFault('NotDir', f'{parent_path(path)} is {KIND_TEXTS[directory.kind]}')
 
-    def need_free(self, path: str) -> None:
-        """LineFault unless something can be made at a path: as need_parent(), or Exists if
+    def require_free(self, path: str) -> None:
+        """LineFault unless something can be made at a path: as require_parent(), else Exists if
         something is there."""
-        self.need_parent(path)
+        self.require_parent(path)
         if self.inode_at(path) is not None:
             raise LineFault('Exists', f'{path} is there already')
 
-    def refuse_rename(self, old: str, new: str) -> None:
-        """LineFault with the first fault of a rename of `old` to `new`, if it has one. One onto
-        itself, or onto a path of the same file, has none. Up to version 3 no directory can be
-        renamed."""
-        node = self.need(old)
+    def refuse_rename(self, old_path: str, new_path: str) -> None:
+        """LineFault with the first fault of a rename, if it has one. One onto itself, or onto a
+        path of the same file, has none. Up to version 3 no directory can be renamed."""
+        node = self.require_inode(old_path)
         if node.kind == DIRECTORY and self.version < 4:
-            raise LineFault('NotFile', f'{old} is a directory')
-        self.need_parent(new)
-        there = self.inode_at(new)
-        if node.kind == DIRECTORY and new.startswith(old + '/'):
-            raise LineFault('BadName', f'{new} is below {old}')
-        if there is None or there == node:
+            raise LineFault('NotFile', f'{old_path} is a directory')
+        self.require_parent(new_path)
+        replaced = self.inode_at(new_path)
+        if node.kind == DIRECTORY and new_path.startswith(old_path + '/'):
+            raise LineFault('BadName', f'{new_path} is below {old_path}')
+        if replaced is None or replaced == node:
             return
         if node.kind == DIRECTORY:
-            self.refuse_rmdir(new)
-        elif there.kind == DIRECTORY:
-            raise LineFault('NotFile', f'{new} is a directory')
+            self.refuse_rmdir(new_path)
+        elif replaced.kind == DIRECTORY:
+            raise LineFault('NotFile', f'{new_path} is a directory')
 
     def refuse_rmdir(self, path: str) -> None:
         """LineFault unless an empty directory is at a path: Missing, NotDir, or NotEmpty."""
-        node = self.need(path)
+        node = self.require_inode(path)
         if node.kind != DIRECTORY:
-            raise LineFault('NotDir', f'{path} is {WORDS[node.kind]}')
+            raise LineFault('NotDir', f'{path} is {KIND_TEXTS[node.kind]}')
         if self.children[node.number]:
             raise LineFault('NotEmpty', f'{path} has entries')
 
@@ -241,24 +240,25 @@ class Names:
         must fit."""
         if any(path.count('/') > PATH_NAMES for path in line.paths()):
             raise LineFault('TooLarge', f'a path of more than {PATH_NAMES} names')
-        if self.records >= RECORDS and (line.word in MAKES_RECORD or self.moves_elsewhere(line)):
+        if self.records >= RECORDS and (line.word in MAKES_RECORD or self.is_counted_rename(line)):
             raise LineFault('TooLarge', f'more than {RECORDS} files and directories')
         if line.word == 'say' and len(line.fields['text'].encode('utf-8')) > SAY_BYTES:
             raise LineFault('TooLarge', f'a say of more than {SAY_BYTES} bytes')
-        most = LARGE_FILE_BYTES if self.version >= 4 else FILE_BYTES
-        if end_of(line) > most:
-            raise LineFault('TooLarge', f'a file of more than {most} bytes')
+        most_bytes = LARGE_FILE_BYTES if self.version >= 4 else FILE_BYTES
+        if end_offset(line) > most_bytes:
+            raise LineFault('TooLarge', f'a file of more than {most_bytes} bytes')
 
-    def moves_elsewhere(self, line: Line) -> bool:
+    def is_counted_rename(self, line: Line) -> bool:
         """Whether a line is a rename of version 4 into another directory, which counts as a record.
         One between two paths of one file does nothing, and doesn't count."""
         if self.version < 4 or line.word != 'rename':
             return False
-        old, new = line.fields['from'], line.fields['to']
-        return parent(old) != parent(new) and self.inode_at(old) != self.inode_at(new)
+        old_path, new_path = line.fields['from'], line.fields['to']
+        is_same_directory = parent_path(old_path) == parent_path(new_path)
+        return not is_same_directory and self.inode_at(old_path) != self.inode_at(new_path)
 
 
-def end_of(line: Line) -> int:
+def end_offset(line: Line) -> int:
     """The offset at which the bytes of a write, a truncate or a start file end. 0 for other lines,
     and for a write of no bytes, whatever its offset."""
     if line.word == 'truncate':

@@ -8,20 +8,20 @@ from typing import Iterable, Iterator
 
 def set_of(places: Iterable[int]) -> int:
     """The set that has these places, of which one may come twice; 0 if there are none."""
-    found = 0
+    place_set = 0
     for place in places:
-        found |= 1 << place
-    return found
+        place_set |= 1 << place
+    return place_set
 
 
-def places_of(members: int) -> Iterator[int]:
+def places_of(place_set: int) -> Iterator[int]:
     """The places of a set, ascending."""
-    while members:
-        lowest = members & -members
-        yield lowest.bit_length() - 1
-        members ^= lowest
+    while place_set:
+        lowest_bit = place_set & -place_set
+        yield lowest_bit.bit_length() - 1
+        place_set ^= lowest_bit
 
 
-def lacking_of(members: int) -> int:
-    """The set of the places below its last one that a set lacks."""
-    return (1 << members.bit_length()) - 1 & ~members
+def gaps_in(place_set: int) -> int:
+    """The set of the places that a set lacks below its last one; 0 for the empty set."""
+    return (1 << place_set.bit_length()) - 1 & ~place_set

@@ -5,25 +5,25 @@ from __future__ import annotations
 
 from typing import List
 
-from .micro import ChangeSize, CreateEntry, Micro, SetRights, WriteBlock
+from .micro import ChangeSize, CreateEntry, MicroOperation, SetRights, WriteBlock
 from .names import DIRECTORY, Inode
 
 
 class SyncPoint:
-    """A sync of everything, after the first `at` micro-operations. Sync points of one file or
-    directory inherit from it, and have its number."""
+    """A sync of everything, which comes before the micro-operation at `place`, and after those at
+    lower places. A sync point of one file or directory is a subclass, and has its number."""
 
-    def __init__(self, at: int, number: int = -1) -> None:
-        self.at = at
+    def __init__(self, place: int, number: int = -1) -> None:
+        self.place = place
         self.number = number
 
-    def covers(self, operation: Micro) -> bool:
+    def covers(self, operation: MicroOperation) -> bool:
         """Whether it makes a micro-operation durable. This must be one before it: its place isn't
         compared."""
         return True
 
-    def is_fresh(self, since: List[Micro]) -> bool:
-        """Whether it writes the log of the file system, if that has one. `since` are the
+    def is_fresh(self, operations_since: List[MicroOperation]) -> bool:
+        """Whether it writes the log of the file system, if that has one. `operations_since` has the
         micro-operations between the sync point before it, of whatever file, and this one."""
         return True
 
@@ -31,17 +31,18 @@ class SyncPoint:
 class FileSync(SyncPoint):
     """An fsync of a file, by its number."""
 
-    def covers(self, operation: Micro) -> bool:
+    def covers(self, operation: MicroOperation) -> bool:
         """See SyncPoint.covers: true for a change of the file's size, bytes or rights, false for
         one of its names."""
-        return operation.file == self.number
+        return operation.file_number == self.number
 
-    def is_fresh(self, since: List[Micro]) -> bool:
-        """See SyncPoint.is_fresh: whether one of `since` changed, made, linked, moved, removed or
+    def is_fresh(self, operations_since: List[MicroOperation]) -> bool:
+        """See SyncPoint.is_fresh: whether one of these changed, made, linked, moved, removed or
         replaced the file."""
         return any(
-            one.file == self.number or any(is_file(node, self.number) for node in one.handled)
-            for one in since
+            operation.file_number == self.number
+            or any(is_file(node, self.number) for node in operation.handled_inodes)
+            for operation in operations_since
         )
 
 
@@ -49,19 +50,19 @@ class DataSync(FileSync):
     """An fdatasync of a file, by its number: of its sizes and blocks, but not of its rights. Only a
     new size, or a new file, makes it write the log."""
 
-    def covers(self, operation: Micro) -> bool:
+    def covers(self, operation: MicroOperation) -> bool:
         """See SyncPoint.covers: true for a change of the file's size or bytes."""
         return super().covers(operation) and not isinstance(operation, SetRights)
 
-    def is_fresh(self, since: List[Micro]) -> bool:
-        """See SyncPoint.is_fresh: whether one of `since` made the file, or gave it a new size.
-        Writes and names don't count."""
+    def is_fresh(self, operations_since: List[MicroOperation]) -> bool:
+        """See SyncPoint.is_fresh: whether one of these made the file, or gave it a new size. Writes
+        and names don't count."""
         return any(
-            isinstance(one, ChangeSize)
-            and one.file == self.number
-            or isinstance(one, CreateEntry)
-            and is_file(one.node, self.number)
-            for one in since
+            isinstance(operation, ChangeSize)
+            and operation.file_number == self.number
+            or isinstance(operation, CreateEntry)
+            and is_file(operation.node, self.number)
+            for operation in operations_since
         )
 
 
@@ -70,19 +71,19 @@ class RangeSync(DataSync):
     sizes, and of writes all of whose bytes are in the part. A part of length 0 covers sizes
     only."""
 
-    def __init__(self, at: int, number: int, offset: int, length: int) -> None:
-        super().__init__(at, number)
+    def __init__(self, place: int, number: int, offset: int, length: int) -> None:
+        super().__init__(place, number)
         self.offset = offset
         self.end = offset + length
 
-    def covers(self, operation: Micro) -> bool:
+    def covers(self, operation: MicroOperation) -> bool:
         """See SyncPoint.covers: true for a change of the file's size, and for a write whose bytes
         are all in the part."""
         if not super().covers(operation):
             return False
         if isinstance(operation, WriteBlock):
-            end = operation.begin + len(operation.data)
-            return self.offset <= operation.begin and end <= self.end
+            end = operation.file_offset + len(operation.data)
+            return self.offset <= operation.file_offset and end <= self.end
         return True
 
 
@@ -90,20 +91,23 @@ class DirectorySync(SyncPoint):
     """An fsync of a directory, by its number: of its rights, and of all that touches an entry in
     it. A move between two directories is covered by an fsync of either one."""
 
-    def covers(self, operation: Micro) -> bool:
+    def covers(self, operation: MicroOperation) -> bool:
         """See SyncPoint.covers: true for a change of the directory's rights or of an entry in it,
         false for one of its own name."""
-        return operation.directory == self.number or any(
+        return operation.directory_number == self.number or any(
             directory == self.number for directory, _ in operation.entries
         )
 
-    def is_fresh(self, since: List[Micro]) -> bool:
-        """See SyncPoint.is_fresh: whether one of `since` changed the directory or an entry in it,
-        or made, moved, removed or replaced the directory."""
-        own = Inode(DIRECTORY, self.number)
-        return any(self.covers(one) or own in one.handled for one in since)
+    def is_fresh(self, operations_since: List[MicroOperation]) -> bool:
+        """See SyncPoint.is_fresh: whether one of these changed the directory or an entry in it, or
+        made, moved, removed or replaced the directory."""
+        synced = Inode(DIRECTORY, self.number)
+        return any(
+            self.covers(operation) or synced in operation.handled_inodes
+            for operation in operations_since
+        )
 
 
-def is_file(node: Inode, file: int) -> bool:
+def is_file(node: Inode, file_number: int) -> bool:
     """Whether an inode is the file or symbolic link with this number."""
-    return node.kind != DIRECTORY and node.number == file
+    return node.kind != DIRECTORY and node.number == file_number

@@ -4,22 +4,22 @@ from __future__ import annotations
 
 from typing import Dict, List
 
-from .data import Data, split
-from .faults import LineFault, ReadingFault, syntax
-from .lines import Line, LineJudge
+from .data import Data, split_by_blocks
+from .faults import LineFault, ReadingFault, syntax_fault
+from .lines import Line, LineReader
 from .micro import (
+    Acknowledgement,
     ChangeSize,
     CreateEntry,
     DeleteEntry,
     LinkEntry,
-    Micro,
+    MicroOperation,
     MoveEntry,
     Rights,
-    Acknowledgement,
     SetRights,
     WriteBlock,
 )
-from .names import DIRECTORY, ROOT, SYMLINK, Entry, Names, Inode
+from .names import DIRECTORY, ROOT, SYMLINK, Entry, Inode, NameTree
 from .syncs import DataSync, DirectorySync, FileSync, RangeSync, SyncPoint
 
 MICRO_OPERATIONS = 1_024
@@ -29,9 +29,9 @@ LINK_MODE = '777'
 
 
 class Reading:
-    """A trace, read line by line: read_line() takes the header first. names is the tree after the
-    lines read so far; start and start_rights are of the start tree. Files and symbolic links are
-    known by their numbers, directories by theirs."""
+    """A trace, read line by line: read_line() takes the header first. `names` is the tree after the
+    lines read so far, `start` the entries of the start tree. Files and symbolic links are numbered
+    together, directories apart."""
 
     def __init__(self) -> None:
         self.version = 1
@@ -40,51 +40,57 @@ class Reading:
         self.start: Dict[Entry, Inode] = {}
         # The path of each directory if no directory is moved; the root's is empty.
         self.homes: Dict[int, str] = {ROOT: ''}
-        # The rights and bytes with which each file is made, without bytes if an operation makes it;
-        # the rights of the start's directories; and the rights that each of both has now.
-        self.made_rights: Dict[int, Rights] = {}
-        self.made_data: Dict[int, Data] = {}
+        # The rights and bytes with which each file is made, without bytes if an operation makes it.
+        self.initial_rights: Dict[int, Rights] = {}
+        self.initial_data: Dict[int, Data] = {}
+        # The rights of each directory of the start tree, and those that each inode has now.
         self.start_rights: Dict[int, Rights] = {}
         self.rights: Dict[Inode, Rights] = {}
-        self.operations: List[Micro] = []
+        self.operations: List[MicroOperation] = []
         self.syncs: List[SyncPoint] = []
-        self.names = Names()
+        self.names = NameTree()
 
     def read_line(self, line: Line) -> None:
         """Adds what a line does. LineFault if it doesn't fit the lines before it; then nothing was
-        added. The line must be well formed, and the number of micro-operations isn't limited
-        here."""
-        self.names.refuse_unfit(line)
+        added. The line must be well formed. The number of micro-operations isn't limited here."""
+        self.names.refuse_unfit_line(line)
         if line.key == 'trace':
-            self.begin(line)
+            self.read_header(line)
         else:
             getattr(self, f'{line.key}_{line.word}')(line)
         for operation in reversed(self.operations):
-            if operation.line:
+            if operation.line_number:
                 break
-            operation.line = line.number
+            operation.line_number = line.number
 
-    def begin(self, line: Line) -> None:
-        """Begins the tree: an empty root, in the header's version and profile."""
+    def read_header(self, line: Line) -> None:
+        """Begins the tree: an empty root with the header's rights, in its version and profile. If
+        it has no profile or size of blocks, `blocks` and 4096 stay."""
         self.version = line.fields['trace']
-        self.names = Names(self.version)
+        self.names = NameTree(self.version)
         self.profile = line.fields.get('profile', self.profile)
         self.block_size = line.fields.get('block', self.block_size)
         self.start_rights[ROOT] = self.rights[Inode(DIRECTORY, ROOT)] = line.rights
 
-    def add_change(self, operation: Micro) -> None:
+    def add_change(self, operation: MicroOperation) -> None:
         """Adds a change of a file, with the oldest of the file's paths. IndexError if the file has
         no path any more."""
-        assert operation.file is not None
-        operation.path = self.names.path_of_file(operation.file)
+        assert operation.file_number is not None
+        operation.path = self.names.path_of_file(operation.file_number)
         self.operations.append(operation)
 
-    # What is made
+    def home_path(self, entry: Entry) -> str:
+        """The path that an entry has while no directory above it is moved. KeyError if no line has
+        made its directory."""
+        directory, name = entry
+        return f'{self.homes[directory]}/{name}'
+
+    # Files, symbolic links and directories
 
     def make_file(self, line: Line, length: int) -> Inode:
         """Makes the file of a line, with this length, and returns it. Its bytes aren't set here."""
         node = self.names.add_file(line.fields['path'], length)
-        self.made_rights[node.number] = self.rights[node] = line.rights
+        self.initial_rights[node.number] = self.rights[node] = line.rights
         return node
 
     def make_link(self, line: Line) -> Inode:
@@ -93,41 +99,41 @@ class Reading:
         target = line.fields['target'].encode('utf-8')
         node = self.names.add_file(line.fields['path'], len(target), SYMLINK)
         rights = line.fields['owner'], line.fields['group'], LINK_MODE
-        self.made_rights[node.number] = self.rights[node] = rights
-        self.made_data[node.number] = Data.of(self.block_size, len(target), [(0, target)])
+        self.initial_rights[node.number] = self.rights[node] = rights
+        data = Data.from_parts(self.block_size, len(target), [(0, target)])
+        self.initial_data[node.number] = data
         return node
 
     def make_directory(self, line: Line) -> Inode:
         """Makes the directory of a line, with its home, and returns it."""
         path = line.fields['path']
-        above, name = self.names.entry(path)
         node = self.names.add_directory(path)
-        self.homes[node.number] = f'{self.homes[above]}/{name}'
+        self.homes[node.number] = self.home_path(self.names.entry_at(path))
         self.rights[node] = line.rights
         return node
 
-    # The start tree: each of these adds what a `start` line of its kind has.
+    # Each of these adds what a `start` line of its kind has.
 
     def start_dir(self, line: Line) -> None:
-        """Adds a directory, with its rights."""
+        """Adds a directory, with its rights, also to the start tree."""
         node = self.make_directory(line)
-        self.start[self.names.entry(line.fields['path'])] = node
+        self.start[self.names.entry_at(line.fields['path'])] = node
         self.start_rights[node.number] = line.rights
 
     def start_file(self, line: Line) -> None:
-        """Adds a file, with its rights and bytes."""
+        """Adds a file, with its rights and bytes, also to the start tree."""
         node = self.make_file(line, line.length)
-        self.start[self.names.entry(line.fields['path'])] = node
-        self.made_data[node.number] = Data.of(self.block_size, line.length, line.parts)
+        self.start[self.names.entry_at(line.fields['path'])] = node
+        self.initial_data[node.number] = Data.from_parts(self.block_size, line.length, line.parts)
 
     def start_symlink(self, line: Line) -> None:
-        self.start[self.names.entry(line.fields['path'])] = self.make_link(line)
+        self.start[self.names.entry_at(line.fields['path'])] = self.make_link(line)
 
     def start_link(self, line: Line) -> None:
-        """Adds one more entry of a file, which must be there."""
-        node = self.names.need(line.fields['from'])
+        """Adds one more entry of a file, also to the start tree. The file must be there."""
+        node = self.names.require_inode(line.fields['from'])
         self.names.add_path(line.fields['path'], node)
-        self.start[self.names.entry(line.fields['path'])] = node
+        self.start[self.names.entry_at(line.fields['path'])] = node
 
     # Operations on entries: each of these adds what an `op` line of its kind does.
 
@@ -141,18 +147,18 @@ class Reading:
         self.add_creation(line, self.make_link(line))
 
     def add_creation(self, line: Line, node: Inode) -> None:
-        """Adds the micro-operation by which a line makes `node`, which make_file(), make_link() or
-        make_directory() returned for this line."""
+        """Adds the micro-operation by which a line makes `node`. It must have been made by
+        make_file(), make_link() or make_directory() for this line."""
         path, target = line.fields['path'], line.fields.get('target', '')
-        entry = self.names.entry(path)
+        entry = self.names.entry_at(path)
         self.operations.append(CreateEntry(path, entry, node, self.rights[node], target))
 
     def op_unlink(self, line: Line) -> None:
         """Adds the removal of an entry: of a file, a symbolic link or, for an rmdir, an empty
         directory."""
         path = line.fields['path']
-        entry = self.names.entry(path)
-        self.operations.append(DeleteEntry(path, entry, self.names.remove(path)))
+        entry = self.names.entry_at(path)
+        self.operations.append(DeleteEntry(path, entry, self.names.remove_path(path)))
 
     op_rmdir = op_unlink
 
@@ -160,26 +166,26 @@ class Reading:
         """Adds a rename. One onto itself, or onto a path of the same file, does nothing, as
         rename(2) has it. In version 4 with the profile `blocks`, a file or symbolic link goes into
         another directory in two halves."""
-        old, new = line.fields['from'], line.fields['to']
-        node, replaced = self.names.need(old), self.names.inode_at(new)
+        old_path, new_path = line.fields['from'], line.fields['to']
+        node, replaced = self.names.require_inode(old_path), self.names.inode_at(new_path)
         if node == replaced:
             return
-        entries = self.names.entry(old), self.names.entry(new)
-        self.names.move(old, new)
+        source, target = self.names.entry_at(old_path), self.names.entry_at(new_path)
+        self.names.move(old_path, new_path)
         is_whole = self.version < 4 or self.profile != 'blocks' or node.kind == DIRECTORY
-        if is_whole or entries[0][0] == entries[1][0]:
-            move = MoveEntry((old, new), entries, node, replaced, self.version >= 4)
+        if is_whole or source[0] == target[0]:
+            paths, has_node_field = (old_path, new_path), self.version >= 4
+            move = MoveEntry(paths, (source, target), node, replaced, has_node_field)
             self.operations.append(move)
         else:
-            self.operations.append(LinkEntry(new, entries[1], node, 1, replaced))
-            self.operations.append(DeleteEntry(old, entries[0], node, 2))
+            self.operations.append(LinkEntry(new_path, target, node, 1, replaced))
+            self.operations.append(DeleteEntry(old_path, source, node, 2))
 
     def op_link(self, line: Line) -> None:
-        """Adds one more entry of a file, with the micro-operation that a rename has as its first
-        half."""
-        node = self.names.need(line.fields['from'])
+        """Adds one more entry of a file, and the LinkEntry that makes it."""
+        node = self.names.require_inode(line.fields['from'])
         self.names.add_path(line.fields['to'], node)
-        entry = self.names.entry(line.fields['to'])
+        entry = self.names.entry_at(line.fields['to'])
         self.operations.append(LinkEntry(line.fields['to'], entry, node))
 
     # Operations on what files and directories are
@@ -188,58 +194,53 @@ class Reading:
         """Adds a write: a new size if it ends past the file's end, then its blocks. In version 4,
         if the file ends inside a page and the write past that page, the page's end is a size before
         the new one. A write of no bytes does nothing."""
-        number, at, data = (
-            self.names.file_number(line.fields['path']),
-            line.fields['offset'],
-            line.data,
-        )
-        end, size = at + len(data), self.names.sizes[number]
-        if data and end > size:
+        file_number = self.names.file_number_at(line.fields['path'])
+        begin, size = line.fields['offset'], self.names.sizes[file_number]
+        end = begin + len(line.data)
+        if line.data and end > size:
             if self.version >= 4 and size < page_end(size) < end:
-                self.change_size(number, page_end(size))
-            self.change_size(number, end)
-        self.write_blocks(number, at, data)
+                self.change_size(file_number, page_end(size))
+            self.change_size(file_number, end)
+        self.write_blocks(file_number, begin, line.data)
 
-    def write_blocks(self, number: int, at: int, data: bytes) -> None:
-        """Adds a micro-operation for each block that has some of these bytes at an offset; none if
+    def write_blocks(self, file_number: int, file_offset: int, data: bytes) -> None:
+        """Adds a micro-operation for each block of a file that gets some of these bytes; none if
         there are no bytes. The size stays."""
-        size = self.block_size
-        for block, begin, piece in split(at, data, size):
-            self.add_change(WriteBlock(number, block, size, begin, piece))
+        for block, offset, piece in split_by_blocks(file_offset, data, self.block_size):
+            self.add_change(WriteBlock(file_number, block, self.block_size, offset, piece))
 
     def op_truncate(self, line: Line) -> None:
         """Adds a truncate: a new size, unless the file has it. In version 4 a shorter file gets
         zeros first, from its new end to the end of that page, or to its old end if that comes
         first."""
-        number, length = self.names.file_number(line.fields['path']), line.fields['length']
-        size = self.names.sizes[number]
+        file_number = self.names.file_number_at(line.fields['path'])
+        length, size = line.fields['length'], self.names.sizes[file_number]
         if size == length:
             return
         if self.version >= 4:
-            zeros = min(page_end(length), size) - length
-            self.write_blocks(number, length, bytes(max(0, zeros)))
-        self.change_size(number, length)
+            zero_count = max(0, min(page_end(length), size) - length)
+            self.write_blocks(file_number, length, bytes(zero_count))
+        self.change_size(file_number, length)
 
-    def change_size(self, number: int, length: int) -> None:
-        """Sets the size of a file, given by its number, and adds the micro-operation that does
-        so."""
-        self.names.set_size(number, length)
-        self.add_change(ChangeSize(number, length))
+    def change_size(self, file_number: int, length: int) -> None:
+        """Sets the size of a file, and adds the micro-operation that does so."""
+        self.names.set_size(file_number, length)
+        self.add_change(ChangeSize(file_number, length))
 
     def op_chmod(self, line: Line) -> None:
         """Adds a change of the mode; owner and group stay."""
-        owner, group, _ = self.rights[self.names.need(line.fields['path'])]
+        owner, group, _ = self.rights[self.names.require_inode(line.fields['path'])]
         self.set_rights(line, (owner, group, line.fields['mode']))
 
     def op_chown(self, line: Line) -> None:
         """Adds a change of owner and group; the mode stays."""
-        mode = self.rights[self.names.need(line.fields['path'])][2]
+        mode = self.rights[self.names.require_inode(line.fields['path'])][2]
         self.set_rights(line, (line.fields['owner'], line.fields['group'], mode))
 
     def set_rights(self, line: Line, rights: Rights) -> None:
         """Adds the micro-operation that sets owner, group and mode of a line's path, unless they
         are so already. Of a directory it has the line's path, of a file the oldest."""
-        node = self.names.need(line.fields['path'])
+        node = self.names.require_inode(line.fields['path'])
         if self.rights[node] == rights:
             return
         self.rights[node] = rights
@@ -256,46 +257,45 @@ class Reading:
 
     def op_fsync(self, line: Line) -> None:
         """Adds the sync point of a file or of a directory."""
-        node = self.names.need(line.fields['path'])
-        made = DirectorySync if node.kind == DIRECTORY else FileSync
-        self.syncs.append(made(len(self.operations), node.number))
+        node = self.names.require_inode(line.fields['path'])
+        sync_type = DirectorySync if node.kind == DIRECTORY else FileSync
+        self.syncs.append(sync_type(len(self.operations), node.number))
 
     def op_fdatasync(self, line: Line) -> None:
-        number = self.names.file_number(line.fields['path'])
-        self.syncs.append(DataSync(len(self.operations), number))
+        file_number = self.names.file_number_at(line.fields['path'])
+        self.syncs.append(DataSync(len(self.operations), file_number))
 
     def op_fsync_range(self, line: Line) -> None:
         """Adds the sync point of a range of a file, which may end above 2^64 - 1."""
-        number = self.names.file_number(line.fields['path'])
+        file_number = self.names.file_number_at(line.fields['path'])
         offset, length = line.fields['offset'], line.fields['length']
-        self.syncs.append(RangeSync(len(self.operations), number, offset, length))
+        self.syncs.append(RangeSync(len(self.operations), file_number, offset, length))
 
     def op_sync(self, line: Line) -> None:
         self.syncs.append(SyncPoint(len(self.operations)))
 
 
 def page_end(length: int) -> int:
-    """The end of the page in which a length ends: the length itself if it is whole pages, as 0
-    is."""
+    """A length, rounded up to whole pages. 0 stays 0."""
     return -(-length // PAGE_BYTES) * PAGE_BYTES
 
 
-def read(data: bytes) -> Reading:
-    """Reads the bytes of a trace. ReadingFault with its first fault: no UTF-8, a line's fault, no
-    header, or, after all lines are read, more than MICRO_OPERATIONS micro-operations."""
+def parse_trace(data: bytes) -> Reading:
+    """The trace that these bytes are. ReadingFault with its first fault: no UTF-8, a fault of a
+    line, no header, or, after all lines are read, more than MICRO_OPERATIONS micro-operations."""
     try:
         text = data.decode('utf-8')
     except UnicodeDecodeError as error:
         raise ReadingFault('trace: NotText') from error
-    reading, lines = Reading(), LineJudge()
+    reading, line_reader = Reading(), LineReader()
     for number, line in enumerate(text.split('\n'), 1):
         if line.strip(BLANKS):
             try:
-                reading.read_line(lines.read(number, line))
+                reading.read_line(line_reader.read_line(number, line))
             except LineFault as fault:
-                raise fault.at(number) from fault
-    if not lines.version:
-        raise syntax('the trace is empty').at(1)
+                raise fault.as_reading_fault(number) from fault
+    if not line_reader.version:
+        raise syntax_fault('the trace is empty').as_reading_fault(1)
     if len(reading.operations) > MICRO_OPERATIONS:
         raise ReadingFault('too many micro-operations')
     return reading

@@ -1,4 +1,5 @@
-"""Reads the arguments of a call as strace prints them with -y and -xx: texts by numbers."""
+"""Parses the arguments of a call as strace prints them with -y and -xx, which shows each byte of a
+string in hexadecimal digits. An argument in this form is a `word`."""
 
 from __future__ import annotations
 
@@ -7,7 +8,7 @@ from binascii import unhexlify
 from dataclasses import dataclass
 from typing import List, Optional
 
-SIGN = re.compile(r'[",()\[\]{}]')
+MARK = re.compile(r'[",()\[\]{}]')
 DESCRIPTOR = re.compile(r'^(-?\d+|AT_FDCWD|0x[0-9a-f]+)(?:<(.*)>)?(\(deleted\))?$', re.S)
 PIECE = re.compile(r'iov_base=("[^"]*"(?:\.\.\.)?|0x[0-9a-f]+|NULL)')
 CURRENT_DIRECTORY = -100
@@ -24,113 +25,113 @@ class LogError(Exception):
 
 @dataclass(frozen=True)
 class Descriptor:
-    """A descriptor's number, what strace shows for it, as a path or `pipe:[7]`, and whether that
-    is unlinked."""
+    """A descriptor's number, what strace shows for it, as a path or `pipe:[7]` (None if it shows
+    nothing), and whether its file is unlinked."""
 
     number: int
     text: Optional[str]
-    deleted: bool
+    is_deleted: bool
 
     @property
     def path(self) -> Optional[str]:
-        """The path; None for a socket, a pipe and such."""
+        """The path of its file; None if strace shows none, as for a socket or a pipe."""
         return self.text if self.text is not None and self.text.startswith('/') else None
 
 
 def split_arguments(text: str) -> List[str]:
     """The arguments of a call, from the text between its brackets: it is split at the commas
-    outside of inner brackets and texts. An empty text is one empty argument."""
-    words, depth, last = [], 0, 0
-    match = SIGN.search(text)
+    outside of inner brackets and strings, and blanks around an argument are left out. An empty text
+    is one empty argument."""
+    words, depth, start = [], 0, 0
+    match = MARK.search(text)
     while match:
-        sign, place = match[0], match.end()
-        if sign == '"':
-            place = end_of_text(text, place)
-        elif sign == ',' and depth == 0:
-            words.append(text[last : match.start()].strip())
-            last = place
-        elif sign in '([{':
+        mark, position = match[0], match.end()
+        if mark == '"':
+            position = end_of_string(text, position)
+        elif mark == ',' and depth == 0:
+            words.append(text[start : match.start()].strip())
+            start = position
+        elif mark in '([{':
             depth += 1
-        elif sign in ')]}':
+        elif mark in ')]}':
             depth -= 1
-        match = SIGN.search(text, place)
-    words.append(text[last:].strip())
+        match = MARK.search(text, position)
+    words.append(text[start:].strip())
     return words
 
 
-def end_of_text(text: str, place: int) -> int:
-    """The place after the quotation mark that ends a text, whose first byte is at `place`; the end
-    of all arguments if there is none. Its bytes are numbers, so no such mark is inside it."""
-    end = text.find('"', place)
+def end_of_string(text: str, start: int) -> int:
+    """The position after the closing quotation mark of a string whose content begins at `start`;
+    the end of the text if there is no such mark. The content is in hexadecimal digits, so it has
+    no quotation mark."""
+    end = text.find('"', start)
     return len(text) if end < 0 else end + 1
 
 
-def from_numbers(text: str) -> bytes:
-    r"""The bytes of a text such as `\x61\x62`; LogError for any other."""
-    signs, count = text.encode('ascii', 'replace'), len(text) // 4
-    if len(text) % 4 or signs[::4] != b'\\' * count or signs[1::4] != b'x' * count:
+def parse_escapes(text: str) -> bytes:
+    r"""The bytes of a text such as `\x61\x62`; LogError if it has anything else."""
+    letters, count = text.encode('ascii', 'replace'), len(text) // 4
+    if len(text) % 4 or letters[::4] != b'\\' * count or letters[1::4] != b'x' * count:
         raise LogError
     digits = bytearray(2 * count)
-    digits[::2], digits[1::2] = signs[2::4], signs[3::4]
+    digits[::2], digits[1::2] = letters[2::4], letters[3::4]
     try:
         return unhexlify(digits)
     except ValueError:
         raise LogError from None
 
 
-def packed_word(word: str) -> str:
-    """A text, or a vector of texts, in a quarter of its size: after PACKED each byte is one letter.
-    Any other argument is returned unchanged, also one that strace cut."""
+def pack_word(word: str) -> str:
+    """A string argument, or a vector of strings, in a quarter of its size: PACKED, then a letter
+    for each byte. Returns the word unchanged if it is neither, if strace cut it, or if it isn't as
+    strace writes it."""
+    if '"' not in word:
+        return word
     try:
-        found = (
-            bytes_of_text(word)
-            if word.startswith('"')
-            else bytes_of_vector(word)
-            if '"' in word
-            else None
-        )
+        data = parse_bytes(word) if word.startswith('"') else parse_vector(word)
     except LogError:
         return word
-    return word if found is None else PACKED + found.decode('latin-1')
+    return word if data is None else PACKED + data.decode('latin-1')
 
 
-def unpacked_bytes(word: str) -> Optional[bytes]:
-    """The bytes of an argument that was packed; None for any other."""
+def unpack_word(word: str) -> Optional[bytes]:
+    """The bytes of an argument that pack_word() packed; None if it isn't packed."""
     return word[len(PACKED) :].encode('latin-1') if word.startswith(PACKED) else None
 
 
-def bytes_of_text(word: str) -> Optional[bytes]:
-    """The bytes of an argument that is a text, also a packed one. None for one that strace cut or
-    printed as an address; LogError for a text whose bytes aren't numbers."""
+def parse_bytes(word: str) -> Optional[bytes]:
+    """The bytes of a string argument, packed or not. None if strace cut it, or printed something
+    else, such as an address; LogError if its bytes aren't in hexadecimal digits."""
     if word.startswith(PACKED):
-        return unpacked_bytes(word)
+        return unpack_word(word)
     if not word.startswith('"') or word.endswith('...'):
         return None
-    return from_numbers(word[1:-1])
+    return parse_escapes(word[1:-1])
 
 
-def path_of_text(word: str) -> Optional[str]:
-    """The path in an argument; bytes that are not UTF-8 become surrogates, as in os.fsdecode. None
-    if strace cut it or printed an address; LogError as in bytes_of_text()."""
-    raw = bytes_of_text(word)
-    return None if raw is None else raw.decode('utf-8', 'surrogateescape')
+def parse_path(word: str) -> Optional[str]:
+    """The path in a string argument; bytes that are not UTF-8 become surrogates, as in os.fsdecode.
+    None and LogError as in parse_bytes()."""
+    data = parse_bytes(word)
+    return None if data is None else data.decode('utf-8', 'surrogateescape')
 
 
-def shown_text(text: Optional[str]) -> Optional[str]:
-    """What strace shows between `<` and `>` after a descriptor, as text: a path, which it prints in
-    numbers, or such as `pipe:[7]`, which stays. None stays None; LogError for numbers that are
-    cut."""
-    if not text or not text.startswith('\\x'):
-        return text
-    return from_numbers(text).decode('utf-8', 'surrogateescape')
+def parse_shown_text(shown: Optional[str]) -> Optional[str]:
+    """What strace shows between `<` and `>` after a descriptor: a path, which it prints in
+    hexadecimal digits, or a text such as `pipe:[7]`, which stays as it is. None for None; LogError
+    if the digits are cut."""
+    if not shown or not shown.startswith('\\x'):
+        return shown
+    return parse_escapes(shown).decode('utf-8', 'surrogateescape')
 
 
-def shown_path(text: Optional[str]) -> Optional[str]:
-    """The path that strace shows between `<` and `>`; None for a socket, a pipe and such."""
-    return Descriptor(-1, shown_text(text), False).path
+def parse_shown_path(shown: Optional[str]) -> Optional[str]:
+    """The path that strace shows between `<` and `>` after a descriptor; None if it shows nothing
+    (None), or something else, such as a pipe. LogError as in parse_shown_text()."""
+    return Descriptor(-1, parse_shown_text(shown), is_deleted=False).path
 
 
-def integer(word: str) -> int:
+def parse_integer(word: str) -> int:
     """The number in an argument, decimal or `0x..`; LogError for an argument that is none."""
     try:
         return int(word, 16) if word.startswith('0x') else int(word)
@@ -138,49 +139,51 @@ def integer(word: str) -> int:
         raise LogError from None
 
 
-def octal(word: str) -> int:
-    """The number in an argument of octal digits, as a mode; LogError for an argument that is
-    none."""
+def parse_octal(word: str) -> int:
+    """The number in an argument that is written in octal digits, such as a mode; LogError for an
+    argument that isn't."""
     try:
         return int(word, 8)
     except ValueError:
         raise LogError from None
 
 
-def descriptor(word: str) -> Descriptor:
+def parse_descriptor(word: str) -> Descriptor:
     """The descriptor in an argument, with what strace shows for it. Its number is CURRENT_DIRECTORY
-    for AT_FDCWD, and -1 for an argument that is no descriptor, also for an empty one."""
+    for AT_FDCWD, and -1 for an argument that is no descriptor, also for an empty one. LogError as
+    in parse_shown_text()."""
     match = DESCRIPTOR.match(word)
     if not match:
-        return Descriptor(-1, None, False)
-    number = CURRENT_DIRECTORY if match[1] == 'AT_FDCWD' else integer(match[1])
-    return Descriptor(number, shown_text(match[2]), bool(match[3]))
+        return Descriptor(-1, None, is_deleted=False)
+    number = CURRENT_DIRECTORY if match[1] == 'AT_FDCWD' else parse_integer(match[1])
+    return Descriptor(number, parse_shown_text(match[2]), is_deleted=bool(match[3]))
 
 
-def bytes_of_vector(word: str) -> Optional[bytes]:
-    """The bytes of all pieces in an argument of writev, in one; also of a packed one. None if
-    strace cut a piece; empty if it shows none."""
+def parse_vector(word: str) -> Optional[bytes]:
+    """The bytes of all pieces in a vector, as writev takes it, packed or not; only of the first
+    pieces if strace shows no others. Empty if it shows none; None if strace cut a piece, or printed
+    its address. LogError as in parse_bytes()."""
     if word.startswith(PACKED):
-        return unpacked_bytes(word)
-    pieces = [b'' if text == 'NULL' else bytes_of_text(text) for text in PIECE.findall(word)]
-    whole = [piece for piece in pieces if piece is not None]
-    return b''.join(whole) if len(whole) == len(pieces) else None
+        return unpack_word(word)
+    pieces = [b'' if text == 'NULL' else parse_bytes(text) for text in PIECE.findall(word)]
+    known_pieces = [piece for piece in pieces if piece is not None]
+    return b''.join(known_pieces) if len(known_pieces) == len(pieces) else None
 
 
-def bytes_of_messages(word: str) -> Optional[bytes]:
-    """The bytes of the messages in an argument of sendmmsg, each as far as it was sent, in one.
-    None if strace cut one, or doesn't show how much of it was sent."""
-    found = b''
-    for one in word.split('msg_hdr=')[1:]:
-        whole, sent = bytes_of_vector(one), re.search(r'msg_len=(\d+)', one)
-        if whole is None or sent is None:
+def parse_messages(word: str) -> Optional[bytes]:
+    """The bytes of all messages in an argument of sendmmsg, each as far as it was sent. None if
+    strace cut one, or doesn't show how much of it was sent. LogError as in parse_bytes()."""
+    sent = b''
+    for message in word.split('msg_hdr=')[1:]:
+        data, length = parse_vector(message), re.search(r'msg_len=(\d+)', message)
+        if data is None or length is None:
             return None
-        found += whole[: int(sent[1])]
-    return found
+        sent += data[: int(length[1])]
+    return sent
 
 
-def offset_in_cell(word: str) -> Optional[int]:
-    """The number in an argument that is the address of one, as `[42]`; of `[42] => [45]` the first,
-    which was there before the call. None if it isn't shown so, as for NULL."""
+def parse_cell(word: str) -> Optional[int]:
+    """The number that an address in an argument points to, as in `[42]`; of `[42] => [45]` the
+    first, which is the one before the call. None if strace shows no number, as for NULL."""
     match = re.match(r'\[(\d+)', word)
     return int(match[1]) if match else None

@@ -1,4 +1,4 @@
-"""Scans a directory on the disk: what a trace can have of it, and what it can't."""
+"""Scans a directory on the disk for what a trace can have of it, and what it can't."""
 
 from __future__ import annotations
 
@@ -10,11 +10,12 @@ from dataclasses import dataclass, field
 from typing import Callable, Dict, List, Tuple, Union
 
 from crashfs_tools.common import limits
-from crashfs_tools.common.file_bytes import file_bytes
+from crashfs_tools.common.file_bytes import read_file_bytes
 from crashfs_tools.common.trace import Header, Start, StartSymlink
 from crashfs_tools.common.tree import path_fault
 
-Ignored = Callable[[str], bool]
+# Returns whether a path of the directory is left out.
+IsIgnored = Callable[[str], bool]
 ScannedEntry = Union[Start, StartSymlink]
 # The newest version of a trace.
 NEWEST = 4
@@ -22,15 +23,16 @@ NEWEST = 4
 
 @dataclass
 class Scan:
-    """The entries of a directory, each after its own directory. links gives, for each further path
-    of a file, its first one; left_out and noted have (path, why), and what is noted changes no
-    verdict; attributes has the extended ones of each path that has some."""
+    """The entries of a directory, each after its own directory. links has, by each further path of
+    a file, its first one. omissions are entries that no trace has, each as a path and the reason;
+    notes are the same of what changes no verdict on a crash state. attributes has the extended ones
+    of each path that has some."""
 
     header: Header
     entries: List[ScannedEntry] = field(default_factory=list)
     links: Dict[str, str] = field(default_factory=dict)
-    left_out: List[Tuple[str, str]] = field(default_factory=list)
-    noted: List[Tuple[str, str]] = field(default_factory=list)
+    omissions: List[Tuple[str, str]] = field(default_factory=list)
+    notes: List[Tuple[str, str]] = field(default_factory=list)
     attributes: Dict[str, Dict[str, bytes]] = field(default_factory=dict)
 
 
@@ -55,90 +57,95 @@ def permission_bits(status: os.stat_result) -> int:
     return status.st_mode & 0o777
 
 
-def scan_directory(top: str, ignored: Ignored, version: int = NEWEST) -> Scan:
-    """What traces of a version can have of a directory, and what they can't; ignored paths are left
-    out. OSError if something can't be read."""
-    return Scanner(top, ignored, version).scan_all()
+def scan_directory(top: str, is_ignored: IsIgnored, version: int = NEWEST) -> Scan:
+    """What traces of a version can have of the directory `top`, and what they can't. Ignored paths,
+    and what is below them, are left out. OSError if an entry can't be read, or is removed
+    meanwhile."""
+    return Scanner(top, is_ignored, version).scan_all()
 
 
 class Scanner:
-    """Reads a directory. By device and inode, firsts has the first path of each file with several
-    names, and unseen how many of its names were not found yet."""
+    """Reads a directory into `scan`. For each file with several names, by its device and inode,
+    first_paths has the path that was found first, and unseen_names how many of its names were not
+    found yet."""
 
-    def __init__(self, top: str, ignored: Ignored, version: int) -> None:
-        """Reads the owner, group and mode of the directory itself; its entries are read by
-        scan_all(). OSError if it isn't there."""
-        self.top, self.ignored, self.version = top, ignored, version
+    def __init__(self, top: str, is_ignored: IsIgnored, version: int) -> None:
+        """Reads the owner, group and mode of the directory itself; scan_all() reads its entries.
+        OSError if it isn't there."""
+        self.top, self.is_ignored, self.version = top, is_ignored, version
         status = os.stat(top)
-        self.found = Scan(
+        self.scan = Scan(
             Header(user_name(status.st_uid), group_name(status.st_gid), permission_bits(status))
         )
-        self.firsts: Dict[Tuple[int, int], str] = {}
-        self.unseen: Dict[Tuple[int, int], int] = {}
+        self.first_paths: Dict[Tuple[int, int], str] = {}
+        self.unseen_names: Dict[Tuple[int, int], int] = {}
 
     def scan_all(self) -> Scan:
-        """Scans the whole directory; to be called once. A file that has a further name, outside the
-        directory or at a path that is left out, is noted."""
+        """Scans the whole directory, and returns the scan; to be called once. A file that also has
+        a name outside the directory, or an ignored one, is noted. OSError if an entry can't be
+        read, or is removed meanwhile."""
         self.scan_below('')
-        for inode, path in self.firsts.items():
-            if self.unseen[inode] > 0:
-                self.found.noted.append((path, 'that it has a name outside the directory'))
-        return self.found
+        for inode, path in self.first_paths.items():
+            if self.unseen_names[inode] > 0:
+                self.scan.notes.append((path, 'that it has a name outside the directory'))
+        return self.scan
 
-    def scan_below(self, base: str) -> None:
-        """Adds the entries of a directory, in the order of their names, and what is below them. Its
-        path in the scan is `base`, which is empty for the root."""
-        with os.scandir(self.top + base) as listed:
+    def scan_below(self, parent: str) -> None:
+        """Adds the entries of a directory that aren't ignored, in the order of their names, and
+        what is below them. `parent` is its path in the scan, but empty for the root. OSError as in
+        scan_all()."""
+        with os.scandir(self.top + parent) as listed:
             names = sorted(entry.name for entry in listed)
         for name in names:
-            path = f'{base}/{name}'
-            if not self.ignored(path):
+            path = f'{parent}/{name}'
+            if not self.is_ignored(path):
                 self.add_entry(path, os.lstat(self.top + path))
 
     def add_entry(self, path: str, status: os.stat_result) -> None:
-        """Adds the entry at a path, and what is below it. If a trace can't have it, it is left out,
-        with all below it, and the reason is kept. Mode bits beyond 777 are only noted."""
+        """Adds the entry at a path, and what is below it; status is the entry's own. If a trace
+        can't have it, it is an omission, and nothing below it is added. Mode bits beyond 777 are
+        only noted. OSError as in scan_all()."""
         fault = path_fault(path) or self.kind_fault(path, status)
         if fault:
-            self.found.left_out.append((path, fault))
+            self.scan.omissions.append((path, fault))
             return
-        odd_bits = stat.S_IMODE(status.st_mode) & ~0o777
-        if odd_bits:
-            self.found.noted.append((path, f'its mode bits {odd_bits:o}, beyond 777'))
-        attributes = attributes_of(self.top + path)
+        extra_bits = stat.S_IMODE(status.st_mode) & ~0o777
+        if extra_bits:
+            self.scan.notes.append((path, f'its mode bits {extra_bits:o}, beyond 777'))
+        attributes = read_attributes(self.top + path)
         if attributes:
-            self.found.attributes[path] = attributes
+            self.scan.attributes[path] = attributes
         if stat.S_ISREG(status.st_mode) and status.st_nlink > 1:
             self.note_link(path, status)
-        self.found.entries.append(scanned_entry(self.top, path, status))
+        self.scan.entries.append(read_entry(self.top, path, status))
         if stat.S_ISDIR(status.st_mode):
             self.scan_below(path)
 
     def kind_fault(self, path: str, status: os.stat_result) -> str:
-        """Why a trace of the version can't have a file of this kind or size; an empty text if it
-        can."""
+        """Why a trace of the version can't have a file of the kind and size in its status; empty if
+        it can. OSError if it is a symbolic link that was removed meanwhile."""
         if stat.S_ISDIR(status.st_mode):
             return ''
         if stat.S_ISLNK(status.st_mode) and self.version >= NEWEST:
             return target_fault(os.readlink(self.top + path))
         if not stat.S_ISREG(status.st_mode):
-            return kind_left_out(status.st_mode)
+            return name_of_omitted_kind(status.st_mode)
         most = limits.most_file_bytes(self.version)
         return f'a file of more than {most} bytes' if status.st_size > most else ''
 
     def note_link(self, path: str, status: os.stat_result) -> None:
-        """Counts a path of a file that has several. The first one found is the file's own; each
-        later one is noted as a link to that."""
+        """Counts a path of a file that has several names. A path that isn't the first is added to
+        the scan's links."""
         inode = status.st_dev, status.st_ino
-        first = self.firsts.setdefault(inode, path)
-        self.unseen[inode] = self.unseen.get(inode, status.st_nlink) - 1
-        if first != path:
-            self.found.links[path] = first
+        first_path = self.first_paths.setdefault(inode, path)
+        self.unseen_names[inode] = self.unseen_names.get(inode, status.st_nlink) - 1
+        if first_path != path:
+            self.scan.links[path] = first_path
 
 
-def attributes_of(path: str) -> Dict[str, bytes]:
-    """The extended attributes of a file, or of a symbolic link itself, by their names; empty if
-    they can't be read."""
+def read_attributes(path: str) -> Dict[str, bytes]:
+    """The extended attributes of a file, or of a symbolic link itself, by their names. Empty if one
+    of them can't be read, or if the file system has none."""
     try:
         names = os.listxattr(path, follow_symlinks=False)
         return {name: os.getxattr(path, name, follow_symlinks=False) for name in names}
@@ -146,9 +153,9 @@ def attributes_of(path: str) -> Dict[str, bytes]:
         return {}
 
 
-def kind_left_out(mode: int) -> str:
-    """What a file is, by its mode, that a trace leaves out for its kind: `a socket` and such, `a
-    device` for all others."""
+def name_of_omitted_kind(mode: int) -> str:
+    """The kind of a file that a trace can't have, in words, by the file's mode: `a symbolic link`,
+    `a socket`, `a named pipe`, and `a device` for any other."""
     kinds = {
         stat.S_IFLNK: 'a symbolic link',
         stat.S_IFSOCK: 'a socket',
@@ -158,8 +165,7 @@ def kind_left_out(mode: int) -> str:
 
 
 def target_fault(target: str) -> str:
-    """Why a trace can't have a symbolic link with this target, whatever its version; an empty text
-    if it can."""
+    """Why no version of a trace can have a symbolic link with this target; empty if one can."""
     try:
         target.encode()
     except UnicodeEncodeError:
@@ -167,14 +173,14 @@ def target_fault(target: str) -> str:
     return ''
 
 
-def scanned_entry(top: str, path: str, status: os.stat_result) -> ScannedEntry:
-    """A file, directory or symbolic link as a start line of a trace, with all its bytes; status is
-    its own. OSError if it can't be read."""
+def read_entry(top: str, path: str, status: os.stat_result) -> ScannedEntry:
+    """A file, directory or symbolic link of the directory `top` as a start line of a trace, with
+    all its bytes; status is its own. OSError if it can't be read."""
     owner, group = user_name(status.st_uid), group_name(status.st_gid)
     if stat.S_ISLNK(status.st_mode):
         return StartSymlink(path, owner, group, os.readlink(top + path))
     data = None
     if stat.S_ISREG(status.st_mode):
         with open(top + path, 'rb', buffering=0) as file:
-            data = file_bytes(file.fileno())
+            data = read_file_bytes(file.fileno())
     return Start(path, owner, group, permission_bits(status), data)

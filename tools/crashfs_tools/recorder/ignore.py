@@ -1,34 +1,36 @@
-"""Which paths --ignore leaves out: the rules of .gitignore. `?` and sets match a letter, in git a
-byte: they differ for letters beyond ASCII."""
+"""Finds the paths that --ignore leaves out, by the rules of .gitignore. `?` and sets match a
+letter, but in git a byte: they differ for letters beyond ASCII."""
 
 from __future__ import annotations
 
 import os
 import re
 from dataclasses import dataclass
-from typing import List, Optional, Tuple
+from typing import Dict, List, Optional, Tuple
 
 
 @dataclass(frozen=True)
 class Rule:
-    """One pattern. One that has a slash at its end matches only directories, and one with `!` takes
-    back what those before it left out."""
+    """A pattern as a regular expression. is_of_directories means that it has a slash at its end: it
+    matches directories only. is_negated means that it begins with `!`: a path that it matches is
+    not left out by those before it."""
 
-    pattern: re.Pattern[str]
-    negates: bool
-    directories: bool
+    regex: re.Pattern[str]
+    is_negated: bool
+    is_of_directories: bool
 
     @staticmethod
-    def of_glob(glob: str) -> Rule:
+    def parse(pattern: str) -> Rule:
         """The rule of a pattern; ValueError for one that never matches in git, such as `[a`. A
-        pattern without a slash, or with one only at its end, matches at any depth."""
-        negates = glob.startswith('!')
-        body = glob[1:] if negates else glob
-        directories = body.endswith('/')
+        pattern without a slash, or with one only at its end, matches at any depth. Blanks, and a
+        `#` at its beginning, are letters of it."""
+        is_negated = pattern.startswith('!')
+        body = pattern[1:] if is_negated else pattern
+        is_of_directories = body.endswith('/')
         body = body.rstrip('/')
-        anchored = '/' in body
-        pattern = ('' if anchored else '(?:.*/)?') + regex_of(body.lstrip('/'))
-        return Rule(re.compile(pattern, re.S), negates, directories)
+        is_anchored = '/' in body
+        regex = ('' if is_anchored else '(?:.*/)?') + translate_pattern(body.lstrip('/'))
+        return Rule(re.compile(regex, re.S), is_negated, is_of_directories)
 
 
 # A letter of a set, the first and the last of several, or a class of POSIX.
@@ -53,103 +55,110 @@ CLASSES = {
 }
 
 
-def regex_of(glob: str) -> str:
-    """A pattern, without `!` and without a slash at its ends, as a regular expression. It raises
-    what read_piece() does."""
-    found, place = '', 0
-    while place < len(glob):
-        regex, place = read_piece(glob, place)
-        found += regex
-    return found
+def translate_pattern(pattern: str) -> str:
+    """A pattern, without `!` and without a slash at its ends, as a regular expression. ValueError
+    as in translate_piece()."""
+    regex, position = '', 0
+    while position < len(pattern):
+        piece_regex, position = translate_piece(pattern, position)
+        regex += piece_regex
+    return regex
 
 
-def read_piece(glob: str, place: int) -> Tuple[str, int]:
-    """What begins at a place of a pattern, as a regular expression, and the place after it. `?` and
-    sets match no slash; a backslash makes the next letter an ordinary one. ValueError for a
-    backslash at the end; it also raises what read_set() does."""
-    if glob[place] == '*':
-        return read_stars(glob, place)
-    if glob[place] == '[':
-        return read_set(glob, place)
-    if glob[place] == '?':
-        return '[^/]', place + 1
-    place += glob[place] == '\\'
-    if place == len(glob):
-        raise ValueError(f'{glob} ends in a backslash')
-    return re.escape(glob[place]), place + 1
+def translate_piece(pattern: str, position: int) -> Tuple[str, int]:
+    """The piece that begins at a position of a pattern, as a regular expression, and the position
+    after it. `?` and sets match no slash; a backslash makes the next letter an ordinary one.
+    ValueError for a backslash at the end, and as in translate_set()."""
+    if pattern[position] == '*':
+        return translate_stars(pattern, position)
+    if pattern[position] == '[':
+        return translate_set(pattern, position)
+    if pattern[position] == '?':
+        return '[^/]', position + 1
+    position += pattern[position] == '\\'
+    if position == len(pattern):
+        raise ValueError(f'{pattern} ends in a backslash')
+    return re.escape(pattern[position]), position + 1
 
 
-def read_stars(glob: str, place: int) -> Tuple[str, int]:
-    """Stars in the form of read_piece. Two or more between slashes match any names, with the slash
-    after them, or none; within a name they match what one star does: no slash."""
-    rest = glob[place:].lstrip('*')
-    end = len(glob) - len(rest)
-    has_ends = glob[:place][-1:] in ('', '/') and (not rest or rest.startswith(('/', '\\/')))
-    if end - place == 1 or not has_ends:
+def translate_stars(pattern: str, position: int) -> Tuple[str, int]:
+    """All stars at a position of a pattern; returns what translate_piece() does. Two or more
+    between slashes match any names, with the slash after them, or none. Others match what one star
+    does: any letters but a slash."""
+    after_stars = pattern[position:].lstrip('*')
+    end = len(pattern) - len(after_stars)
+    is_after_slash = pattern[:position][-1:] in ('', '/')
+    is_before_slash = not after_stars or after_stars.startswith(('/', '\\/'))
+    if end - position == 1 or not (is_after_slash and is_before_slash):
         return '[^/]*', end
-    return ('(?:.*/)?', end + 1) if rest[:1] == '/' else ('.*', end)
+    return ('(?:.*/)?', end + 1) if after_stars[:1] == '/' else ('.*', end)
 
 
-def read_set(glob: str, place: int) -> Tuple[str, int]:
-    """A set of letters in the form of read_piece. A `]` that is its first letter belongs to it.
-    ValueError for a set without an end, or with an unknown class."""
-    start = place + 1
-    is_negative = glob[start : start + 1] in ('!', '^')
+def translate_set(pattern: str, position: int) -> Tuple[str, int]:
+    """The set of letters at a position of a pattern; returns what translate_piece() does. A `]`
+    that is its first letter belongs to it. ValueError for a set without an end, or with an unknown
+    class."""
+    start = position + 1
+    is_negative = pattern[start : start + 1] in ('!', '^')
     start += is_negative
-    end, found = start, ''
-    while end == start or glob[end : end + 1] != ']':
-        item = ITEM.match(glob, end)
+    end, items = start, ''
+    while end == start or pattern[end : end + 1] != ']':
+        item = ITEM.match(pattern, end)
         if item is None:
-            raise ValueError(f'{glob}: the set {glob[place:]} has no end')
-        found += regex_of_item(glob, item)
+            raise ValueError(f'{pattern}: the set {pattern[position:]} has no end')
+        items += translate_item(pattern, item)
         end = item.end()
-    return f'(?!/)[{"^" * is_negative}{found}]', end + 1
+    return f'(?!/)[{"^" * is_negative}{items}]', end + 1
 
 
-def regex_of_item(glob: str, item: re.Match[str]) -> str:
-    """An item of a set, in a regular expression's set. Of a range in the wrong order, as `z-a`, git
-    takes the first letter only. ValueError for an unknown class."""
+def translate_item(pattern: str, item: re.Match[str]) -> str:
+    """An item of a set, by the match of ITEM, as a part of a regular expression's set. Of a range
+    in the wrong order, as `z-a`, only the first letter counts, as in git. ValueError for an unknown
+    class."""
     if item['name'] is not None:
         if item['name'] not in CLASSES:
-            raise ValueError(f'{glob}: {item[0]} is no class of letters')
+            raise ValueError(f'{pattern}: {item[0]} is no class of letters')
         return CLASSES[item['name']]
     first, last = item['first'][-1], (item['last'] or '')[-1:]
     return re.escape(first) + (f'-{re.escape(last)}' if first < last else '')
 
 
 class Ignore:
-    """All patterns. The last that matches a path decides, and what is below an ignored directory is
-    ignored, too."""
+    """All patterns of --ignore. The last one that matches a path decides, and what is below an
+    ignored directory is ignored, too. answers has what was returned for each path."""
 
-    def __init__(self, globs: List[str], top: Optional[str] = None) -> None:
-        """Reads the patterns; ValueError for one that never matches in git. top is the directory on
-        the disk, to see which paths are files; without it, patterns of directories match all
+    def __init__(self, patterns: List[str], top: Optional[str] = None) -> None:
+        """Parses the patterns; ValueError for one that never matches in git. top is the directory
+        on the disk, to see which paths are files; without it, patterns of directories match all
         paths."""
-        self.rules = [Rule.of_glob(glob) for glob in globs]
+        self.rules = [Rule.parse(pattern) for pattern in patterns]
         self.top = top
-        self.known: dict[str, bool] = {}
+        self.answers: Dict[str, bool] = {}
 
     def __call__(self, path: str) -> bool:
         """Whether a path, or a directory above it, is left out. The first answer for a path is
         kept, also if the file becomes a directory later."""
         if not self.rules:
             return False
-        if path not in self.known:
+        if path not in self.answers:
             parent = path.rpartition('/')[0]
-            self.known[path] = bool(parent) and self(parent) or self.leaves_out(path)
-        return self.known[path]
+            self.answers[path] = bool(parent) and self(parent) or self.is_left_out(path)
+        return self.answers[path]
 
-    def leaves_out(self, path: str) -> bool:
-        """Whether the last pattern that matches a path leaves it out; directories above it aren't
-        looked at. No pattern matches the root, whose syncs count."""
-        name, ignored = path.strip('/'), False
-        for rule in self.rules if name else []:
-            may_match = not rule.directories or not self.is_file(path)
-            if may_match and rule.pattern.fullmatch(name):
-                ignored = not rule.negates
-        return ignored
+    def is_left_out(self, path: str) -> bool:
+        """Whether the last pattern that matches a path leaves it out; directories above it don't
+        count. Patterns of directories look at the disk. No pattern matches the root, as its syncs
+        are needed."""
+        names, is_left_out = path.strip('/'), False
+        if not names:
+            return False
+        for rule in self.rules:
+            may_match = not rule.is_of_directories or not self.is_file(path)
+            if may_match and rule.regex.fullmatch(names):
+                is_left_out = not rule.is_negated
+        return is_left_out
 
     def is_file(self, path: str) -> bool:
-        """Whether a path is a plain file on the disk now, which no pattern of directories
-        matches."""
+        """Whether a path is a plain file on the disk now, or a link to one, which no pattern of
+        directories matches. False if nothing is there, or if `top` isn't known."""
         return self.top is not None and os.path.isfile(self.top + path)

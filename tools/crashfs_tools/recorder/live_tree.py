@@ -7,45 +7,58 @@ from typing import Dict, List, Optional, Set, Union
 
 from crashfs_tools.common import limits
 from crashfs_tools.common.sparse import SparseBytes
+from crashfs_tools.common.trace import StartSymlink
 
-# What a write floats on that goes to the file's end.
+from .directory import ScannedEntry
+
+# The offset source of a write that goes to the file's end.
 END = 'end'
 
 
 @dataclass(frozen=True)
 class Change:
-    """A change of a file's bytes from the offset first up to last, by a call that began and ended
-    at these lines of the log. floats is what gave it its place: END, an open file whose offset is
-    shared, or None for an offset that the call names."""
+    """A change of a file's bytes from the offset `start` up to, and without, `end`. Its thread
+    began the call at first_line of the log, and ended it at last_line. offset_source is what gave
+    the call its offset: END, an open file whose offset is shared, or None if the call names it.
+    is_past_end means that the change made the file longer."""
 
-    process: int
-    begin: int
+    thread: int
+    first_line: int
+    last_line: int
+    start: int
     end: int
-    first: int
-    last: int
-    floats: object
-    grows: bool
+    offset_source: object
+    is_past_end: bool
 
-    def is_unordered(self, other: Change) -> bool:
+    def is_unordered_with(self, other: Change) -> bool:
         """Whether two changes of one file, by different threads, ran at once and their order
         decides the file's bytes: their ranges overlap, one goes to the end that the other moves, or
         both move one shared offset."""
-        if self.process == other.process or self.begin > other.end or other.begin > self.end:
+        is_at_once = self.first_line <= other.last_line and other.first_line <= self.last_line
+        if self.thread == other.thread or not is_at_once:
             return False
-        meet = self.first < other.last and other.first < self.last
-        at_end = self.floats == END and other.grows or other.floats == END and self.grows
-        return meet or at_end or self.floats is not None and self.floats is other.floats
+        has_overlap = self.start < other.end and other.start < self.end
+        has_moved_end = (
+            self.offset_source == END
+            and other.is_past_end
+            or other.offset_source == END
+            and self.is_past_end
+        )
+        has_shared_offset = (
+            self.offset_source is not None and self.offset_source is other.offset_source
+        )
+        return has_overlap or has_moved_end or has_shared_offset
 
 
 @dataclass(eq=False)
 class Node:
-    """A file, directory or symbolic link, which has its target as link.
+    """A file, directory or symbolic link. link_target is None unless it is a symbolic link.
 
     traced_paths has the paths at which the trace has it. data is None for a directory or link, and
-    for a file whose bytes are not followed any more; its size is still kept. is_temporary is a file
-    of O_TMPFILE, for which was_synced counts until it has a name. has_new_rights, of a directory,
-    means a mode or owner since its last fsync. recent has the changes that later ones may
-    overlap."""
+    for a file whose bytes are not followed any more; its size is still kept. is_temporary means a
+    file of O_TMPFILE, for which was_synced counts until it has a name. has_new_rights, of a
+    directory, means that its mode or owner changed since its last sync. recent_changes has those
+    that a later change may overlap."""
 
     is_directory: bool
     mode: int
@@ -56,37 +69,40 @@ class Node:
     is_temporary: bool = False
     was_synced: bool = False
     has_new_rights: bool = False
-    recent: List[Change] = field(default_factory=list)
-    link: Optional[str] = None
+    recent_changes: List[Change] = field(default_factory=list)
+    link_target: Optional[str] = None
 
     @staticmethod
     def file(mode: int, data: Union[bytes, SparseBytes] = b'') -> Node:
-        """A file without a name, with a copy of these bytes."""
-        return Node(False, mode, SparseBytes.copy_of(data), len(data))
+        """A new file without a name, with a copy of these bytes."""
+        return Node(is_directory=False, mode=mode, data=SparseBytes.copy_of(data), size=len(data))
 
     @staticmethod
     def symbolic_link(target: str) -> Node:
-        """A symbolic link without a name."""
-        return Node(False, 0o777, link=target)
+        """A new symbolic link without a name."""
+        return Node(is_directory=False, mode=0o777, link_target=target)
 
     @staticmethod
     def directory(mode: int) -> Node:
-        """An empty directory without a name."""
-        return Node(True, mode)
+        """A new, empty directory without a name."""
+        return Node(is_directory=True, mode=mode)
 
     @staticmethod
     def unknown() -> Node:
-        """A file whose bytes aren't known: no trace has it."""
-        return Node(False, 0)
+        """A new file without a name, which the trace won't have: its bytes and mode aren't
+        known."""
+        return Node(is_directory=False, mode=0)
 
     @property
     def name(self) -> str:
-        """The first of its names in their order, for a report."""
+        """The name that a report gives it: the first in the order of the names, or a text in
+        brackets if it has none."""
         return min(self.names) if self.names else '(a file without a name)'
 
     @property
     def traced_path(self) -> Optional[str]:
-        """The first of the paths at which the trace has it; None if it has it nowhere."""
+        """The first, in their order, of the paths at which the trace has it; None if it has it at
+        none."""
         return min(self.traced_paths, default=None)
 
     @property
@@ -100,15 +116,16 @@ class Node:
         self.data = None
 
     def write(self, offset: int, data: bytes) -> None:
-        """Writes bytes at an offset, and makes the file longer if they end past its end. If its
-        bytes aren't followed, only its size changes."""
+        """Writes bytes at an offset. The file gets longer if they end past its end, or if there are
+        none and the offset is past it. Only the size changes if the bytes aren't followed, or if
+        resize() stops following them."""
         self.resize(max(self.size, offset + len(data)))
         if self.data is not None:
             self.data.write(offset, data)
 
     def resize(self, length: int) -> None:
-        """Sets the length: cuts the bytes, or adds zeros. Above the most that any trace may have,
-        the bytes aren't followed any more."""
+        """Sets the length: cuts the bytes, or adds zeros. Above LARGE_FILE_BYTES, the most that any
+        trace may have, the bytes aren't followed any more, also if the file is cut later."""
         self.size = length
         if length > limits.LARGE_FILE_BYTES:
             self.drop_bytes()
@@ -116,25 +133,36 @@ class Node:
             self.data.resize(length)
 
     def add_change(self, change: Change) -> bool:
-        """Adds a change, and returns whether a change before it ran at the same time and the order
-        of the two decides the file's bytes. Changes that ended before this one began are
-        forgotten."""
-        self.recent = [one for one in self.recent if one.end >= change.begin]
-        unordered = any(change.is_unordered(one) for one in self.recent)
-        self.recent.append(change)
-        return unordered
+        """Adds a change, and returns whether its order with an earlier change isn't known, though
+        it decides the file's bytes. Changes that ended before this one began are forgotten."""
+        self.recent_changes = [
+            recent for recent in self.recent_changes if recent.last_line >= change.first_line
+        ]
+        is_unordered = any(change.is_unordered_with(recent) for recent in self.recent_changes)
+        self.recent_changes.append(change)
+        return is_unordered
+
+
+def new_node(entry: ScannedEntry) -> Node:
+    """A new node, without a name, for an entry that a scan found; with a copy of its bytes."""
+    if isinstance(entry, StartSymlink):
+        return Node.symbolic_link(entry.link)
+    if entry.data is None:
+        return Node.directory(entry.mode)
+    return Node.file(entry.mode, entry.data)
 
 
 class LiveTree:
-    """Nodes by path; the root's is `/`. A node's names are the paths at which it is."""
+    """Nodes by their paths below the directory, whose own path is `/`. A node's names are the paths
+    at which it is."""
 
     def __init__(self, root: Node) -> None:
         self.nodes: Dict[str, Node] = {}
         self.add_name('/', root)
 
     def node_at(self, path: Optional[str]) -> Optional[Node]:
-        """The node at a path. None if nothing is there, and for None, which is a path outside or
-        ignored."""
+        """The node at a path. None if nothing is there, and for the path None, which is that of a
+        file outside the directory or an ignored one."""
         return None if path is None else self.nodes.get(path)
 
     def add_name(self, path: str, node: Node) -> None:
@@ -155,18 +183,18 @@ class LiveTree:
 
     def move_node(self, source: str, target: str) -> None:
         """Moves the node at a path, and all that is below it, to a free path. Their traced paths
-        stay: move_traced() moves those."""
+        stay: move_traced_paths() moves those."""
         below = self.paths_below(source)
         self.add_name(target, self.remove_name(source))
         for path in below:
             self.add_name(target + path[len(source) :], self.remove_name(path))
 
-    def move_traced(self, source: str, target: str) -> None:
+    def move_traced_paths(self, source: str, target: str) -> None:
         """Moves the traced paths of a directory that move_node() has moved from source to target,
         and of what is below it. Nodes that the trace doesn't have at the old path stay as they
         are."""
         for path in [target] + self.paths_below(target):
-            paths, old = self.nodes[path].traced_paths, source + path[len(target) :]
-            if old in paths:
-                paths.remove(old)
-                paths.add(path)
+            traced_paths, old_path = self.nodes[path].traced_paths, source + path[len(target) :]
+            if old_path in traced_paths:
+                traced_paths.remove(old_path)
+                traced_paths.add(path)

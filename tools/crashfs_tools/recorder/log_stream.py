@@ -3,14 +3,15 @@ disk."""
 
 from __future__ import annotations
 
+import errno
 import os
 import re
+import select
 import signal
 import threading
-import time
-from typing import List, Optional, Set, TextIO
+from typing import List, Optional, Set, TextIO, Union
 
-from crashfs_tools.common.command import refuse_planted
+from crashfs_tools.common.command import refuse_foreign_file
 
 from . import stopped_processes
 from .arguments import LogError
@@ -20,52 +21,58 @@ from .pipe_lines import PipeLines, enlarge_pipe
 from .stopped_processes import Stop
 from .strace_log import Log, LogReader
 
-# Seconds in which strace reports all threads of a process as stopped.
-SAME_STOP = 0.005
+# Within how many seconds strace reports all threads of a process as stopped.
+SAME_STOP_SECONDS = 0.005
 STOPPED = re.compile(r'^(\d+) +--- stopped by SIGSTOP ---')
 
 
 def create_log(path: str) -> TextIO:
-    """Opens, for writing from its beginning, the file in which a log is kept. OSError if it can't
-    be written, or if another user has put a link or a pipe there."""
-    refuse_planted(path)
-    return open(path, 'w', encoding='ascii')
+    """Makes or empties the file in which a log is kept, and opens it for writing. OSError if it
+    can't be written, or if another user has put a link or a pipe there."""
+    refuse_foreign_file(path)
+    return open(path, 'w', encoding='utf-8', errors='surrogateescape')
 
 
 class LogStream:
-    """strace writes to `pipe`; the lines are kept in the file `keep`, too, if one is named.
-    keep_fault says why not all lines could be kept, log_error why the log isn't strace's; each is
-    None if nothing is wrong."""
+    """A log that strace writes to `pipe`, and that is also kept in a file, if one is named.
+    keep_fault says why not all lines could be kept; log_error says why there is no log: it isn't
+    strace's, or a mapped file could not be read. Each is None if nothing is wrong."""
 
     def __init__(
         self,
         folder: str,
-        keep: Optional[str],
-        mapped: Optional[MappedFiles],
+        keep_path: Optional[str],
+        mapped_files: Optional[MappedFiles],
         line_filter: Optional[LogFilter] = None,
     ) -> None:
-        """Makes the pipe in the folder, and the file that is kept: OSError if one of them can't be
-        made. Nothing is read before start()."""
+        """Makes the pipe in the folder, and the file that keeps the log (None: no file). OSError if
+        one of them can't be made. mapped_files is None without --mapped; without a filter all lines
+        are in the log. Nothing is read before start()."""
         self.pipe = os.path.join(folder, 'log')
         os.mkfifo(self.pipe)
-        self.kept = None if keep is None else create_log(keep)
-        self.mapped = mapped
+        self.kept_log = None if keep_path is None else create_log(keep_path)
+        self.mapped_files = mapped_files
         self.reader = LogReader(line_filter)
         self.line_number = 0
-        # Whether threads ran while the newest copy was taken: the next one isn't sure either.
-        self.was_late = False
+        # Whether threads ran while the newest copy was made: the next one may have their stores.
+        self.had_running_threads = False
         self.keep_fault: Optional[OSError] = None
-        self.log_error: Optional[LogError] = None
-        self.opened = threading.Event()
-        self.thread = threading.Thread(target=self.read_pipe, daemon=True)
+        self.log_error: Union[LogError, OSError, None] = None
+        self.thread: Optional[threading.Thread] = None
 
     def start(self) -> None:
-        """Starts the thread that reads the pipe."""
+        """Opens the pipe, and starts the thread that reads it. OSError if the pipe can't be opened:
+        strace waits for a reader then, until it is killed."""
+        descriptor = os.open(self.pipe, os.O_RDONLY | os.O_NONBLOCK)
+        enlarge_pipe(descriptor)
+        self.thread = threading.Thread(target=self.read_pipe, args=(descriptor,), daemon=True)
         self.thread.start()
 
     def finish(self) -> Log:
-        """Waits for the thread that reads the pipe, also if strace never opened it, and returns the
-        log. LogError if the log isn't strace's."""
+        """Waits until no process has the pipe open, without a time limit, and returns the log,
+        which is empty if strace never opened the pipe. start() must have been called before.
+        LogError if the log isn't strace's, OSError if a mapped file could not be read."""
+        assert self.thread is not None
         self.release_reader()
         self.thread.join()
         if self.log_error is not None:
@@ -73,111 +80,124 @@ class LogStream:
         return self.reader.log
 
     def release_reader(self) -> None:
-        """Ends the thread's wait for a writer of the pipe, by opening and closing it: nothing if
-        strace has opened it. Returns when the thread has the pipe."""
-        while not self.opened.is_set():
-            try:
-                os.close(os.open(self.pipe, os.O_WRONLY | os.O_NONBLOCK))
-            except OSError:
-                # The thread is not waiting yet.
-                time.sleep(0.001)
+        """Ends the thread's wait for a writer, by opening and closing the pipe; nothing if the
+        thread has closed it. OSError if the pipe can't be opened for another reason."""
+        try:
+            os.close(os.open(self.pipe, os.O_WRONLY | os.O_NONBLOCK))
+        except OSError as error:
+            if error.errno != errno.ENXIO:
+                raise
 
-    def read_pipe(self) -> None:
-        """Reads the pipe until no process writes to it, and copies mapped files at each stop and at
-        the end. Closes the pipe and the kept file. The thread runs only this."""
-        descriptor = os.open(self.pipe, os.O_RDONLY)
-        self.opened.set()
-        enlarge_pipe(descriptor)
+    def read_pipe(self, descriptor: int) -> None:
+        """Waits for a process that opens the pipe for writing, reads the pipe until none has it
+        open, and copies mapped files at each stop and at the end; then closes the descriptor, which
+        is the pipe's, and the kept log. This is what the thread runs. Faults aren't raised, but set
+        log_error or keep_fault."""
+        # Until a process has opened the pipe, a read would find its end.
+        first_writer = select.poll()
+        first_writer.register(descriptor, select.POLLIN)
+        first_writer.poll()
+        os.set_blocking(descriptor, True)
         try:
             # A process whose mapped files are copied is stopped until its line is read.
-            lines = PipeLines(descriptor, gathers=self.mapped is None)
+            lines = PipeLines(descriptor, may_gather=self.mapped_files is None)
             line = lines.next_line()
             while line is not None:
-                stopped = self.add_line(line)
-                if stopped is not None and self.mapped is not None:
-                    self.copy_and_continue(self.mapped, stopped, lines)
+                stopped_thread = self.add_line(line)
+                if stopped_thread is not None and self.mapped_files is not None:
+                    self.copy_and_continue(self.mapped_files, stopped_thread, lines)
                 line = lines.next_line()
         finally:
             os.close(descriptor)
-        if self.mapped is not None:
-            self.mapped.make_last_copy(self.line_number)
-        self.close_kept()
+        try:
+            if self.mapped_files is not None:
+                self.mapped_files.make_last_copy(self.line_number)
+        except OSError as error:
+            self.log_error = self.log_error or error
+        self.close_kept_log()
 
     def add_line(self, line: str) -> Optional[int]:
-        """Adds a line, with its end, to the log and to the kept file, and notes a mapping in it.
-        Returns the thread that it reports as stopped by a signal; None if it reports none."""
+        """Adds a line, with its line feed, to the log and to the kept log, and notes a mapping that
+        it shows. Returns the thread that it reports as stopped by SIGSTOP; None for any other
+        line."""
         self.line_number += 1
         self.keep_line(line)
         self.parse_line(line.rstrip('\n'))
-        if self.mapped is not None:
-            self.mapped.note_mapping(line, self.line_number)
+        if self.mapped_files is not None:
+            self.mapped_files.note_mapping(line, self.line_number)
         stopped = STOPPED.match(line)
         return int(stopped[1]) if stopped else None
 
     def parse_line(self, line: str) -> None:
-        """Adds what a line says to the log. After a line that isn't strace's, `log_error` is set,
-        and no further line is parsed: COMMAND runs on."""
+        """Adds what a line shows to the log. If it isn't as strace writes it, log_error is set.
+        Once that is set no line is parsed any more, and COMMAND runs on."""
         try:
             if self.log_error is None:
                 self.reader.read_line(self.line_number, line)
         except LogError as error:
             self.log_error = LogError(f'{error}, in line {self.line_number}')
 
-    def copy_and_continue(self, mapped: MappedFiles, thread: int, lines: PipeLines) -> None:
-        """Waits until all threads of a stopped thread's process are stopped, copies the mapped
-        files, and continues the process; then does the same for others that stopped meanwhile. If
-        some threads still run after the wait, this copy and the next one aren't sure. Nothing for a
-        process that has ended or runs again."""
-        process = stopped_processes.process_of_thread(thread)
+    def copy_and_continue(self, mapped_files: MappedFiles, thread: int, lines: PipeLines) -> None:
+        """Waits until all threads of a stopped thread's process are stopped, as in
+        wait_until_stopped(), copies the mapped files, and continues the process; then does the same
+        for other processes that were stopped meanwhile. If a file can't be read, log_error is set.
+        Nothing for a process that has ended or runs again."""
+        process = stopped_processes.read_process_of_thread(thread)
         if process is None:
             return
         stop = stopped_processes.wait_until_stopped(thread, process)
         if stop is Stop.RESUMED:
             return
-        threads = stopped_processes.threads_of(process)
-        later = self.collect_stops({thread}, set(threads), lines)
-        is_alone = stop is Stop.ALL_STOPPED and not self.was_late and len(threads) == 1
-        self.was_late = stop is Stop.SOME_RUN
-        others = self.reader.processes - set(self.reader.log.ended) - {process}
-        mapped.copy_changed(self.line_number, thread, is_alone, others)
+        threads = stopped_processes.list_threads(process)
+        threads_of_others = self.collect_stops({thread}, set(threads), lines)
+        is_alone = stop is Stop.ALL_STOPPED and not self.had_running_threads and len(threads) == 1
+        self.had_running_threads = stop is Stop.SOME_RUN
+        others = self.reader.threads - set(self.reader.log.ended_threads) - {process}
+        try:
+            mapped_files.copy_changed_files(
+                self.line_number, thread, is_alone=is_alone, others=others
+            )
+        except OSError as error:
+            self.log_error = self.log_error or error
         try:
             os.kill(process, signal.SIGCONT)
         except ProcessLookupError:
             pass
-        for other in later:
-            self.copy_and_continue(mapped, other, lines)
+        for other_thread in threads_of_others:
+            self.copy_and_continue(mapped_files, other_thread, lines)
 
-    def collect_stops(self, seen: Set[int], threads: Set[int], lines: PipeLines) -> List[int]:
-        """Reads the lines by which a process's other threads are stopped too, so that none is taken
-        for a later stop; stops when no line comes for SAME_STOP seconds. Returns the stopped
-        threads of other processes. `seen` gets the threads that were found."""
-        later = []
-        while not threads <= seen:
-            line = lines.next_line(SAME_STOP)
+    def collect_stops(self, stopped: Set[int], threads: Set[int], lines: PipeLines) -> List[int]:
+        """Adds lines until all threads of a process are reported as stopped, or no line comes for
+        SAME_STOP_SECONDS, so that no report is taken for a later stop. `stopped` has the threads
+        that are reported already, and gets the others. Returns those of other processes that are
+        reported."""
+        threads_of_others = []
+        while not threads <= stopped:
+            line = lines.next_line(SAME_STOP_SECONDS)
             if line is None:
                 break
-            stopped = self.add_line(line)
-            if stopped in threads:
-                seen.add(stopped)
-            elif stopped is not None:
-                later.append(stopped)
-        return later
+            thread = self.add_line(line)
+            if thread in threads:
+                stopped.add(thread)
+            elif thread is not None:
+                threads_of_others.append(thread)
+        return threads_of_others
 
     def keep_line(self, line: str) -> None:
-        """Writes a line into the kept file, if there is one. After one that can't be written,
-        `keep_fault` is set, and no further one is tried: COMMAND runs on."""
+        """Writes a line into the kept log, if there is one. If that fails, keep_fault is set. Once
+        that is set no line is written any more, and COMMAND runs on."""
         try:
-            if self.kept is not None and self.keep_fault is None:
-                self.kept.write(line)
+            if self.kept_log is not None and self.keep_fault is None:
+                self.kept_log.write(line)
         except OSError as error:
             self.keep_fault = error
 
-    def close_kept(self) -> None:
-        """Closes the kept file, if there is one. If that fails, `keep_fault` is set, unless it was
+    def close_kept_log(self) -> None:
+        """Closes the kept log, if there is one. If that fails, keep_fault is set, unless it was set
         before."""
-        if self.kept is None:
+        if self.kept_log is None:
             return
         try:
-            self.kept.close()
+            self.kept_log.close()
         except OSError as error:
             self.keep_fault = self.keep_fault or error

@@ -8,10 +8,10 @@ import re
 from dataclasses import dataclass, field
 from typing import Dict, Iterable, List, Set, Tuple
 
-from crashfs_tools.common.file_bytes import Bytes, file_bytes
+from crashfs_tools.common.file_bytes import Bytes, read_file_bytes
 
 from . import arguments, stopped_processes
-from .directory import Ignored
+from .directory import IsIgnored
 
 STOPPING_CALLS = (
     'msync',
@@ -47,109 +47,130 @@ STOPPING_CALLS = (
     'copy_file_range',
 )
 MAPPED = re.compile(
-    r'^(\d+) +mmap2?\([^,]*, \d+, [^,]*, [^,]*MAP_SHARED[^,]*, ' r'(\d+)<((?:\\x[0-9a-f]{2})+)>'
+    r'^(\d+) +mmap2?\([^,]*, \d+, [^,]*, [^,]*MAP_SHARED[^,]*, (\d+)<((?:\\x[0-9a-f]{2})+)>'
 )
 
 
 @dataclass
 class FileCopy:
-    """The bytes of the files that changed since the copy before, by their numbers. line is how many
-    lines of the log had been read, and process the thread that was stopped; 0 for the copy at the
-    end. is_alone says that its process has no other thread; shared has the files that other
-    processes may have mapped too."""
+    """The bytes of the mapped files that changed since the copy before, by their numbers. line is
+    the number of the log's last line that had been read. thread is the one that was stopped, 0 for
+    the copy at the end; is_alone means that its process has no other thread. shared_numbers has the
+    files that other processes may have mapped too."""
 
     line: int
-    process: int
+    thread: int
     is_alone: bool
-    files: Dict[int, Bytes]
-    shared: Set[int] = field(default_factory=set)
+    bytes_by_number: Dict[int, Bytes]
+    shared_numbers: Set[int] = field(default_factory=set)
 
-    def is_sure(self, number: int) -> bool:
-        """Whether only the stopped process could store to a file."""
-        return self.is_alone and number not in self.shared
+    @property
+    def is_last(self) -> bool:
+        """Whether it is the copy at the end, for which no thread was stopped."""
+        return self.thread == 0
+
+    def has_one_writer(self, number: int) -> bool:
+        """Whether only the stopped thread could store to the file with a number."""
+        return self.is_alone and number not in self.shared_numbers
 
 
 @dataclass
 class FileCopies:
-    """All copies of a run, in their order. numbers gives the number of a file by the log's line of
-    each of its mappings; missed has the paths of mapped files that could not be opened."""
+    """All copies of a run, in the order in which they were taken. numbers_by_line has the number of
+    a mapped file by the log's line of each of its mappings; unopened_paths has the paths of mapped
+    files that could not be opened."""
 
-    taken: List[FileCopy] = field(default_factory=list)
-    numbers: Dict[int, int] = field(default_factory=dict)
-    missed: List[str] = field(default_factory=list)
+    copies: List[FileCopy] = field(default_factory=list)
+    numbers_by_line: Dict[int, int] = field(default_factory=dict)
+    unopened_paths: List[str] = field(default_factory=list)
 
 
 class MappedFiles:
     """The files below a directory that were mapped, each with a number, from 0, and an open
-    descriptor. last has their bytes in the newest copy of each."""
+    descriptor. numbers has the number of each by its device and inode; newest_bytes has the bytes
+    in the newest copy of each."""
 
-    def __init__(self, top: str, ignored: Ignored) -> None:
-        """Opens nothing yet. top is the directory's path as the calls have it."""
-        self.top, self.ignored = top, ignored
-        self.copies = FileCopies()
-        self.inodes: Dict[Tuple[int, int], int] = {}
+    def __init__(self, top: str, is_ignored: IsIgnored) -> None:
+        """Opens nothing yet. top is the directory's absolute path, without symbolic links."""
+        self.top, self.is_ignored = top, is_ignored
+        self.file_copies = FileCopies()
+        self.numbers: Dict[Tuple[int, int], int] = {}
         self.descriptors: List[int] = []
-        self.last: Dict[int, Bytes] = {}
+        self.newest_bytes: Dict[int, Bytes] = {}
 
-    def note_mapping(self, line: str, number: int) -> None:
-        """If a line of the log shows a shared mapping of a file of the directory that isn't
-        ignored, holds the file open from then on: it may be renamed or unlinked later. One that
-        can't be opened, by its path or its descriptor, is noted as missed. number is the line's."""
+    def note_mapping(self, line: str, line_number: int) -> None:
+        """Opens the file that a line of the log maps as shared, and holds it open. Nothing for
+        other lines, for an ignored file, and for one outside the directory. An unlinked file is
+        opened only by its descriptor, others first by their path. A file that can't be opened is
+        added to unopened_paths."""
         match = MAPPED.match(line)
-        path = arguments.shown_path(match[3]) if match else None
+        path = arguments.parse_shown_path(match[3]) if match else None
         if match is None or path is None or not path.startswith(self.top.rstrip('/') + '/'):
             return
-        if self.ignored(path[len(self.top.rstrip('/')) :]):
+        path_below = path[len(self.top.rstrip('/')) :]
+        if self.is_ignored(path_below):
             return
-        for way in (path, f'/proc/{match[1]}/fd/{match[2]}'):
+        # The path of an unlinked file may be that of another one now.
+        paths = [] if line.startswith('(deleted)', match.end()) else [path]
+        for path_to_open in (*paths, f'/proc/{match[1]}/fd/{match[2]}'):
             try:
-                self.hold_open(os.open(way, os.O_RDONLY), number)
+                self.hold_open(os.open(path_to_open, os.O_RDONLY), line_number)
                 return
             except OSError:
                 continue
-        self.copies.missed.append(path[len(self.top.rstrip('/')) :])
+        self.file_copies.unopened_paths.append(path_below)
 
-    def hold_open(self, descriptor: int, number: int) -> None:
-        """Keeps a mapped file open, once for all its mappings: of a file that is open already it
-        closes the new descriptor. number is the log's line of this mapping."""
+    def hold_open(self, descriptor: int, line_number: int) -> None:
+        """Keeps the descriptor of a mapped file, which the line of the log with this number mapped.
+        If the file is held open already, the descriptor is closed."""
         status = os.fstat(descriptor)
         inode = status.st_dev, status.st_ino
-        if inode in self.inodes:
+        if inode in self.numbers:
             os.close(descriptor)
         else:
-            self.inodes[inode] = len(self.descriptors)
+            self.numbers[inode] = len(self.descriptors)
             self.descriptors.append(descriptor)
-        self.copies.numbers[number] = self.inodes[inode]
+        self.file_copies.numbers_by_line[line_number] = self.numbers[inode]
 
-    def copy_changed(
-        self, line: int, process: int, is_alone: bool, others: Iterable[int] = ()
+    def copy_changed_files(
+        self, line: int, thread: int, *, is_alone: bool, others: Iterable[int] = ()
     ) -> None:
-        """Adds a copy of the files that changed since the last one, also if none did. `line`,
-        `process` and is_alone are those of FileCopy; others are the processes that aren't stopped.
-        OSError if a file can't be read."""
+        """Adds a copy of the files that changed since the copy before, also if none did. `line`,
+        `thread` and is_alone are those of FileCopy; others are the processes that aren't stopped.
+        OSError if a file can't be read: then no copy is added."""
         changed: Dict[int, Bytes] = {}
         for number, descriptor in enumerate(self.descriptors):
-            data = file_bytes(descriptor)
-            if self.last.get(number) != data:
-                changed[number] = self.last[number] = data
-        shared = self.mapped_by(others) & changed.keys() if changed else set()
-        self.copies.taken.append(FileCopy(line, process, is_alone, changed, shared))
+            data = read_file_bytes(descriptor)
+            if self.newest_bytes.get(number) != data:
+                changed[number] = self.newest_bytes[number] = data
+        shared = self.numbers_mapped_by(others) & changed.keys() if changed else set()
+        self.file_copies.copies.append(
+            FileCopy(
+                line=line,
+                thread=thread,
+                is_alone=is_alone,
+                bytes_by_number=changed,
+                shared_numbers=shared,
+            )
+        )
 
-    def mapped_by(self, processes: Iterable[int]) -> Set[int]:
+    def numbers_mapped_by(self, processes: Iterable[int]) -> Set[int]:
         """The numbers of the files that these processes may have mapped. There may be too many: a
-        file counts by its inode, whatever its device, and all files do if a process doesn't show
+        file counts by its inode, whatever its device, and all files count if a process doesn't show
         what it has mapped."""
-        mapped: Set[str] = set()
+        mapped_inodes: Set[str] = set()
         for process in processes:
-            inodes = stopped_processes.inodes_mapped(process)
+            inodes = stopped_processes.read_mapped_inodes(process)
             if inodes is None:
-                return set(self.inodes.values())
-            mapped |= inodes
-        return {number for (_, inode), number in self.inodes.items() if str(inode) in mapped}
+                return set(self.numbers.values())
+            mapped_inodes |= inodes
+        return {
+            number for (_, inode), number in self.numbers.items() if str(inode) in mapped_inodes
+        }
 
     def make_last_copy(self, line: int) -> None:
-        """Makes the last copy, of what the program left, and closes the files: to be called
-        once."""
-        self.copy_changed(line, 0, True)
+        """Adds the last copy, of what the program left, and closes the files: to be called once.
+        OSError if a file can't be read: then they stay open."""
+        self.copy_changed_files(line, 0, is_alone=True)
         for descriptor in self.descriptors:
             os.close(descriptor)

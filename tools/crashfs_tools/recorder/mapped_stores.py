@@ -1,4 +1,5 @@
-"""Finds stores through mappings, by copies of the mapped files, and their place in the trace."""
+"""Finds stores through mappings, by copies of the mapped files, and the calls before which they
+were stored."""
 
 from __future__ import annotations
 
@@ -20,36 +21,36 @@ NOT_ALONE = (
 
 
 def copies_by_call(
-    calls: List[Call], ordered: List[Call], copies: FileCopies
+    calls: List[Call], ordered: List[Call], file_copies: FileCopies
 ) -> Dict[int, List[FileCopy]]:
-    """The copies that come with each call, by its id: what they show was stored before that call.
-    The call is the last one of the stopped thread; if other threads ran, it is the first, in the
-    trace, of the calls since the copy before at which COMMAND is stopped. `calls` are in the log's
-    order, `ordered` in the trace's. Copies without files, and that at the end, come with no
-    call."""
+    """The copies of each call, by its id: what they show was stored before the call. A copy's call
+    is the last one of the stopped thread; if other threads ran, it is the first, in the trace, of
+    the STOPPING_CALLS since the copy before. `calls` are in the log's order, `ordered` in the
+    trace's. Copies without files, and the one at the end, have no call."""
     ends = [call.end for call in calls]
-    places = {id(call): place for place, call in enumerate(ordered)}
-    latest: Dict[int, Call] = {}
-    found: Dict[int, List[FileCopy]] = {}
-    before = 0
-    for copy in [copy for copy in copies.taken if copy.process]:
-        after = bisect.bisect_right(ends, copy.line)
-        window = calls[before:after]
-        before = after
-        latest.update((call.process, call) for call in window)
-        if copy.files and after:
-            stopping = [call for call in window if call.name in STOPPING_CALLS]
-            own = latest.get(copy.process, calls[after - 1])
-            is_own = copy.is_alone or not stopping
-            chosen = own if is_own else min(stopping, key=lambda call: places[id(call)])
-            found.setdefault(id(chosen), []).append(copy)
-    return found
+    indexes = {id(call): index for index, call in enumerate(ordered)}
+    last_calls: Dict[int, Call] = {}
+    call_copies: Dict[int, List[FileCopy]] = {}
+    begin = 0
+    for copy in [copy for copy in file_copies.copies if not copy.is_last]:
+        end = bisect.bisect_right(ends, copy.line)
+        calls_since_copy = calls[begin:end]
+        begin = end
+        last_calls.update((call.thread, call) for call in calls_since_copy)
+        if copy.bytes_by_number and end:
+            stopping = [call for call in calls_since_copy if call.name in STOPPING_CALLS]
+            if copy.is_alone or not stopping:
+                chosen = last_calls.get(copy.thread, calls[end - 1])
+            else:
+                chosen = min(stopping, key=lambda call: indexes[id(call)])
+            call_copies.setdefault(id(chosen), []).append(copy)
+    return call_copies
 
 
-def add_stores(files: LiveFiles, node: Node, data: Bytes, is_sure: bool) -> None:
+def add_stores(files: LiveFiles, node: Node, data: Bytes, *, has_one_writer: bool) -> None:
     """Adds the stores that a copy of a mapped file shows: a write, for each page that differs, of
-    what differs in it. is_sure says that no other process or thread can have made them; else that
-    is reported. A copy whose length isn't the file's is only reported. Nothing if the file's bytes
+    the range that differs. If has_one_writer is False, others may have made them, which is
+    reported. A copy whose length isn't the file's is only reported. Nothing if the file's bytes
     aren't followed."""
     if node.data is None:
         return
@@ -58,26 +59,26 @@ def add_stores(files: LiveFiles, node: Node, data: Bytes, is_sure: bool) -> None
             'a copy of the mapped file has another size than is known', node.name
         )
         return
-    for begin in offsets_of_pages(node.data, SparseBytes.copy_of(data)):
-        end = begin + PAGE_BYTES
-        first, last = changed_range(node.data[begin:end], data[begin:end])
-        if first < last and not is_sure:
+    for page in page_offsets(node.data, SparseBytes.copy_of(data)):
+        page_end = page + PAGE_BYTES
+        start, end = differing_range(node.data[page:page_end], data[page:page_end])
+        if start < end and not has_one_writer:
             files.recording.report(NOT_ALONE, node.name)
-        if first < last:
-            files.write_bytes(node, begin + first, data[begin + first : begin + last])
+        if start < end:
+            files.write_bytes(node, page + start, data[page + start : page + end])
         if node.data is None:
             return
 
 
-def offsets_of_pages(old: SparseBytes, new: SparseBytes) -> List[int]:
-    """The offsets, ascending, of the pages that may differ: those that one of the two has."""
+def page_offsets(old: SparseBytes, new: SparseBytes) -> List[int]:
+    """The offsets, ascending, of the pages that one of two contents has: only these may differ."""
     return [page * PAGE_BYTES for page in sorted(old.pages.keys() | new.pages.keys())]
 
 
-def changed_range(old: bytes, new: bytes) -> Tuple[int, int]:
-    """The smallest range, by its ends, that has all bytes in which two pages of one size differ; 0,
-    0 if they are equal."""
+def differing_range(old: bytes, new: bytes) -> Tuple[int, int]:
+    """The smallest range that has all bytes in which two pages of one size differ, by its start and
+    its exclusive end; 0, 0 if they are equal."""
     if old == new:
         return 0, 0
-    places = [place for place in range(len(new)) if old[place] != new[place]]
-    return places[0], places[-1] + 1
+    offsets = [offset for offset in range(len(new)) if old[offset] != new[offset]]
+    return offsets[0], offsets[-1] + 1

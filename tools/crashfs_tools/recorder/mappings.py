@@ -1,16 +1,16 @@
-"""What a process has mapped: threads share it, a fork copies it, an exec drops it."""
+"""The shared mappings of a process: threads share them, a fork copies them, an exec drops them."""
 
 from __future__ import annotations
 
 from dataclasses import dataclass, field, replace
-from typing import Iterator, List, Tuple
+from typing import Iterator, List
 
 from .live_tree import Node
 
 
 @dataclass(frozen=True)
 class Mapping:
-    """A shared mapping of a file from an offset on."""
+    """A shared mapping of a file from an offset on, at an address of a process."""
 
     address: int
     length: int
@@ -22,12 +22,13 @@ class Mapping:
         """The first address after it."""
         return self.address + self.length
 
-    def part_between(self, first: int, last: int) -> Mapping:
-        """The part from one address up to, and without, another, with its offset in the file. Its
-        length is 0 if no address of the mapping is between them."""
-        begin, end = max(first, self.address), min(last, self.end)
-        offset = self.offset + begin - self.address
-        return replace(self, address=begin, length=max(0, end - begin), offset=offset)
+    def part_between(self, begin: int, end: int) -> Mapping:
+        """The part of the mapping from the address `begin` up to, and without, `end`, with its
+        offset in the file. Its length is 0 if no address of the mapping is between them."""
+        part_begin, part_end = max(begin, self.address), min(end, self.end)
+        length = max(0, part_end - part_begin)
+        offset = self.offset + part_begin - self.address
+        return replace(self, address=part_begin, length=length, offset=offset)
 
 
 @dataclass
@@ -44,36 +45,38 @@ class Memory:
     def unmap(self, address: int, length: int) -> None:
         """Unmaps whole pages from an address on; parts of mappings outside them stay. Addresses at
         which nothing is mapped are left out."""
-        end = address + in_whole_pages(length)
-        kept = []
+        end = address + round_up_to_pages(length)
+        parts = []
         for mapping in self.mappings:
-            kept.append(mapping.part_between(mapping.address, address))
-            kept.append(mapping.part_between(end, mapping.end))
-        self.mappings = [mapping for mapping in kept if mapping.length > 0]
+            parts.append(mapping.part_between(mapping.address, address))
+            parts.append(mapping.part_between(end, mapping.end))
+        self.mappings = [part for part in parts if part.length > 0]
 
-    def move(self, old: int, old_length: int, new: int, new_length: int, *, keeps: bool) -> None:
-        """Moves what is mapped at the old addresses, or gives it another length, as mremap does. It
-        stays mapped there too if `keeps`, and for the old length 0. Of several mappings there only
-        the first gets the new addresses."""
-        moved = [part for part, _ in self.parts_in(old, old_length or 1)]
-        if not keeps and old_length:
+    def move(self, old: int, old_length: int, new: int, new_length: int, *, keep_old: bool) -> None:
+        """Moves what is mapped at the address `old` to the address `new`, with another length, as
+        mremap does. What was mapped at the new addresses is unmapped. The old ones stay mapped if
+        keep_old is set, or if old_length is 0. Of several mappings at the old ones only the first
+        is moved."""
+        moved = list(self.parts_in(old, old_length or 1))
+        if not keep_old and old_length:
             self.unmap(old, old_length)
+        self.unmap(new, new_length)
         for part in moved[:1]:
-            self.map(replace(part, address=new, length=in_whole_pages(new_length)))
+            self.map(replace(part, address=new, length=round_up_to_pages(new_length)))
 
-    def parts_in(self, address: int, length: int) -> Iterator[Tuple[Mapping, Tuple[int, int]]]:
-        """Yields the parts of mappings that are in a range of addresses, each with its offset in
-        its file and its length there; in the order in which they were mapped."""
+    def parts_in(self, address: int, length: int) -> Iterator[Mapping]:
+        """Yields the parts of mappings that are in a range of addresses, in the order in which they
+        were mapped. No part is empty."""
         for mapping in self.mappings:
             part = mapping.part_between(address, address + length)
             if part.length > 0:
-                yield part, (part.offset, part.length)
+                yield part
 
     def copy(self) -> Memory:
-        """What a process has after a fork: the same mappings, in a list of its own."""
+        """The address space of a forked process: the same mappings, in a list of its own."""
         return Memory(list(self.mappings))
 
 
-def in_whole_pages(length: int) -> int:
-    """The least length in whole pages, of 4,096 bytes, that isn't below a length."""
+def round_up_to_pages(length: int) -> int:
+    """The smallest multiple of a page, of 4,096 bytes, that is at least a length."""
     return -(-length // 4_096) * 4_096

@@ -20,7 +20,7 @@ from .ignore import Ignore, Rule
 from .output_streams import SOCKETS, SayEach
 
 NAME = 'crashfs-record'
-# The versions of traces that are written; AUTO is the oldest that has all that happens.
+# The versions of traces that can be written; AUTO is the oldest that has all that happens.
 AUTO, VERSIONS = 'auto', ('3', '4')
 
 DESCRIPTION = """\
@@ -43,7 +43,8 @@ example: crashfs-record store.d store.trace -- sqlite3 test.db ".read session.sq
 @dataclass
 class RecordOptions:
     """The values of a command line, by the names that the parser gives them, and COMMAND, which is
-    empty with --from-log. ignored says of a path whether --ignore leaves it out."""
+    empty with --from-log. is_ignored returns whether --ignore leaves out a path of the directory.
+    """
 
     directory: str
     out: str
@@ -52,8 +53,8 @@ class RecordOptions:
     mapped: bool
     stacks: bool
     begin_after: Optional[str]
-    acknowledged: List[str]
-    each: Optional[str]
+    acknowledging_descriptors: List[str]
+    say_each: Optional[str]
     no_say: bool
     keep_log: Optional[str]
     from_log: Optional[str]
@@ -62,11 +63,11 @@ class RecordOptions:
     profile: str
     block: int
     trace_version: str
-    ignored: Ignore = field(init=False)
+    is_ignored: Ignore = field(init=False)
 
     def __post_init__(self) -> None:
-        self.acknowledged = self.acknowledged or ['1']
-        self.ignored = Ignore(self.ignore, self.directory)
+        self.acknowledging_descriptors = self.acknowledging_descriptors or ['1']
+        self.is_ignored = Ignore(self.ignore, self.directory)
 
     @property
     def version(self) -> Optional[int]:
@@ -93,7 +94,7 @@ def make_parser() -> argparse.ArgumentParser:
 
 
 def add_recording_options(parser: argparse.ArgumentParser) -> None:
-    """Adds the options that say what is recorded and what is reported of it, to a parser."""
+    """Adds to a parser the options that say what is recorded and what is reported of it."""
     parser.add_argument(
         '--mapped',
         action='store_true',
@@ -104,17 +105,17 @@ def add_recording_options(parser: argparse.ArgumentParser) -> None:
         '--ignore',
         metavar='GLOB',
         action='append',
-        type=checked_glob,
+        type=check_pattern,
         default=[],
-        help='leave out files that match, by the rules of .gitignore (may be ' 'repeated)',
+        help='leave out files that match, by the rules of .gitignore (may be repeated)',
     )
     parser.add_argument(
         '--say-fd',
         metavar='N',
         action='append',
         default=[],
-        dest='acknowledged',
-        type=descriptor_to_acknowledge,
+        dest='acknowledging_descriptors',
+        type=check_descriptor,
         help="take the acknowledged lines from COMMAND's descriptor N, not from "
         f"standard output; `{SOCKETS}`: from each connection that it accepts "
         '(may be repeated)',
@@ -122,7 +123,6 @@ def add_recording_options(parser: argparse.ArgumentParser) -> None:
     parser.add_argument(
         '--say-each',
         metavar='WHAT',
-        dest='each',
         choices=[each.value for each in SayEach],
         help='what acknowledges something: each `line`, or each `write`, as in binary '
         'protocols (default: line; over a connection without line feeds: write)',
@@ -141,7 +141,7 @@ def add_recording_options(parser: argparse.ArgumentParser) -> None:
 
 
 def add_trace_options(parser: argparse.ArgumentParser) -> None:
-    """Adds the options that say what the trace has, to a parser."""
+    """Adds to a parser the options that say what the trace has."""
     parser.add_argument(
         '--begin-after',
         metavar='LINE',
@@ -182,7 +182,7 @@ def add_trace_options(parser: argparse.ArgumentParser) -> None:
 
 
 def add_log_options(parser: argparse.ArgumentParser) -> None:
-    """Adds the options on strace's log, to a parser."""
+    """Adds to a parser the options on strace's log."""
     parser.add_argument('--keep-log', metavar='FILE', help="keep strace's log")
     parser.add_argument(
         '--from-log',
@@ -198,26 +198,25 @@ def add_log_options(parser: argparse.ArgumentParser) -> None:
     )
 
 
-def checked_glob(text: str) -> str:
+def check_pattern(text: str) -> str:
     """A pattern of --ignore, unchanged; ArgumentTypeError for one that never matches in git."""
     try:
-        Rule.of_glob(text)
+        Rule.parse(text)
     except ValueError as error:
         raise argparse.ArgumentTypeError(str(error)) from error
     return text
 
 
-def descriptor_to_acknowledge(word: str) -> str:
-    """A value of --say-fd, unchanged; ArgumentTypeError unless it is a descriptor's number or means
-    all sockets."""
+def check_descriptor(word: str) -> str:
+    """A value of --say-fd, unchanged; ArgumentTypeError unless it is a number or SOCKETS."""
     if word != SOCKETS and not word.isdecimal():
         raise argparse.ArgumentTypeError(f'{word} is neither a number nor `{SOCKETS}`')
     return word
 
 
 def read_options(arguments: List[str]) -> RecordOptions:
-    """The options of a command line, without looking at any file. Words that are wrong or don't go
-    together, --help and --version end the program (SystemExit)."""
+    """Parses the words of a command line, without a look at any file. SystemExit if they are wrong
+    or don't go together, and for --help and --version."""
     parser = make_parser()
     values, command = parse_command_line(parser, arguments)
     if values.from_log is None and not command:
@@ -232,13 +231,13 @@ def read_options(arguments: List[str]) -> RecordOptions:
 
 
 def prepare_options(options: RecordOptions) -> None:
-    """Replaces the directory in the options by its real path, and COMMAND's program by its whole
-    path. Refused, before anything runs, if there is no such directory or program, or if OUT or the
+    """Replaces the directory in the options by its real path, also in is_ignored, and COMMAND's
+    program by its absolute path. Refused if there is no such directory or program, or if OUT or the
     file of --keep-log can't be made or would be in the directory."""
     if not os.path.isdir(options.directory):
         raise Refused(f'{options.directory} is no directory')
     options.directory = os.path.realpath(options.directory)
-    options.ignored = Ignore(options.ignore, options.directory)
+    options.is_ignored = Ignore(options.ignore, options.directory)
     for path in (options.out, options.keep_log):
         if path is None or path == '-':
             continue

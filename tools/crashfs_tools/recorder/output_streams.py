@@ -21,7 +21,7 @@ SENDS = ('sendto', 'sendmsg', 'sendmmsg')
 
 
 class SayEach(Enum):
-    """What counts as one acknowledgement: a line or a write."""
+    """What counts as one acknowledgement: a line or a write (--say-each)."""
 
     LINE = 'line'
     WRITE = 'write'
@@ -29,60 +29,61 @@ class SayEach(Enum):
 
 @dataclass(eq=False)
 class OutputStream:
-    """A stream that COMMAND writes to.
+    """A stream that COMMAND writes to; is_acknowledged if its texts acknowledge something.
 
-    pieces has the bytes of a line that has no end yet, and moment how many changes the recording
-    had at the newest of them. lines counts the texts that were completed, and writes the writes
-    that completed some. gaps is how often changes came between two pieces of the newest line, and
-    most_gaps the largest number of any line. is_held means that changes came between the last line,
-    which has no end, and the end."""
+    pieces has the bytes of a line that has no end yet, and last_change_count is how many changes
+    the recording had at the newest of them. text_count counts the texts that were completed, and
+    write_count the writes that completed some. gap_count is how often changes came between two
+    pieces of the newest line, and most_gaps the largest such number of any line. is_held means that
+    changes came after the beginning of the last line, which has no line feed."""
 
     name: str
     is_acknowledged: bool
-    each: SayEach = SayEach.LINE
+    say_each: SayEach = SayEach.LINE
     pieces: List[bytes] = field(default_factory=list)
-    lines: int = 0
-    writes: int = 0
-    moment: int = 0
-    gaps: int = 0
+    text_count: int = 0
+    write_count: int = 0
+    last_change_count: int = 0
+    gap_count: int = 0
     most_gaps: int = 0
     is_held: bool = False
 
-    def texts_of(self, data: bytes, moment: int) -> List[bytes]:
-        """The texts that a write of these bytes completes, which are counted: its lines, or itself
-        as one line. A write of no bytes changes nothing. moment is how many changes the recording
-        had before it."""
+    def complete_texts(self, data: bytes, change_count: int) -> List[bytes]:
+        """The texts that a write of these bytes completes, which are counted: lines, or the whole
+        write as one line. change_count is how many changes the recording had before the write. A
+        write of no bytes changes nothing."""
         if not data:
             return []
-        if self.each is SayEach.WRITE:
-            texts = [written_as_line(data)]
+        if self.say_each is SayEach.WRITE:
+            texts = [line_of_write(data)]
         else:
-            texts = self.complete_lines(data, moment)
-        self.lines += len(texts)
-        self.writes += bool(texts)
+            texts = self.complete_lines(data, change_count)
+        self.text_count += len(texts)
+        self.write_count += bool(texts)
         return texts
 
-    def complete_lines(self, data: bytes, moment: int) -> List[bytes]:
+    def complete_lines(self, data: bytes, change_count: int) -> List[bytes]:
         """The lines that a write completes, without line feeds and carriage returns at their ends;
-        the rest waits in pieces for the next write. Counts the gaps of a line in pieces."""
+        what is after the last line feed waits in `pieces`. Counts the gaps of a line in pieces, by
+        change_count as in complete_texts()."""
         if not self.pieces:
-            self.gaps = 0
-        elif moment != self.moment:
-            self.gaps += 1
-            self.most_gaps = max(self.most_gaps, self.gaps)
-        self.moment = moment
-        head, end, rest = data.rpartition(b'\n')
-        if not end:
+            self.gap_count = 0
+        elif change_count != self.last_change_count:
+            self.gap_count += 1
+            self.most_gaps = max(self.most_gaps, self.gap_count)
+        self.last_change_count = change_count
+        ended, line_feed, unended = data.rpartition(b'\n')
+        if not line_feed:
             self.pieces.append(data)
             return []
-        lines = b''.join([*self.pieces, head]).split(b'\n')
-        self.pieces = [rest] if rest else []
+        lines = b''.join([*self.pieces, ended]).split(b'\n')
+        self.pieces = [unended] if unended else []
         return [line[:-1] if line.endswith(b'\r') else line for line in lines]
 
 
-def written_as_line(data: bytes) -> bytes:
-    r"""The bytes of a write as one line: without the line's end, and with escapes (`\n`, `\r`,
-    `\x80`) for other line feeds, carriage returns, and bytes that aren't UTF-8."""
+def line_of_write(data: bytes) -> bytes:
+    r"""The bytes of a write as one line: without a line feed and a carriage return at the end, and
+    with escapes (`\n`, `\r`, `\x80`) for others, and for bytes that aren't UTF-8."""
     for end in (b'\n', b'\r'):
         data = data[:-1] if data.endswith(end) else data
     text = data.decode('utf-8', 'backslashreplace')
@@ -91,100 +92,108 @@ def written_as_line(data: bytes) -> bytes:
 
 @dataclass
 class OutputStreams:
-    """All streams of a session, by the text that strace shows for a descriptor, as `pipe:[7]`, so
-    that every way to the same pipe is one stream.
+    """All streams of a session. streams_by_text has them by the text that strace shows for a
+    descriptor, as `pipe:[7]`, so that all descriptors of one pipe are of one stream.
 
-    acknowledged has the descriptors that count. each is what counts as an acknowledgement; None is
-    lines, but writes for connections over which no line feed is sent. with_lines has the
-    connections over which one is sent.
+    acknowledging_descriptors has the values of --say-fd: numbers, or SOCKETS. say_each is what
+    counts as an acknowledgement; None is lines, but writes for connections over which no line feed
+    is sent. line_connections has the connections over which one is sent, as strace shows them.
     """
 
-    acknowledged: Sequence[str] = ('1',)
-    each: Optional[SayEach] = None
-    with_lines: FrozenSet[str] = frozenset()
-    by_text: Dict[str, OutputStream] = field(default_factory=dict)
-    standard: Dict[int, OutputStream] = field(default_factory=dict)
+    acknowledging_descriptors: Sequence[str] = ('1',)
+    say_each: Optional[SayEach] = None
+    line_connections: FrozenSet[str] = frozenset()
+    streams_by_text: Dict[str, OutputStream] = field(default_factory=dict)
+    standard_streams: Dict[int, OutputStream] = field(default_factory=dict)
 
     def __post_init__(self) -> None:
         """Makes standard output and standard error, whether or not they acknowledge something."""
-        self.standard = {1: self.new_stream(OUTPUT, 1), 2: self.new_stream(ERRORS, 2)}
+        self.standard_streams = {1: self.new_stream(OUTPUT, 1), 2: self.new_stream(ERRORS, 2)}
 
     def new_stream(self, name: str, number: int) -> OutputStream:
-        """A new stream, which acknowledges something if --say-fd names its descriptor: by lines,
-        unless --say-each says otherwise."""
-        return OutputStream(name, str(number) in self.acknowledged, self.each or SayEach.LINE)
+        """A new stream of the descriptor with this number, which acknowledges something if --say-fd
+        names it: by lines, unless --say-each says otherwise."""
+        is_acknowledged = str(number) in self.acknowledging_descriptors
+        return OutputStream(name, is_acknowledged, self.say_each or SayEach.LINE)
 
-    def is_asked_for(self, number: int) -> bool:
-        """Whether --say-fd names a descriptor that isn't a standard one."""
-        return number > 2 and str(number) in self.acknowledged
+    def is_named_by_option(self, number: int) -> bool:
+        """Whether --say-fd names the descriptor with this number; False for standard ones."""
+        return number > 2 and str(number) in self.acknowledging_descriptors
 
     def inherited_streams(self) -> Dict[int, OutputStream]:
         """The streams that COMMAND may start with, by their descriptors: the standard ones, and
-        those above 2 that --say-fd names."""
-        asked = [int(number) for number in self.acknowledged if number.isdecimal()]
-        named = {
-            number: self.by_text.setdefault(
+        those above 2 that --say-fd names, which are made if they aren't known."""
+        numbers = [int(word) for word in self.acknowledging_descriptors if word.isdecimal()]
+        other_streams = {
+            number: self.streams_by_text.setdefault(
                 f'{number}', self.new_stream(f'descriptor {number}', number)
             )
-            for number in asked
+            for number in numbers
             if number > 2
         }
-        return {**self.standard, **named}
+        return {**self.standard_streams, **other_streams}
 
-    def set_standard_output(self, text: Optional[str]) -> None:
-        """Makes what strace shows for a pipe a name of COMMAND's standard output. Anything else
-        than a pipe, and None, is left out: a file or a terminal may be of others, too."""
+    def add_text_of_output(self, text: Optional[str]) -> None:
+        """Adds what strace shows for a descriptor of COMMAND's standard output, so that it is found
+        by this text. Nothing unless it is a pipe, since others may use a file or a terminal too;
+        nor if the text is that of another stream already."""
         if text is not None and text.startswith('pipe:'):
-            self.by_text.setdefault(text, self.standard[1])
+            self.streams_by_text.setdefault(text, self.standard_streams[1])
 
     def add_connection(self, text: Optional[str]) -> None:
-        """Makes a connection that COMMAND accepted a stream, if --say-fd asks for connections.
-        `text` is what strace shows for it; if it shows nothing (None), it is left out."""
-        if SOCKETS in self.acknowledged and text is not None:
-            each = SayEach.LINE if text in self.with_lines else SayEach.WRITE
-            self.by_text[text] = OutputStream('a socket', True, self.each or each)
+        """Adds the stream of a connection that COMMAND accepted, if --say-fd asks for connections.
+        `text` is what strace shows for it, None if nothing: then no stream is added. An earlier
+        stream with this text is replaced."""
+        if SOCKETS in self.acknowledging_descriptors and text is not None:
+            usual = SayEach.LINE if text in self.line_connections else SayEach.WRITE
+            self.streams_by_text[text] = OutputStream(
+                'a socket', is_acknowledged=True, say_each=self.say_each or usual
+            )
 
     def find_stream(self, number: int, text: Optional[str]) -> Optional[OutputStream]:
-        """The stream of a descriptor, by what strace shows for it. One that isn't known is made if
-        --say-fd names the descriptor; None for any other, and if strace shows nothing. Two
-        descriptors of a device may be two streams."""
+        """The stream of a descriptor, by its number and the text that strace shows for it. One that
+        isn't known is made if --say-fd names the descriptor; None for any other, and if strace
+        shows nothing (None). Two descriptors of a device may be two streams."""
         if text is None:
             return None
-        known = self.by_text.get(text)
-        if known is not None or not self.is_asked_for(number):
+        known = self.streams_by_text.get(text)
+        if known is not None or not self.is_named_by_option(number):
             return known
         key = f'{number}<{text}>' if text.startswith('/dev/') else text
-        return self.by_text.setdefault(key, self.new_stream(f'descriptor {number}', number))
+        return self.streams_by_text.setdefault(key, self.new_stream(f'descriptor {number}', number))
 
     def all_streams(self) -> Iterator[OutputStream]:
         """Yields each stream once, though it may have several names; the standard ones come
         first."""
-        yield from dict.fromkeys([*self.standard.values(), *self.by_text.values()])
+        yield from dict.fromkeys([*self.standard_streams.values(), *self.streams_by_text.values()])
 
 
 def connections_with_lines(calls: Iterable[Call]) -> FrozenSet[str]:
-    """The connections, as strace shows them, that were accepted before a line feed was sent over
-    them."""
+    """The connections, as strace shows them, over which a line feed was sent after they were
+    accepted. A call whose bytes the log lacks doesn't count. LogError as in sent_bytes()."""
     accepted: Set[str] = set()
-    found: Set[str] = set()
+    with_lines: Set[str] = set()
     for call in calls:
-        if call.name in ACCEPTS and call.made.text is not None:
-            accepted.add(call.made.text)
+        if call.name in ACCEPTS and call.result_descriptor.text is not None:
+            accepted.add(call.result_descriptor.text)
         elif call.name in WRITES or call.name in SENDS:
             text = call.descriptor().text
-            if text in accepted and text not in found and b'\n' in sent_bytes(call):
-                found.add(text)
-    return frozenset(found)
+            if text not in accepted or text in with_lines:
+                continue
+            if b'\n' in (sent_bytes(call) or b''):
+                with_lines.add(text)
+    return frozenset(with_lines)
 
 
-def sent_bytes(call: Call) -> bytes:
-    """The bytes that a call has written or sent; empty if the log lacks them, or if it failed."""
+def sent_bytes(call: Call) -> Optional[bytes]:
+    """The bytes that a call of WRITES or SENDS has written or sent; empty if it failed. None if the
+    log lacks some of them, and for a sendmmsg that failed. LogError if an argument isn't as strace
+    writes it."""
+    word = call.argument(1)
     if call.name == 'sendmmsg':
-        return arguments.bytes_of_messages(call.argument(1)) or b''
-    is_text = call.name in ('write', 'pwrite64', 'sendto')
-    data = (
-        arguments.bytes_of_text(call.argument(1))
-        if is_text
-        else arguments.bytes_of_vector(call.argument(1))
-    )
-    return (data or b'')[: max(0, call.result)]
+        return arguments.parse_messages(word)
+    is_string = call.name in ('write', 'pwrite64', 'sendto')
+    data = arguments.parse_bytes(word) if is_string else arguments.parse_vector(word)
+    if data is None or len(data) < call.result:
+        return None
+    return data[: max(0, call.result)]

@@ -1,5 +1,5 @@
-"""Files that have the path of the recorded directory: a recovery that follows it reads the recorded
-files instead of those of a crash state."""
+"""Finds files that have the path of the recorded directory: a recovery that opens that path reads
+the recorded files instead of those of a crash state."""
 
 from __future__ import annotations
 
@@ -17,23 +17,26 @@ NOTE = (
 
 
 def files_with_path(trace: Trace, top: str) -> List[str]:
-    """The paths of the files and symbolic links in a trace whose bytes or target have a directory's
-    path, each once, in the order of the trace. A path that is split between two writes isn't found.
-    Empty for the root, which every path has."""
+    """The paths of the files and symbolic links in a trace whose bytes or target have the path of
+    the directory `top`, each once, in the order of the trace. A path that is split between two
+    writes, or between two pieces of a large file of the start tree, isn't found. Empty if `top` is
+    the root."""
     if top == '/':
         return []
     # A longer name, as `/store2` for `/store`, is another path.
     pattern = re.compile(re.escape(os.fsencode(top)) + rb'(?![\w.-])')
-    return list(dict.fromkeys(path for path, data in bytes_by_file(trace) if pattern.search(data)))
+    return list(
+        dict.fromkeys(path for path, data in pieces_of_bytes(trace) if pattern.search(data))
+    )
 
 
-def bytes_by_file(trace: Trace) -> Iterator[Tuple[str, bytes]]:
-    """Yields each piece of bytes that a trace has, after the path of its file at that line; of a
-    symbolic link its target."""
+def pieces_of_bytes(trace: Trace) -> Iterator[Tuple[str, bytes]]:
+    """Yields the path of a file, as it is at that line, and a piece of bytes, for each such piece
+    in a trace; of a symbolic link its target."""
     for line in (*trace.start, *trace.operations):
         if isinstance(line, (StartSymlink, Symlink)):
             yield line.path, os.fsencode(line.link)
         elif isinstance(line, Start) and isinstance(line.data, SparseBytes):
-            yield from ((line.path, run) for _, run in line.data.page_runs())
+            yield from ((line.path, data) for _, data in line.data.page_runs())
         elif isinstance(line, (Start, Write)) and line.data:
             yield line.path, bytes(line.data)

@@ -19,47 +19,50 @@ F_SETPIPE_SZ = 1031
 
 
 class PipeLines:
-    """Reads a pipe line by line. With `gathers` it sleeps after a read that found little."""
+    """Reads a pipe line by line. If may_gather, it sleeps after a read that found few bytes."""
 
-    def __init__(self, descriptor: int, gathers: bool = False) -> None:
+    def __init__(self, descriptor: int, may_gather: bool = False) -> None:
         """Reads nothing yet. The caller closes the descriptor."""
         self.descriptor = descriptor
-        self.gathers = gathers
-        self.ready: Deque[str] = deque()
-        # The pieces of a line that has no end yet.
-        self.rest: List[bytes] = []
+        self.may_gather = may_gather
+        self.ready_lines: Deque[str] = deque()
+        # The bytes of a line that has no end yet.
+        self.pieces: List[bytes] = []
         self.has_ended = False
 
-    def next_line(self, seconds: Optional[float] = None) -> Optional[str]:
-        """The next line, with its end; the last one may have none. None at the pipe's end, or if no
-        bytes come within so many seconds; if these are None, it waits without a limit."""
-        while not self.ready and not self.has_ended:
-            if seconds is not None:
-                if not select.select([self.descriptor], [], [], seconds)[0]:
+    def next_line(self, idle_seconds: Optional[float] = None) -> Optional[str]:
+        """The next line, with its line feed; the last one may have none. None at the pipe's end, or
+        if no bytes come for idle_seconds; if these are None, it waits without a limit. Bytes that
+        aren't UTF-8 become surrogates, as in os.fsdecode."""
+        while not self.ready_lines and not self.has_ended:
+            if idle_seconds is not None:
+                if not select.select([self.descriptor], [], [], idle_seconds)[0]:
                     return None
             self.read_piece()
-        return self.ready.popleft() if self.ready else None
+        return self.ready_lines.popleft() if self.ready_lines else None
 
     def read_piece(self) -> None:
-        """Waits for bytes of the pipe, or its end, and adds them. With `gathers` it sleeps if there
-        were few."""
+        """Waits for bytes of the pipe, or for its end, and adds them. If may_gather and there are
+        few, it sleeps for GATHER_SECONDS, so that the next read finds more."""
         piece = os.read(self.descriptor, PIECE)
-        if self.gathers and 0 < len(piece) < PIECE // 4:
+        if self.may_gather and 0 < len(piece) < PIECE // 4:
             time.sleep(GATHER_SECONDS)
         self.add_bytes(piece)
 
     def add_bytes(self, piece: bytes) -> None:
-        """Splits bytes of the pipe into lines, with what was left of the last one. An empty piece
-        is the pipe's end: then a line without an end is one too."""
-        self.rest.append(piece)
+        """Splits bytes of the pipe into lines, after those of a line without an end. An empty piece
+        is the pipe's end: then the line without an end is ready too, unless it is empty."""
+        self.pieces.append(piece)
         if b'\n' in piece:
-            *lines, rest = b''.join(self.rest).split(b'\n')
-            self.rest = [rest]
-            self.ready.extend(line.decode('ascii', 'replace') + '\n' for line in lines)
+            *lines, unended = b''.join(self.pieces).split(b'\n')
+            self.pieces = [unended]
+            self.ready_lines.extend(
+                line.decode('utf-8', 'surrogateescape') + '\n' for line in lines
+            )
         if not piece:
             self.has_ended = True
-            line = b''.join(self.rest).decode('ascii', 'replace')
-            self.ready.extend([line] if line else [])
+            line = b''.join(self.pieces).decode('utf-8', 'surrogateescape')
+            self.ready_lines.extend([line] if line else [])
 
 
 def enlarge_pipe(descriptor: int) -> None:

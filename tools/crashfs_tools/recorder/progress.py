@@ -1,4 +1,4 @@
-"""A line on a terminal every few seconds while COMMAND runs, as a daemon does for long."""
+"""Prints a line on a terminal every few seconds while COMMAND runs, which may be long."""
 
 from __future__ import annotations
 
@@ -11,12 +11,15 @@ SECONDS = 5.0
 
 
 class CallProgress:
-    """Used by `with`: a thread prints how many calls there are so far, which count returns."""
+    """A context in which a thread prints, every few seconds, how many calls there are so far."""
 
-    def __init__(self, program: str, count: Callable[[], int], seconds: float = SECONDS) -> None:
-        """Prints nothing yet. `seconds` is the time between two lines."""
-        self.program, self.count, self.seconds = program, count, seconds
-        self.ended = threading.Event()
+    def __init__(
+        self, program_name: str, count_calls: Callable[[], int], interval_seconds: float = SECONDS
+    ) -> None:
+        """Prints nothing yet. Each line begins with the program's name."""
+        self.program_name, self.count_calls = program_name, count_calls
+        self.interval_seconds = interval_seconds
+        self.is_ended = threading.Event()
         self.thread = threading.Thread(target=self.print_lines, daemon=True)
 
     def __enter__(self) -> CallProgress:
@@ -24,13 +27,11 @@ class CallProgress:
         return self
 
     def print_lines(self) -> None:
-        """Prints a line every few seconds, in the thread, until the `with` ends."""
-        while not self.ended.wait(self.seconds):
-            print_line(
-                self.program,
-                f'{self.count():,} calls so far; Ctrl-C ends COMMAND, and the trace ' 'is written',
-            )
+        """Prints a line after each interval, in the thread, until the context ends."""
+        while not self.is_ended.wait(self.interval_seconds):
+            count = f'{self.count_calls():,} calls so far'
+            print_line(self.program_name, f'{count}; Ctrl-C ends COMMAND, and the trace is written')
 
     def __exit__(self, *_: object) -> None:
-        self.ended.set()
+        self.is_ended.set()
         self.thread.join()

@@ -25,6 +25,7 @@ from crashfs_tools.common.trace import (
     Start,
     StartLine,
     StartSymlink,
+    Symlink,
     Sync,
     Trace,
     Truncate,
@@ -40,19 +41,18 @@ from .troubles import Troubles
 
 @dataclass(frozen=True)
 class TraceSettings:
-    """How a trace is made. acknowledged has the descriptors whose output acknowledges something,
-    and each says whether by lines or by writes (None: as OutputStreams chooses). profile says which
-    directory operations the file system keeps in order, and block how many bytes the disk writes
-    whole. version None is the oldest that has all that happens."""
+    """How a trace is made. acknowledging_descriptors and say_each are those of OutputStreams.
+    profile says which directory operations the file system keeps in order, and block how many bytes
+    the disk writes whole. The version None is the oldest that has all that happens."""
 
-    acknowledged: Sequence[str] = ('1',)
-    each: Optional[SayEach] = None
+    acknowledging_descriptors: Sequence[str] = ('1',)
+    say_each: Optional[SayEach] = None
     profile: str = BLOCKS
     block: int = BLOCK_SIZES[-1]
     version: Optional[int] = None
 
 
-def path_of(operation: Operation) -> str:
+def path_to_report(operation: Operation) -> str:
     """The path that a report names for an operation: the old one of a rename or a link, and `/` for
     a sync of everything or an acknowledgement."""
     if isinstance(operation, (Rename, Link)):
@@ -61,121 +61,161 @@ def path_of(operation: Operation) -> str:
 
 
 def is_private(trace: Trace) -> bool:
-    """Whether a trace has a file or directory, the root among them, that not everybody may read: at
-    its start, when it is made, or after a chmod."""
+    """Whether a trace has a file or directory, the root among them, that group and others may not
+    both read: at its start, when it is made, or after a chmod."""
     modes = [trace.header.mode]
-    modes += [one.mode for one in trace.start if isinstance(one, Start)]
-    modes += [one.mode for one in trace.operations if isinstance(one, (Creat, Mkdir, Chmod))]
+    modes += [line.mode for line in trace.start if isinstance(line, Start)]
+    modes += [
+        operation.mode
+        for operation in trace.operations
+        if isinstance(operation, (Creat, Mkdir, Chmod))
+    ]
     return any(mode & 0o044 != 0o044 for mode in modes)
 
 
-def end_of_change(operation: Operation) -> int:
-    """The offset at which a write's bytes end, or the length that a truncate sets; 0 for any other
-    operation."""
+def least_file_size(operation: Operation) -> int:
+    """The size that a file has at least after an operation: the offset at which a write's bytes
+    end, or the length that a truncate sets; 0 for any other operation."""
     if isinstance(operation, Write):
         return operation.offset + len(operation.data)
     return operation.length if isinstance(operation, Truncate) else 0
 
 
 def symlink_reason(path: str) -> str:
-    """That there is a symbolic link, as a reason for the newest version."""
+    """The reason for the newest version if a symbolic link is at a path."""
     return f'{path} is a symbolic link'
 
 
 def renamed_directory_reason(path: str) -> str:
-    """That a directory was renamed, as a reason for the newest version."""
+    """The reason for the newest version if the directory at a path was renamed."""
     return f'{path} is a directory that was renamed'
 
 
 def large_file_reason(path: str) -> str:
-    """That a file is large, as a reason for the newest version."""
+    """The reason for the newest version if the file at a path is larger than FILE_BYTES."""
     return f'{path} has more than {limits.FILE_BYTES:,} bytes'
 
 
 class Recording:
     """The trace, the tree at its end, the streams that COMMAND writes to, and the troubles.
 
-    call is the call that is translated now; differing has the paths that differ at the end from the
-    directory, apart from those of the troubles; changes counts the operations that are no
-    acknowledgements; new_version says why the trace has the newest version, and is empty if it has
-    another. on_acknowledged is called after each acknowledgement. begins_later says that the trace
-    was begun again by --begin-after."""
+    current_call is the one that is translated now; None before the first and after the last.
+    differing_paths may differ from the directory at the end, like those of the troubles.
+    change_count is the number of operations that are no acknowledgements. newest_version_reason
+    says why the trace has the newest version, and is empty if it has another. on_acknowledged is
+    called after each acknowledgement. has_late_start means that --begin-after began the trace
+    again."""
 
     def __init__(self, header: Header, settings: TraceSettings) -> None:
         """Begins a trace that has only the header, and the streams that the settings ask for."""
         self.settings = settings
         self.begin_trace(header)
-        self.streams = OutputStreams(settings.acknowledged, settings.each)
+        self.streams = OutputStreams(settings.acknowledging_descriptors, settings.say_each)
         self.troubles = Troubles()
-        self.differing: Set[str] = set()
-        self.call: Optional[Call] = None
-        self.on_acknowledged: Callable[[Say], None] = lambda said: None
-        self.begins_later = False
-        self.changes = 0
+        self.differing_paths: Set[str] = set()
+        self.current_call: Optional[Call] = None
+        self.on_acknowledged: Callable[[Say], None] = lambda acknowledgement: None
+        self.has_late_start = False
+        self.change_count = 0
 
     def begin_trace(self, header: Header) -> None:
         """Begins the trace, in the oldest version that it may have, and a tree of the root only. If
-        it is begun again, the rest of the recording stays: the streams, the troubles, the paths
-        that differ and the count of changes."""
+        it is begun again, its version and newest_version_reason begin again too; all else of the
+        recording stays."""
         profile, block = self.settings.profile, self.settings.block
         version = self.settings.version or WRITTEN_VERSION
         self.trace = Trace(header, version=version, profile=profile, block=block)
         self.tree = Tree(header.owner, header.group, header.mode, block, version, profile)
-        self.new_version = f'--trace-version {NEWEST}' if version >= NEWEST else ''
+        self.newest_version_reason = f'--trace-version {NEWEST}' if version >= NEWEST else ''
         if profile == JOURNAL:
-            self.raise_version_for(f'--profile {JOURNAL}')
+            self.use_newest_version(f'--profile {JOURNAL}')
 
-    def add_start(self, line: StartLine) -> bool:
-        """Adds a start line, whose directory must be there, to the trace and its tree. A symbolic
-        link or a large file gives the trace the newest version. Returns False, and adds nothing,
-        for a symbolic link if --trace-version names an older one."""
-        if isinstance(line, StartSymlink) and not self.raise_version_for(symlink_reason(line.path)):
-            return False
+    def add_start_line(self, line: StartLine) -> bool:
+        """Adds a start line to the trace and its tree, which checks nothing: its directory must be
+        there, and its path free. A symbolic link, or a file above FILE_BYTES, gives the trace the
+        newest version. Returns False, and adds nothing, for a symbolic link if --trace-version
+        names an older one."""
+        if isinstance(line, StartSymlink):
+            if not self.use_newest_version(symlink_reason(line.path)):
+                return False
         if isinstance(line, Start) and len(line.data or b'') > limits.FILE_BYTES:
-            self.raise_version_for(large_file_reason(line.path))
+            self.use_newest_version(large_file_reason(line.path))
         self.trace.start.append(line)
         self.tree.add_start(line)
         return True
 
-    def report(self, what: str, where: str, is_note: bool = False) -> None:
-        """Adds a trouble: what the trace doesn't have, and of which path or stream. It notes the
-        last line that the trace has now, or none if no call is translated; of a known trouble it
-        adds only that line. is_note: it changes no verdict on a crash state."""
-        line = self.trace.line_of_operation(len(self.trace.operations)) - 1
-        self.troubles.add(what, where, None if self.call is None else line, is_note)
+    def report(self, what: str, where: str) -> None:
+        """Adds a trouble, as in add_trouble(): something that the trace doesn't have, and that may
+        make a crash state good or bad."""
+        self.add_trouble(what, where, is_note=False)
 
     def report_note(self, what: str, where: str) -> None:
-        """As report(), for what no trace has and what can't make a crash state good or bad."""
-        self.report(what, where, is_note=True)
+        """Adds a note, as in add_trouble(): something that the trace doesn't have, and that can't
+        make a crash state good or bad."""
+        self.add_trouble(what, where, is_note=True)
 
-    def raise_version_for(self, reason: str) -> bool:
-        """Gives the trace the newest version, for the first such reason, unless --trace-version
-        names one. Returns whether the trace has the newest version now. It keeps that version even
-        if the operation that needs it is left out later."""
-        if self.trace.version < NEWEST and self.settings.version is None:
-            self.trace.version = self.tree.version = NEWEST
-            self.new_version = reason
+    def add_trouble(self, what: str, where: str, *, is_note: bool) -> None:
+        """Adds a trouble: what happened, and where, which is a path or a stream. It is after the
+        last line that the trace has now, or after none if no call is translated. If the trouble is
+        known already, only this line is added to it."""
+        line = None
+        if self.current_call is not None:
+            line = self.trace.line_number(len(self.trace.operations)) - 1
+        self.troubles.add(what, where, line, is_note=is_note)
+
+    @property
+    def may_have_newest_version(self) -> bool:
+        """Whether the trace has the newest version, or would get it for an operation that needs it:
+        False if --trace-version names an older one."""
+        return self.trace.version >= NEWEST or self.settings.version is None
+
+    def use_newest_version(self, reason: str) -> bool:
+        """Gives the trace and its tree the newest version, for this reason, unless they have it
+        already, or --trace-version names an older one. Returns whether they have it now."""
+        if self.trace.version < NEWEST and self.may_have_newest_version:
+            self.set_version(NEWEST, reason)
         return self.trace.version >= NEWEST
 
+    def set_version(self, version: int, reason: str) -> None:
+        """Gives the trace and its tree a version, and newest_version_reason, which is empty if the
+        version isn't the newest."""
+        self.trace.version = self.tree.version = version
+        self.newest_version_reason = reason
+
+    def reason_for_newest_version(self, operation: Operation) -> str:
+        """Why only the newest version may have an operation; empty if older ones may have it too,
+        or if no version may, because of the file's size."""
+        if isinstance(operation, Symlink):
+            return symlink_reason(operation.path)
+        if isinstance(operation, Rename):
+            entry = self.tree.entries.get(operation.source)
+            is_directory = entry is not None and entry.is_directory
+            return renamed_directory_reason(operation.source) if is_directory else ''
+        is_large = limits.FILE_BYTES < least_file_size(operation) <= limits.LARGE_FILE_BYTES
+        return large_file_reason(path_to_report(operation)) if is_large else ''
+
     def add_operation(self, operation: Operation) -> bool:
-        """Adds an operation, with its call's note, to the trace and its tree, and returns True. An
-        operation on a large file gives the trace the newest version. Returns False if `crashfs`
-        would refuse it, which is reported, or if the trace's version has no such line: then nothing
-        is added, but a newer version stays."""
+        """Adds an operation, with its call's note, to the trace and its tree, and returns True. The
+        trace gets the newest version if the operation needs it. Returns False, and adds nothing, if
+        `crashfs` would refuse it, which is reported: the version stays as it was. Returns what
+        add_in_older_version() does if the trace's version has no line for the operation."""
+        old_version, old_reason = self.trace.version, self.newest_version_reason
+        reason = self.reason_for_newest_version(operation)
+        if reason:
+            self.use_newest_version(reason)
         if not self.has_line_for(operation):
             return self.add_in_older_version(operation)
-        if limits.FILE_BYTES < end_of_change(operation) <= limits.LARGE_FILE_BYTES:
-            self.raise_version_for(large_file_reason(path_of(operation)))
         fault = self.tree.fault(operation)
         if fault:
-            name = self.call.name if self.call else 'a change'
-            self.report(f'{name} is left out: {fault}', path_of(operation))
+            self.set_version(old_version, old_reason)
+            name = self.current_call.name if self.current_call else 'a change'
+            self.report(f'{name} is left out: {fault}', path_to_report(operation))
             return False
         self.tree.apply(operation)
-        if self.call is not None and self.call.note:
-            self.trace.notes[len(self.trace.operations)] = self.call.note
+        if self.current_call is not None and self.current_call.note:
+            self.trace.notes[len(self.trace.operations)] = self.current_call.note
         self.trace.operations.append(operation)
-        self.changes += not isinstance(operation, Say)
+        self.change_count += not isinstance(operation, Say)
         return True
 
     def has_line_for(self, operation: Operation) -> bool:
@@ -185,38 +225,39 @@ class Recording:
         return self.trace.has_kind(kind)
 
     def add_in_older_version(self, operation: Operation) -> bool:
-        """Adds an Fsync of the whole file for a sync of a part, which the trace's version has no
-        line for, and reports that. Any other such operation isn't added, nor reported: returns
-        False."""
+        """Adds an Fsync of the whole file for an FsyncRange or Fdatasync for which the trace's
+        version has no line, reports that, and returns what add_operation() does. Any other such
+        operation is neither added nor reported: returns False."""
         if not isinstance(operation, (FsyncRange, Fdatasync)):
             return False
         self.report('a sync of a part is written as one of the file', operation.path)
         return self.add_operation(Fsync(operation.path))
 
     def add_output(self, stream: OutputStream, data: bytes) -> None:
-        """Adds bytes that COMMAND wrote to a stream: an acknowledgement for each line that they
-        complete, or for each write. Those of a stream that acknowledges nothing are only
-        counted."""
-        for text in stream.texts_of(data, self.changes):
+        """Adds bytes that COMMAND wrote to a stream: an acknowledgement for each text that they
+        complete, which is a line or the whole write. The beginning of a line waits in the stream.
+        If the stream acknowledges nothing, its texts are only counted."""
+        for text in stream.complete_texts(data, self.change_count):
             if stream.is_acknowledged:
                 self.add_acknowledgement(stream, text)
 
     def add_acknowledgement(self, stream: OutputStream, text: bytes) -> None:
-        """Adds an acknowledgement, and calls on_acknowledged. One that is cut at 1,024 bytes, or
-        that isn't UTF-8, is reported; of a stream that acknowledges by writes that is only
-        noted."""
-        said = Say.from_line(text)
-        if said.text.encode() != text and stream.each is SayEach.WRITE:
+        """Adds an acknowledgement, and calls on_acknowledged, even if the trace can't have it. One
+        that is cut at 1,024 bytes, or that isn't UTF-8, is reported; if the stream acknowledges by
+        writes, it is only noted."""
+        acknowledgement = Say.from_line(text)
+        is_changed = acknowledgement.text.encode() != text
+        if is_changed and stream.say_each is SayEach.WRITE:
             self.report_note('an acknowledgement is cut at 1,024 bytes', stream.name)
-        elif said.text.encode() != text:
+        elif is_changed:
             self.report('a line is cut at 1,024 bytes, or is no UTF-8', stream.name)
-        self.add_operation(said)
-        self.on_acknowledged(said)
+        self.add_operation(acknowledgement)
+        self.on_acknowledged(acknowledgement)
 
     def end_streams(self) -> None:
-        """At the end, adds the last line of each stream, if it has no line feed. Its is_held says
-        whether files were changed after the line began."""
+        """Adds, at the end, the last line of each stream, if it has no line feed. Sets the stream's
+        is_held if files were changed after that line began."""
         for stream in self.streams.all_streams():
             if stream.pieces:
                 self.add_output(stream, b'\n')
-                stream.is_held = stream.gaps > 0
+                stream.is_held = stream.gap_count > 0

@@ -1,70 +1,74 @@
-"""Paths through symbolic links, as they are when a call follows them."""
+"""Resolves paths through symbolic links, as they are when a call follows them."""
 
 from __future__ import annotations
 
 import os.path
-from typing import Callable, List, Optional
+from typing import Callable, Dict, List, Optional
 
-# So many links the system follows in one path.
+# How many links Linux follows in one path.
 MOST_LINKS = 40
 
-TargetOf = Callable[[str], Optional[str]]
+# Returns the target of the symbolic link at a path; None if no link is known there.
+ReadLink = Callable[[str], Optional[str]]
 
 
 class Resolver:
-    """Resolves paths. inside gives the targets of symbolic links below the directory, by their
-    paths there; outside those of all others, by their whole paths."""
+    """Resolves paths by the symbolic links of a directory and those outside it. outside_targets has
+    the answers for paths outside, None if no link is there."""
 
-    def __init__(self, top: str, inside: TargetOf, outside: TargetOf) -> None:
-        """top is the whole path of the directory, without symbolic links in it."""
+    def __init__(self, top: str, read_inside: ReadLink, read_outside: ReadLink) -> None:
+        """top is the absolute path of the directory, without symbolic links in it. read_inside
+        takes paths below it, which begin with `/`; read_outside takes absolute paths."""
         self.top = top
-        self.inside, self.outside = inside, outside
-        self.known: dict[str, Optional[str]] = {}
+        self.read_inside, self.read_outside = read_inside, read_outside
+        self.outside_targets: Dict[str, Optional[str]] = {}
 
     def path_below(self, path: Optional[str]) -> Optional[str]:
-        """The part of a whole path below the directory, which is `/` for the directory itself. None
-        for a path outside, and for None."""
-        if path is None or path == self.top:
-            return None if path is None else '/'
+        """The part of an absolute path below the directory, which begins with `/`, and is `/` for
+        the directory itself. None for a path outside, and for None."""
+        if path is None:
+            return None
+        if path == self.top:
+            return '/'
         prefix = self.top.rstrip('/')
         return path[len(prefix) :] if path.startswith(prefix + '/') else None
 
-    def resolve(self, path: str, follows: bool) -> Optional[str]:
-        """The whole path that a whole path leads to, without symbolic links and `..`; it need not
-        exist. None if it goes through more than MOST_LINKS links. `follows`, or a slash at its end,
-        says that a link at its end is followed."""
-        follows = follows or path.endswith('/')
-        here, left = '/', names_in_reverse(path)
-        # The directory's own path has none.
+    def resolve(self, path: str, *, follow_last_link: bool) -> Optional[str]:
+        """The absolute path to which an absolute path leads, without symbolic links and `..`; it
+        need not exist. A link at the end is followed if follow_last_link is set, or if a slash is
+        after it. None if the path goes through more than MOST_LINKS links."""
+        follow_last_link = follow_last_link or path.endswith('/')
+        resolved, names_left = '/', names_in_reverse(path)
+        # The directory's own path has no links.
         if path.startswith(self.top + '/'):
-            here, left = self.top, names_in_reverse(path[len(self.top) :])
-        links = 0
-        while left:
-            name = left.pop()
+            resolved, names_left = self.top, names_in_reverse(path[len(self.top) :])
+        link_count = 0
+        while names_left:
+            name = names_left.pop()
             if name == '..':
-                here = os.path.dirname(here)
+                resolved = os.path.dirname(resolved)
                 continue
-            found = os.path.join(here, name)
-            target = self.target_of(found) if left or follows else None
+            next_path = os.path.join(resolved, name)
+            target = self.read_link(next_path) if names_left or follow_last_link else None
             if target is None:
-                here = found
+                resolved = next_path
                 continue
-            links += 1
-            if links > MOST_LINKS:
+            link_count += 1
+            if link_count > MOST_LINKS:
                 return None
-            here = '/' if target.startswith('/') else here
-            left += names_in_reverse(target)
-        return here
+            resolved = '/' if target.startswith('/') else resolved
+            names_left += names_in_reverse(target)
+        return resolved
 
-    def target_of(self, path: str) -> Optional[str]:
-        """The target of the symbolic link at a whole path; None if there is none. Outside the
-        directory the first answer for a path is kept."""
+    def read_link(self, path: str) -> Optional[str]:
+        """The target of the symbolic link at an absolute path; None if no link is known there.
+        Outside the directory the first answer for a path is kept."""
         below = self.path_below(path)
         if below is not None:
-            return None if below == '/' else self.inside(below)
-        if path not in self.known:
-            self.known[path] = self.outside(path)
-        return self.known[path]
+            return None if below == '/' else self.read_inside(below)
+        if path not in self.outside_targets:
+            self.outside_targets[path] = self.read_outside(path)
+        return self.outside_targets[path]
 
 
 def names_in_reverse(path: str) -> List[str]:

@@ -1,4 +1,4 @@
-"""Processes that are stopped under strace: their threads, and what they have mapped."""
+"""Processes that are stopped under strace: their threads, and the files that they have mapped."""
 
 from __future__ import annotations
 
@@ -7,22 +7,23 @@ import time
 from enum import Enum
 from typing import List, Optional, Set
 
-# So long a group of threads may take until all of them are stopped: one may be in a slow sync.
-SECONDS = 2.0
+# How long the threads of a process may take until all are stopped: one may be in a slow sync.
+WAIT_SECONDS = 2.0
+# The letters of /proc for a thread that strace, or a signal, has stopped.
 STOPPED = {'t', 'T'}
 
 
 class Stop(Enum):
     """How the wait for a process's stop ended: all its threads are stopped, some still run, or the
-    reported thread runs again, since its stop was already answered with that of another."""
+    reported thread runs again, as the process was continued after another thread's stop."""
 
     ALL_STOPPED = 'all threads are stopped'
     SOME_RUN = 'some threads still run'
     RESUMED = 'the thread runs again'
 
 
-def process_of_thread(thread: int) -> Optional[int]:
-    """The process of a thread; None if the thread has ended."""
+def read_process_of_thread(thread: int) -> Optional[int]:
+    """The number of the process that has a thread; None if the thread has ended."""
     try:
         with open(f'/proc/{thread}/status', encoding='ascii', errors='replace') as lines:
             return next(int(line.split()[1]) for line in lines if line.startswith('Tgid:'))
@@ -30,8 +31,8 @@ def process_of_thread(thread: int) -> Optional[int]:
         return None
 
 
-def threads_of(process: int) -> List[int]:
-    """The threads of a process; empty if it has ended."""
+def list_threads(process: int) -> List[int]:
+    """The numbers of the threads of a process; empty if it has ended."""
     try:
         return [int(name) for name in os.listdir(f'/proc/{process}/task')]
     except OSError:
@@ -48,11 +49,12 @@ def is_stopped(thread: int) -> bool:
 
 
 def wait_until_stopped(thread: int, process: int) -> Stop:
-    """Waits until all threads of a process are stopped, for SECONDS at most, and returns how the
-    wait ended. `thread` is the one that was reported as stopped: the wait ends too when it runs."""
-    deadline = time.monotonic() + SECONDS
+    """Waits until all threads of a process are stopped, for WAIT_SECONDS at most, and returns how
+    the wait ended. `thread` is the one that was reported as stopped: if it runs or has ended, the
+    wait ends at once, with RESUMED."""
+    deadline = time.monotonic() + WAIT_SECONDS
     while is_stopped(thread):
-        if all(map(is_stopped, threads_of(process))):
+        if all(map(is_stopped, list_threads(process))):
             return Stop.ALL_STOPPED
         if time.monotonic() > deadline:
             return Stop.SOME_RUN
@@ -60,10 +62,10 @@ def wait_until_stopped(thread: int, process: int) -> Stop:
     return Stop.RESUMED
 
 
-def inodes_mapped(process: int) -> Optional[Set[str]]:
+def read_mapped_inodes(process: int) -> Optional[Set[str]]:
     """The inodes of the files that a process has mapped, as /proc prints them, and `0` for memory
-    without a file. An empty set if it has ended; None if it may not be seen, as of one that made
-    itself undumpable."""
+    without a file. Empty if the process has ended; None if they may not be read, as of a process
+    that made itself undumpable."""
     try:
         with open(f'/proc/{process}/maps', encoding='utf-8', errors='replace') as lines:
             return {line.split()[4] for line in lines}

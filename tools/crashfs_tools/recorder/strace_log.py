@@ -1,4 +1,4 @@
-"""strace's log as calls: each with the lines at which it began and ended."""
+"""Reads strace's log as a list of calls, each with the lines at which it began and ended."""
 
 from __future__ import annotations
 
@@ -33,76 +33,81 @@ SUPERSEDE = '+supersede'
 @dataclass
 class Call:
     """A call that returned, or was cut by its thread's end (is_cut), or an event (EXIT, SUPERSEDE).
-    process is the number of the thread. It begins and ends at lines of the log, from 1, which order
-    all calls of all threads. result is negative if the call failed or was cut; made is the result
-    as a descriptor, with what strace shows for it."""
+    thread is its number in the system. begin and end are the numbers of the call's first and last
+    line in the log, from 1. result is negative if the call failed or was cut; result_descriptor is
+    the result as a descriptor, with what strace shows for it. frames are the lines of strace -k;
+    note is empty until stacks.note_calls() sets it."""
 
-    process: int
+    thread: int
     name: str
     arguments: List[str]
     result: int
-    made: Descriptor
+    result_descriptor: Descriptor
     begin: int
     end: int
     is_cut: bool = False
     frames: List[str] = field(default_factory=list)
     note: str = ''
 
-    def argument(self, place: int, default: str = '') -> str:
-        """An argument by its place, from 0, or the default if the call has fewer."""
-        return self.arguments[place] if place < len(self.arguments) else default
+    def argument(self, index: int, default: str = '') -> str:
+        """The argument with this index, from 0, or the default if the call has fewer."""
+        return self.arguments[index] if index < len(self.arguments) else default
 
-    def descriptor(self, place: int = 0) -> Descriptor:
-        """The argument at a place as a descriptor, whose number is -1 if it is none."""
-        return arguments.descriptor(self.argument(place))
+    def descriptor(self, index: int = 0) -> Descriptor:
+        """The descriptor in the argument with this index; its number is -1 if there is none.
+        LogError as in parse_descriptor()."""
+        return arguments.parse_descriptor(self.argument(index))
 
 
 @dataclass
 class Log:
-    """A whole log. first is the thread that strace started, None if there is no call; ended has all
-    that ended; cut is the first line that begins a call and isn't whole, None if all are."""
+    """The calls of a log. first_thread is the one that strace started, None if there is no call;
+    ended_threads are all that ended. cut_line is the number of the first line that begins a call
+    and isn't whole, None if all are."""
 
     calls: List[Call] = field(default_factory=list)
-    ended: List[int] = field(default_factory=list)
-    first: Optional[int] = None
-    cut: Optional[int] = None
+    ended_threads: List[int] = field(default_factory=list)
+    first_thread: Optional[int] = None
+    cut_line: Optional[int] = None
 
     @property
     def is_whole(self) -> bool:
-        """Whether the log reaches to the first process's end."""
-        return self.first in self.ended
+        """Whether the log has the end of the first thread; False if it has no call."""
+        return self.first_thread in self.ended_threads
 
     @property
-    def has_begun(self) -> bool:
-        """Whether an exec succeeded: strace's first process became COMMAND's program."""
+    def has_started_program(self) -> bool:
+        """Whether an execve succeeded, as the one that starts COMMAND's program must."""
         return any(call.name == 'execve' and call.result == 0 for call in self.calls)
 
 
 @dataclass
 class InterruptedCall:
-    """The beginning of a call that another line interrupted."""
+    """A call whose line was interrupted by another one. first_arguments is the text of its line
+    between the opening bracket and the interruption."""
 
     begin: int
     name: str
-    head: str
+    first_arguments: str
 
 
 class LogReader:
     """Reads a log line by line; a call that another thread's line cuts in two is put together.
-    Lines that a filter finds needless are left out."""
+    Lines that a filter finds needless are left out. threads has all that made a call or were
+    forked. call_with_frames is the call to which the next lines of strace -k are added; None after
+    a needless line or an event: then they are left out."""
 
     def __init__(self, line_filter: Optional[LogFilter] = None) -> None:
         """Begins an empty log. Without a filter all lines are read."""
         self.log = Log()
         self.filter = line_filter
-        self.waiting: Dict[str, InterruptedCall] = {}
-        self.processes: Set[int] = set()
-        # The call whose frames are read; a signal has frames too.
-        self.shown: Optional[Call] = None
+        self.interrupted_calls: Dict[str, InterruptedCall] = {}
+        self.threads: Set[int] = set()
+        self.call_with_frames: Optional[Call] = None
 
-    def read(self, lines: Iterable[str]) -> Log:
-        """Reads these lines as a whole log, and returns it. LogError, with the line's number, if
-        one isn't as strace writes it."""
+    def read_lines(self, lines: Iterable[str]) -> Log:
+        """Reads the lines of a log, from its first one, and returns the log. LogError, with the
+        line's number, if a line isn't as strace writes it."""
         for number, line in enumerate(lines, 1):
             try:
                 self.read_line(number, line.rstrip('\n'))
@@ -111,25 +116,28 @@ class LogReader:
         return self.log
 
     def read_line(self, number: int, line: str) -> None:
-        """Reads the line with this number: a call, a part of one, a frame, or an event. Needless
-        lines, and the end of a call whose beginning was needless, are left out. LogError if an
-        argument isn't as strace writes it."""
+        """Reads the line with this number, which has no line feed: a call, a part of one, a frame,
+        or an event. Needless lines, and the end of a call whose beginning was needless, are left
+        out. LogError if an argument isn't as strace writes it."""
         if self.filter is not None and self.filter.is_needless(line):
-            self.shown = None
+            self.call_with_frames = None
             return
-        begun = BEGUN.match(line) if line.endswith(UNFINISHED) else None
-        if begun:
-            head = line[begun.end() : -len(UNFINISHED)]
-            self.waiting[begun[1]] = InterruptedCall(number, begun[2], head)
+        interrupted = BEGUN.match(line) if line.endswith(UNFINISHED) else None
+        if interrupted:
+            first_arguments = line[interrupted.end() : -len(UNFINISHED)]
+            self.interrupted_calls[interrupted[1]] = InterruptedCall(
+                number, interrupted[2], first_arguments
+            )
             return
         begin = number
         resumed = RESUMED.match(line)
         if resumed:
-            waiting = self.waiting.pop(resumed[1], None)
-            if waiting is None:
+            call = self.interrupted_calls.pop(resumed[1], None)
+            if call is None:
+                self.call_with_frames = None
                 return
-            begin = waiting.begin
-            line = f'{resumed[1]} {waiting.name}({waiting.head}{resumed[3]}'
+            begin = call.begin
+            line = f'{resumed[1]} {call.name}({call.first_arguments}{resumed[3]}'
         match = LINE.match(line)
         if match:
             self.add_call(match, begin, number)
@@ -137,64 +145,66 @@ class LogReader:
                 self.filter.note_result(match[2], line)
         elif not line.startswith(FRAME):
             self.add_event(number, line)
-        elif self.shown is not None:
-            self.shown.frames.append(line[len(FRAME) :])
+        elif self.call_with_frames is not None:
+            self.call_with_frames.frames.append(line[len(FRAME) :])
 
     def add_call(self, match: re.Match[str], begin: int, end: int) -> None:
-        """Adds a whole call, by the match of LINE, with the lines at which it began and ended. The
-        frames of the next lines are its own."""
-        process, name, text, result, tail = match.groups()
-        self.processes.add(int(process))
-        if self.log.first is None:
-            self.log.first = int(process)
+        """Adds a whole call, by the match of LINE, and the numbers of its first and last line.
+        Notes its thread, and the one that a fork made; the next frames are the call's. LogError if
+        an argument isn't as strace writes it."""
+        thread, name, text, result, tail = match.groups()
+        self.threads.add(int(thread))
+        if self.log.first_thread is None:
+            self.log.first_thread = int(thread)
         if name in FORKS and result.isdigit():
-            self.processes.add(int(result))
+            self.threads.add(int(result))
         shown = SHOWN_RESULT.match(tail)
-        number = -1 if result == '?' else arguments.integer(result)
-        text_shown = arguments.shown_text(shown[1]) if shown else None
-        self.shown = Call(
-            process=int(process),
+        number = -1 if result == '?' else arguments.parse_integer(result)
+        shown_text = arguments.parse_shown_text(shown[1]) if shown else None
+        self.call_with_frames = Call(
+            thread=int(thread),
             name=name,
-            arguments=arguments_of(name, text),
+            arguments=split_and_pack(name, text),
             result=number,
-            made=Descriptor(number, text_shown, bool(shown and shown[2])),
+            result_descriptor=Descriptor(number, shown_text, is_deleted=bool(shown and shown[2])),
             begin=begin,
             end=end,
             is_cut=result == '?',
         )
-        self.log.calls.append(self.shown)
+        self.log.calls.append(self.call_with_frames)
 
     def add_event(self, number: int, line: str) -> None:
-        """Adds what a line that is no call says: that a thread ended, or got another number. Of
-        other lines only the first that begins a call, and isn't whole, is noted."""
-        self.shown = None
+        """Adds what a line that is no call reports: that a thread ended, or got another number. Of
+        other lines only the first that begins a call is noted, as the log's cut_line; the rest are
+        left out. Frames that come next belong to no call."""
+        self.call_with_frames = None
         ended, superseded = ENDED.match(line), SUPERSEDED.match(line)
         if ended:
-            self.log.ended.append(int(ended[1]))
+            self.log.ended_threads.append(int(ended[1]))
             self.add_event_call(number, int(ended[1]), EXIT, 0)
         elif superseded:
             self.add_event_call(number, int(superseded[1]), SUPERSEDE, int(superseded[2]))
-        elif self.log.cut is None and BEGUN.match(line):
-            self.log.cut = number
+        elif self.log.cut_line is None and BEGUN.match(line):
+            self.log.cut_line = number
 
-    def add_event_call(self, number: int, process: int, name: str, result: int) -> None:
-        """Adds an event as a call without arguments, on one line; result is 0 of an EXIT, and of a
-        SUPERSEDE the number that the thread had."""
-        nothing = Descriptor(-1, None, False)
-        event = Call(process, name, [], result, made=nothing, begin=number, end=number)
+    def add_event_call(self, number: int, thread: int, name: str, result: int) -> None:
+        """Adds an event of a thread as a call without arguments, on one line. The result is 0 for
+        EXIT; for SUPERSEDE it is the number that the thread had before."""
+        no_descriptor = Descriptor(-1, None, is_deleted=False)
+        event = Call(thread, name, [], result, no_descriptor, begin=number, end=number)
         self.log.calls.append(event)
 
 
-def arguments_of(name: str, text: str) -> List[str]:
-    """The arguments of a call, from the text between its brackets. The bytes that a call of WRITES
-    writes are packed: they are most of a log."""
+def split_and_pack(name: str, text: str) -> List[str]:
+    """The arguments of a call, from the text between its brackets; name is the call's. The bytes
+    that a call of WRITES writes are packed: they are most of a log."""
     words = arguments.split_arguments(text)
     if name in WRITES and len(words) > 1:
-        words[1] = arguments.packed_word(words[1])
+        words[1] = arguments.pack_word(words[1])
     return words
 
 
 def read_log(lines: Iterable[str], line_filter: Optional[LogFilter] = None) -> Log:
-    """A new LogReader's log of these lines, without those that the filter finds needless. It raises
-    what read() does."""
-    return LogReader(line_filter).read(lines)
+    """Reads the lines of a log, from its first one, without those that the filter finds needless.
+    LogError as in LogReader.read_lines()."""
+    return LogReader(line_filter).read_lines(lines)

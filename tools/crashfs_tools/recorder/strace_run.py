@@ -13,8 +13,8 @@ import time
 from contextlib import nullcontext
 from typing import ContextManager, List, Optional, Sequence
 
-from crashfs_tools.common.command import Refused, standard_output
-from crashfs_tools.common.guard import Guard, stops_heard
+from crashfs_tools.common.command import Refused, flushed_output
+from crashfs_tools.common.guard import Guard, stop_signals
 
 from . import stacks
 from .log_stream import LogStream
@@ -27,15 +27,17 @@ from .translate import HANDLERS, SOCKET_HANDLERS
 OLDEST = (5, 18)
 # Longer texts than the largest file are cut by strace; a cut text is reported.
 TEXT_BYTES = 1 << 25
-# For so many seconds a second signal is the same stop: `timeout` sends its signal twice.
-SAME_STOP = 1.0
-# So long the recorder waits for output before it looks whether strace has ended.
-IDLE_SECONDS = 0.5
+# For how many seconds a second signal counts as the first: `timeout` sends its signal twice.
+SAME_SIGNAL_SECONDS = 1.0
+# How long the recorder waits for output before it looks whether strace has ended, and before it
+# sends a signal again.
+IDLE_SECONDS, RESEND_SECONDS = 0.5, 0.1
 
 
 def find_strace() -> str:
-    """strace's path. Refused if it isn't there, or too old to print AT_FDCWD's path. A version that
-    can't be read is accepted: a log that isn't as it should be is refused later."""
+    """The path of strace, which is started once for its version. Refused if it isn't there, or is
+    too old to print AT_FDCWD's path; OSError if it can't be started. If its version can't be read,
+    it is accepted: a log in another form is refused later."""
     path = shutil.which('strace')
     if path is None:
         raise Refused('strace: command not found; it is in the package strace of most systems')
@@ -49,14 +51,16 @@ def find_strace() -> str:
     return path
 
 
-def strace_command(strace: str, log: str, options: RecordOptions) -> List[str]:
-    """The words that start strace, which writes to the file `log`, and COMMAND under it. Only the
-    calls that the options need are traced."""
-    sockets = [] if set(options.acknowledged) <= {'1', '2'} else SOCKET_HANDLERS
-    marks = stacks.MARKS if options.stacks else ()
-    traced = dict.fromkeys([*FORKS, *HANDLERS, *sockets, *marks])
+def strace_command(strace: str, log_path: str, options: RecordOptions) -> List[str]:
+    """The words that start strace, which writes its log to a file, and COMMAND under it. Only the
+    calls that the options need are traced. With --mapped SIGSTOP stops COMMAND at each of
+    STOPPING_CALLS; with --stacks the log has stacks, unless COMMAND is a Python program."""
+    is_standard_only = set(options.acknowledging_descriptors) <= {'1', '2'}
+    socket_calls = [] if is_standard_only else SOCKET_HANDLERS
+    marking_calls = stacks.MARKING_CALLS if options.stacks else ()
+    traced = dict.fromkeys([*FORKS, *HANDLERS, *socket_calls, *marking_calls])
     calls = ','.join(f'?{name}' for name in traced)
-    line = [
+    command = [
         strace,
         '-f',
         '-y',
@@ -68,140 +72,144 @@ def strace_command(strace: str, log: str, options: RecordOptions) -> List[str]:
         '-e',
         f'trace={calls}',
         '-o',
-        log,
+        log_path,
     ]
     if options.stacks and not stacks.is_python(options.command[0]):
-        line.append('-k')
+        command.append('-k')
     if options.mapped:
         # Signals that are injected don't arrive together with --seccomp-bpf.
-        stops = ','.join(f'?{name}' for name in STOPPING_CALLS)
-        line += ['-e', f'inject={stops}:signal=SIGSTOP']
+        stopping_calls = ','.join(f'?{name}' for name in STOPPING_CALLS)
+        command += ['-e', f'inject={stopping_calls}:signal=SIGSTOP']
     else:
-        line.append('--seccomp-bpf')
-    return line + options.command
+        command.append('--seccomp-bpf')
+    return command + options.command
 
 
 class StraceRun:
-    """COMMAND while it runs under strace; to be used once. SIGINT, SIGTERM and SIGHUP are passed on
-    to it, and a second one kills it: what it did up to there is recorded. stops has the signals
-    that came, and output what strace shows for its standard output, None before it runs."""
+    """A run of COMMAND under strace; to be used once. SIGINT, SIGTERM and SIGHUP are passed to it,
+    and a second one kills it: what it did before is recorded. `signals` has those that came,
+    signal_to_send the one that is still to be passed. output_pipe is what strace shows for
+    COMMAND's standard output, None before it runs; strace_process is 0 before it runs."""
 
     def __init__(
-        self, line: List[str], options: RecordOptions, stream: LogStream, guard: Guard
+        self, command_line: List[str], options: RecordOptions, stream: LogStream, guard: Guard
     ) -> None:
-        """Starts nothing yet. `line` are the words that start strace, stream reads its log, and
-        guard has the environment that COMMAND and all its processes get."""
-        self.line, self.options, self.stream, self.guard = line, options, stream, guard
-        self.stops: List[int] = []
-        self.first_stop = 0.0
+        """Starts nothing yet. command_line is that of strace_command(), stream reads strace's log,
+        and guard has the environment that COMMAND and all its processes get."""
+        self.command_line, self.options = command_line, options
+        self.stream, self.guard = stream, guard
+        self.signals: List[int] = []
+        self.first_signal_time = 0.0
         self.signal_to_send: Optional[int] = None
-        self.output: Optional[str] = None
-        self.strace = 0
+        self.output_pipe: Optional[str] = None
+        self.strace_process = 0
 
-    def run(self) -> int:
-        """Runs COMMAND to its end, copies its standard output to that of the recorder, and returns
-        its status as Popen has it. The handlers of signals are the old ones afterwards. OSError if
-        standard output can't be written.
-
-        COMMAND's standard output is a pipe: a program that writes by stdio has to flush its
-        lines."""
-        before = {number: signal.signal(number, self.note_stop) for number in stops_heard()}
+    def run_command(self) -> int:
+        """Runs COMMAND to its end, without a time limit, and returns its status as Popen has it.
+        Its standard output is a pipe, which is copied to that of the recorder. Must be called in
+        the main thread; restores the old handlers of signals. OSError if strace can't be started,
+        the pipe of its log can't be opened, or standard output can't be written: then strace and
+        COMMAND may still run."""
+        old_handlers = {
+            number: signal.signal(number, self.note_signal) for number in stop_signals()
+        }
         try:
             environment = self.guard.environment
             if self.options.stacks:
                 environment = stacks.environment_with_hook(environment)
-            child = subprocess.Popen(
-                self.line,
+            strace = subprocess.Popen(
+                self.command_line,
                 cwd=self.options.directory,
                 stdout=subprocess.PIPE,
                 env=environment,
-                pass_fds=inherited_descriptors(self.options.acknowledged),
+                pass_fds=inherited_descriptors(self.options.acknowledging_descriptors),
             )
-            self.strace = child.pid
-            assert child.stdout is not None
-            self.output = f'pipe:[{os.fstat(child.stdout.fileno()).st_ino}]'
+            self.strace_process = strace.pid
+            assert strace.stdout is not None
+            self.output_pipe = f'pipe:[{os.fstat(strace.stdout.fileno()).st_ino}]'
             self.stream.start()
-            with self.progress():
-                self.pass_output(child, child.stdout.fileno())
-                return self.status_of(child)
+            with self.progress_lines():
+                self.copy_output(strace, strace.stdout.fileno())
+                return self.wait_for_status(strace)
         finally:
-            signal.set_wakeup_fd(-1)
-            for number, handler in before.items():
+            for number, handler in old_handlers.items():
                 signal.signal(number, handler)
 
-    def progress(self) -> ContextManager[object]:
-        """A context for the time while COMMAND runs: on a terminal it prints lines on the progress,
-        else nothing."""
+    def progress_lines(self) -> ContextManager[object]:
+        """A context in which lines on the progress are printed, if standard error is a terminal;
+        else nothing is."""
         if not sys.stderr.isatty():
             return nullcontext()
         return CallProgress(NAME, lambda: len(self.stream.reader.log.calls))
 
-    def pass_output(self, child: subprocess.Popen[bytes], source: int) -> None:
-        """Copies a pipe to standard output until it ends, or until strace has: a process that
-        strace doesn't follow may keep the pipe open. If nobody reads standard output any more, the
-        pipe is still read, so that COMMAND continues; any other fault of it is an OSError. A signal
-        ends the wait, whichever thread takes it, and is passed to COMMAND."""
-        waiting, wake = os.pipe2(os.O_NONBLOCK | os.O_CLOEXEC)
-        signal.set_wakeup_fd(wake, warn_on_full_buffer=False)
-        while True:
-            seconds = IDLE_SECONDS if self.signal_to_send is None else 0.1
-            ready = select.select([source, waiting], [], [], seconds)[0]
-            if waiting in ready:
-                os.read(waiting, 64)
-            self.send_noted_signal()
-            piece = os.read(source, 65_536) if source in ready else None
-            if piece == b'' or piece is None and not ready and child.poll() is not None:
-                break
-            with standard_output():
-                sys.stdout.buffer.write(piece or b'')
-        signal.set_wakeup_fd(-1)
-        os.close(waiting)
-        os.close(wake)
+    def copy_output(self, strace: subprocess.Popen[bytes], pipe: int) -> None:
+        """Copies a pipe to standard output until it ends, or until strace has ended and no more
+        bytes come, as a process that strace doesn't follow may keep the pipe open. Signals that
+        come meanwhile are passed to COMMAND. If nobody reads standard output any more, the pipe is
+        still read; any other fault of standard output is an OSError."""
+        wakeup_read, wakeup_write = os.pipe2(os.O_NONBLOCK | os.O_CLOEXEC)
+        signal.set_wakeup_fd(wakeup_write, warn_on_full_buffer=False)
+        try:
+            while True:
+                seconds = IDLE_SECONDS if self.signal_to_send is None else RESEND_SECONDS
+                ready = select.select([pipe, wakeup_read], [], [], seconds)[0]
+                if wakeup_read in ready:
+                    os.read(wakeup_read, 64)
+                self.send_noted_signal()
+                piece = os.read(pipe, 65_536) if pipe in ready else None
+                if piece == b'' or piece is None and not ready and strace.poll() is not None:
+                    return
+                with flushed_output():
+                    sys.stdout.buffer.write(piece or b'')
+        finally:
+            signal.set_wakeup_fd(-1)
+            os.close(wakeup_read)
+            os.close(wakeup_write)
 
-    def status_of(self, child: subprocess.Popen[bytes]) -> int:
-        """Waits for strace's end, passes signals on until then, and returns its status, which is
-        COMMAND's."""
+    def wait_for_status(self, strace: subprocess.Popen[bytes]) -> int:
+        """Waits for strace's end, without a time limit, and returns its status, which is COMMAND's.
+        Signals that come meanwhile are passed to COMMAND."""
         while True:
             try:
-                return child.wait(0.2)
+                return strace.wait(0.2)
             except subprocess.TimeoutExpired:
                 self.send_noted_signal()
 
-    def note_stop(self, number: int, _: object) -> None:
-        """The handler of a signal. The first one is noted to be passed to COMMAND, unless the
-        terminal sent it there too; a later one to kill it. One within SAME_STOP seconds after the
-        first is the same stop, and left out."""
-        if self.stops and time.monotonic() < self.first_stop + SAME_STOP:
+    def note_signal(self, number: int, _: object) -> None:
+        """Adds a signal to `signals`, as its handler. The first one is noted to be passed to
+        COMMAND, unless the terminal sent it there too; after a later one COMMAND is killed. One
+        within SAME_SIGNAL_SECONDS after the first is left out."""
+        if self.signals and time.monotonic() < self.first_signal_time + SAME_SIGNAL_SECONDS:
             return
-        self.stops.append(number)
-        if len(self.stops) > 1:
+        self.signals.append(number)
+        if len(self.signals) > 1:
             self.signal_to_send = signal.SIGKILL
             return
-        self.first_stop = time.monotonic()
+        self.first_signal_time = time.monotonic()
         if number != signal.SIGINT or not is_on_terminal():
             self.signal_to_send = number
 
     def send_noted_signal(self) -> None:
-        """Sends COMMAND's processes the noted signal, if there is one and some have begun; else the
-        next call tries again. A kill is sent by each later call too, since a process may have just
-        forked."""
-        if self.signal_to_send is not None and self.guard.send_signal(
-            self.signal_to_send, spared=self.strace
-        ):
-            self.signal_to_send = (
-                self.signal_to_send if self.signal_to_send == signal.SIGKILL else None
-            )
+        """Sends the noted signal, if there is one, to COMMAND's processes, but not to strace. If no
+        process has begun, the next call tries again. Each later call sends SIGKILL again, as a
+        process may have forked meanwhile."""
+        number = self.signal_to_send
+        if number is None or not self.guard.send_signal(number, spared_process=self.strace_process):
+            return
+        # A second signal may have come meanwhile.
+        if self.signal_to_send != signal.SIGKILL:
+            self.signal_to_send = None
 
 
-def inherited_descriptors(acknowledged: Sequence[str]) -> List[int]:
-    """The descriptors above 2 that acknowledge something and that COMMAND inherits. Those that the
-    recorder has opened itself aren't inherited."""
-    numbers = [int(number) for number in acknowledged if number.isdecimal() and int(number) > 2]
-    return [number for number in numbers if is_inherited(number)]
+def inherited_descriptors(acknowledging_descriptors: Sequence[str]) -> List[int]:
+    """The numbers of the acknowledging descriptors above 2 that COMMAND inherits; the recorder's
+    own descriptors aren't inherited."""
+    numbers = [int(word) for word in acknowledging_descriptors if word.isdecimal()]
+    return [number for number in numbers if number > 2 and is_inherited(number)]
 
 
 def is_inherited(number: int) -> bool:
-    """Whether a descriptor is open here, and a program that is started gets it."""
+    """Whether a descriptor is open in this process, and programs that it starts get it."""
     try:
         return os.get_inheritable(number)
     except OSError:
@@ -209,8 +217,8 @@ def is_inherited(number: int) -> bool:
 
 
 def is_on_terminal() -> bool:
-    """Whether Ctrl-C on the terminal reaches COMMAND by itself: this process group is in front
-    there. False without a terminal."""
+    """Whether Ctrl-C on the terminal reaches COMMAND by itself, as this process is in its
+    foreground group. False if standard input isn't the terminal that controls this process."""
     try:
         return os.tcgetpgrp(0) == os.getpgrp()
     except OSError:

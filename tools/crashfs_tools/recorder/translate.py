@@ -2,7 +2,7 @@
 
 from __future__ import annotations
 
-from typing import Callable, Dict, List, Optional
+from typing import Callable, Dict, Iterator, List, Optional, Tuple
 
 from crashfs_tools.common.file_bytes import Bytes
 
@@ -33,235 +33,282 @@ SOCKET_HANDLERS: Dict[str, Handler] = dict(data_calls.SOCKET_HANDLERS)
 
 
 class Translator:
-    """Takes the calls of a log one by one, once; a process is known from its parent's state at its
-    first call.
+    """Translates the calls of a log one by one, once. A method that reads a call's argument raises
+    LogError if it isn't as strace writes it.
 
-    stores has the copies that each call comes with; mapped has the files of the copies' numbers;
-    early has what copies show of files before the calls that mapped them are in the trace; newest
-    has the newest copy of each file, since two processes' copies may come in the order of their
-    calls. places has each copy's place among all, and parents the forks that returned each process.
-    Without --mapped there are no copies."""
+    A mapped file has a number, which is that of FileCopies. call_copies has, by the call's id, the
+    copies that show what was stored before it. mapped_nodes has the file of each number, and
+    early_bytes what copies show of files whose mmap isn't translated yet. newest_copies has the
+    newest copy of each file: copies may be translated in another order than they were taken, which
+    copy_indexes has by their ids. forks has the calls that returned each process. Without --mapped
+    there are no copies."""
 
-    def __init__(self, files: LiveFiles, log: Log, copies: Optional[FileCopies] = None) -> None:
-        """Notes the forks of the log, and translates nothing yet. copies is None without
-        --mapped."""
+    def __init__(
+        self, files: LiveFiles, log: Log, file_copies: Optional[FileCopies] = None
+    ) -> None:
+        """Notes the forks of the log, and translates nothing yet. file_copies is None without
+        --mapped; has_copies of the files is set by it."""
         self.files = files
         self.recording = files.recording
         self.log = log
-        self.copies = copies or FileCopies()
-        self.files.has_copies = copies is not None
-        self.stores: Dict[int, List[FileCopy]] = {}
-        self.mapped: Dict[int, Node] = {}
-        self.early: Dict[int, Bytes] = {}
-        self.newest: Dict[int, FileCopy] = {}
-        self.places = {id(copy): place for place, copy in enumerate(self.copies.taken)}
-        self.parents: Dict[int, List[Call]] = {}
+        self.file_copies = file_copies or FileCopies()
+        self.files.has_copies = file_copies is not None
+        self.call_copies: Dict[int, List[FileCopy]] = {}
+        self.mapped_nodes: Dict[int, Node] = {}
+        self.early_bytes: Dict[int, Bytes] = {}
+        self.newest_copies: Dict[int, FileCopy] = {}
+        self.copy_indexes = {id(copy): index for index, copy in enumerate(self.file_copies.copies)}
+        self.forks: Dict[int, List[Call]] = {}
         for call in log.calls:
             if call.name in FORKS and call.result > 0:
-                self.parents.setdefault(call.result, []).append(call)
+                self.forks.setdefault(call.result, []).append(call)
 
-    def run(self) -> None:
-        """Translates the whole log, and ends the recording. LogError, with the line's number, if an
-        argument isn't as strace writes it; what came before is in the recording then."""
+    def translate_log(self) -> None:
+        """Translates the whole log, and ends the recording, whose current_call is None then.
+        LogError if an argument isn't as strace writes it, with the number of the last line of its
+        call, or without one if it is raised while calls are put in order. The recording has the
+        calls before it then."""
         try:
             self.translate_calls()
         except LogError as error:
-            where = f', in line {self.recording.call.end}' if self.recording.call else ''
+            call = self.recording.current_call
+            where = f', in line {call.end}' if call else ''
             raise LogError(f'{error}{where}') from error
-        self.recording.call = None
-        self.add_rest()
+        self.recording.current_call = None
+        self.end_recording()
 
     def translate_calls(self) -> None:
-        """Translates all calls in the order of their operations, each as the recording's current
-        call. It drops the arguments of writes from the calls, since the trace has the bytes then.
-        LogError as arguments.py raises it."""
-        if SOCKETS in self.recording.streams.acknowledged:
-            self.recording.streams.with_lines = connections_with_lines(self.log.calls)
+        """Translates all calls in the order of their operations, each as the recording's
+        current_call. Before that it sets call_copies, and the connections over which lines are
+        sent. It empties the arguments of writes, since the trace has their bytes. LogError as
+        arguments.py raises it."""
+        if SOCKETS in self.recording.streams.acknowledging_descriptors:
+            self.recording.streams.line_connections = connections_with_lines(self.log.calls)
         ordered = call_order.calls_in_order(self.log.calls)
-        if self.copies.taken:
-            self.stores = mapped_stores.copies_by_call(
-                self.log.calls, [call for _, call in ordered], self.copies
+        if self.file_copies.copies:
+            self.call_copies = mapped_stores.copies_by_call(
+                self.log.calls, [call for _, call in ordered], self.file_copies
             )
         for line, call in ordered:
             self.files.add_ended_syncs(line)
-            self.recording.call = call
+            self.recording.current_call = call
             self.translate_call(call)
-            # The trace has its bytes now.
-            call.arguments = [] if call.name in WRITES else call.arguments
+            if call.name in WRITES:
+                # The trace has their bytes now.
+                call.arguments = []
         self.files.add_ended_syncs(None)
 
-    def add_rest(self) -> None:
-        """Adds what comes after the last call: unfinished lines of output, what the last copies
-        show, and reports on names and mappings that the trace lacks."""
+    def end_recording(self) -> None:
+        """Adds what comes after the last call: lines of output without a line feed, what the last
+        copy shows, and reports on names and mappings that the trace lacks."""
         self.recording.end_streams()
-        for copy in self.copies.taken:
-            if copy.process == 0:
-                self.add_stores(copy, None, False)
-        for path in self.copies.missed:
-            self.files.recording.report('mapped, and it could not be opened to be followed', path)
+        for copy in self.file_copies.copies:
+            if copy.is_last:
+                self.add_stores(copy)
+        for path in self.file_copies.unopened_paths:
+            self.recording.report('mapped, and it could not be opened to be followed', path)
         self.report_untraced_names()
 
     def translate_call(self, call: Call) -> None:
-        """Translates a call. One that failed or was cut, and an event, changes no file; but what
-        its copies show is added, a process that ended is forgotten, and a change that was cut is
-        reported."""
+        """Translates a call or an event. A call that failed or was cut changes nothing, but stores
+        that its copies show are added, and a change that was cut is reported. EXIT forgets the
+        thread; SUPERSEDE gives it its new number."""
         is_event = call.name in (EXIT, SUPERSEDE)
         if not is_event and not call.is_cut and call.result >= 0:
-            self.translate_returned(call)
+            self.translate_returned_call(call)
             return
         # The program was stopped and copied from after a call that failed, too.
-        for copy in self.stores.get(id(call), []):
-            self.add_stores(copy, None, False)
+        for copy in self.call_copies.get(id(call), []):
+            self.add_stores(copy)
         if call.name == EXIT:
-            self.files.processes.pop(call.process, None)
+            self.files.processes.pop(call.thread, None)
         elif call.name == SUPERSEDE:
             self.renumber_thread(call)
         elif call.is_cut:
             self.report_cut_change(call)
 
     def report_cut_change(self, call: Call) -> None:
-        """Reports a change that its thread's end cut, if it is of a stream or in the directory: the
-        log doesn't show whether it was made. If it has several paths there, the report names the
-        first, and the others may differ at the end."""
-        if not call_order.is_change(call):
+        """Reports a change, or an open that makes or truncates a file, that was cut by the end of
+        its thread: the log doesn't show whether it was done. If it has several paths in the
+        directory, the report names the first, and all others may differ at the end. Nothing for a
+        change elsewhere, or of extended attributes."""
+        is_open = call.name in call_order.OPENS
+        is_change = call_order.is_change(call) and call.name not in call_order.LIST_CHANGES
+        if not (is_open or is_change):
             return
-        process = self.process_of(call.process, call.end)
-        is_by_path = call.name not in call_order.DESCRIPTOR_CHANGES
-        find_places = self.paths_of_change if is_by_path else self.place_of_descriptor
-        places = find_places(process, call)
-        if places:
+        process = self.find_process(call.thread, call.end)
+        if call.name in call_order.DESCRIPTOR_CHANGES:
+            targets = self.targets_by_descriptor(process, call)
+        else:
+            targets = self.targets_by_path(process, call)
+        if is_open:
+            targets = [path for path in targets if self.may_change_by_open(call, path)]
+        if targets:
             self.recording.report(
                 f'{call.name} was cut by the end of its thread: whether it was '
                 'done is not in the log',
-                places[0],
+                targets[0],
             )
-            self.recording.differing.update(places[1:])
+            self.recording.differing_paths.update(targets[1:])
 
-    def place_of_descriptor(self, process: Process, call: Call) -> List[str]:
+    def may_change_by_open(self, call: Call, path: str) -> bool:
+        """Whether an open of a path would change something: make a file, if nothing is there, or
+        truncate the one that is there, unless that is empty."""
+        flags = opens.CREAT_FLAGS if call.name == 'creat' else ' '.join(call.arguments[1:])
+        node = self.files.tree.node_at(path)
+        if node is None:
+            return 'O_CREAT' in flags
+        return 'O_TRUNC' in flags and node.size > 0
+
+    def targets_by_descriptor(self, process: Process, call: Call) -> List[str]:
         """The name of the stream, or the path of the file, that a call changes by a descriptor, as
-        a list of one; empty if it is elsewhere."""
-        place = call_order.TARGET_PLACES.get(call.name, 0)
-        stream = self.files.stream_of(process, call, place)
+        a list of one; empty if the file is elsewhere or ignored."""
+        index = call_order.TARGET_INDEXES.get(call.name, 0)
+        stream = self.files.find_output_stream(process, call, index)
         if stream is not None:
             return [stream.name]
-        path = call.descriptor(place).path
-        below = self.files.relative_path(path) if path else None
-        return [] if below is None else [below]
+        shown_path = call.descriptor(index).path
+        path = self.files.resolve_path(shown_path) if shown_path else None
+        return [] if path is None else [path]
 
-    def paths_of_change(self, process: Process, call: Call) -> List[str]:
-        """The paths that a call changes by paths, without those outside the directory. A path is
-        relative to the descriptor before it, or to the working directory. Of a link only the new
-        path is changed."""
-        follows = call.name.startswith(('chmod', 'chown', 'fchmod', 'truncate'))
-        base = process.paths.directory
-        found: List[Optional[str]] = []
+    def targets_by_path(self, process: Process, call: Call) -> List[str]:
+        """The paths that a call changes, by its arguments that are paths; without those outside the
+        directory, ignored ones, and those that strace cut. A path is relative to the descriptor
+        before it, or to the working directory. A link changes only its new path."""
+        follow_last_link = call.name.startswith(('chmod', 'chown', 'fchmod', 'truncate'))
+        if call.name in call_order.OPENS:
+            follow_last_link = opens.may_follow_last_link(' '.join(call.arguments))
+        base = process.path_context.directory
+        paths: List[Optional[str]] = []
         for argument in call.arguments:
             word = argument.removesuffix(UNFINISHED).rstrip()
-            shown = arguments.descriptor(word)
+            shown = arguments.parse_descriptor(word)
             if word.startswith('"'):
-                found.append(self.files.join_path(base, word, follows))
+                path = self.files.resolve_argument(base, word, follow_last_link=follow_last_link)
+                paths.append(path)
             elif shown.number != -1:
-                base = shown.path or process.paths.directory
+                base = shown.path or process.path_context.directory
         if call.name.startswith(('link', 'symlink')):
-            found = found[-1:]
-        return [path for path in found if path is not None]
+            paths = paths[-1:]
+        return [path for path in paths if path is not None]
 
-    def translate_returned(self, call: Call) -> None:
+    def translate_returned_call(self, call: Call) -> None:
         """Translates a call that returned, with the stores that its copies show: before it those to
         other files, after it those to the file that it changes. A call that has no handler changes
         nothing."""
-        process = self.process_of(call.process, call.end)
+        process = self.find_process(call.thread, call.end)
         handler = HANDLERS.get(call.name) or SOCKET_HANDLERS.get(call.name)
-        own = self.changed_file(process, call) if self.stores else None
+        changed_file = self.file_changed_by(process, call) if self.call_copies else None
         # What was stored before the call is before it; but a copy of the file that the
         # call itself changed has that change in it already.
-        for copy in self.stores.get(id(call), []):
-            self.add_stores(copy, own, False)
+        for copy in self.call_copies.get(id(call), []):
+            self.add_stores(copy, changed_file)
         if handler is not None:
             handler(self.files, process, call)
-        if call.begin in self.copies.numbers:
-            self.note_mapped_file(process, call, self.copies.numbers[call.begin])
-        for copy in self.stores.get(id(call), []):
-            self.add_stores(copy, own, True)
+        if call.begin in self.file_copies.numbers_by_line:
+            self.note_mapped_file(process, call, self.file_copies.numbers_by_line[call.begin])
+        for copy in self.call_copies.get(id(call), []):
+            self.add_own_stores(copy, changed_file)
 
     def note_mapped_file(self, process: Process, call: Call, number: int) -> None:
-        """Notes the file that a call mapped, by the number of its copies; nothing if the file isn't
-        followed. What copies showed of it before is stored after the call."""
+        """Notes that a call mapped the file with a number; nothing if the file isn't followed. What
+        copies showed of it before is stored after the call."""
         file = process.descriptors.files.get(call.descriptor(4).number)
         if file is None or file.node is None:
             return
-        self.mapped[number] = file.node
-        if number in self.early:
-            mapped_stores.add_stores(self.files, file.node, self.early.pop(number), False)
+        self.mapped_nodes[number] = file.node
+        if number in self.early_bytes:
+            data = self.early_bytes.pop(number)
+            mapped_stores.add_stores(self.files, file.node, data, has_one_writer=False)
 
-    def changed_file(self, process: Process, call: Call) -> Optional[Node]:
+    def file_changed_by(self, process: Process, call: Call) -> Optional[Node]:
         """The file whose bytes a call changes; None for any other call, and if the file isn't
         followed."""
         if call.name in ('truncate', 'truncate64'):
             return self.files.node_argument(process, call, 0)
         if call.name not in call_order.DATA_CHANGES:
             return None
-        number = call.descriptor(call_order.TARGET_PLACES.get(call.name, 0)).number
+        number = call.descriptor(call_order.TARGET_INDEXES.get(call.name, 0)).number
         file = process.descriptors.files.get(number)
         return file.node if file else None
 
-    def add_stores(self, copy: FileCopy, own: Optional[Node], is_own: bool) -> None:
-        """Adds what a copy shows: if is_own, of the file `own`, which the call itself changes; else
-        of all other files. A file that isn't mapped yet waits in `early`; an older copy than the
-        newest shows nothing."""
-        for number, data in copy.files.items():
-            node = self.mapped.get(number)
-            if not self.take_as_newest(copy, number):
+    def add_stores(self, copy: FileCopy, changed_file: Optional[Node] = None) -> None:
+        """Adds the stores that a copy shows to all mapped files but changed_file, which the copy's
+        call itself changes; None if it changes none."""
+        for number, node in self.files_to_store(copy):
+            if node is not changed_file:
+                self.add_stores_of_file(copy, number, node)
+
+    def add_own_stores(self, copy: FileCopy, changed_file: Optional[Node]) -> None:
+        """Adds the stores that a copy shows to the file that the copy's call itself changes;
+        nothing if that is None."""
+        for number, node in self.files_to_store(copy):
+            if node is changed_file:
+                self.add_stores_of_file(copy, number, node)
+
+    def files_to_store(self, copy: FileCopy) -> Iterator[Tuple[int, Node]]:
+        """Yields the number and the node of each mapped file of which a copy is the newest from now
+        on. The bytes of a file whose mmap isn't translated yet wait in early_bytes."""
+        for number, data in copy.bytes_by_number.items():
+            node = self.mapped_nodes.get(number)
+            if not self.note_newest_copy(copy, number):
                 continue
             if node is None:
-                self.early[number] = data
-            elif (node is own) == is_own:
-                mapped_stores.add_stores(self.files, node, data, copy.is_sure(number))
+                self.early_bytes[number] = data
+            else:
+                yield number, node
 
-    def take_as_newest(self, copy: FileCopy, number: int) -> bool:
-        """Makes a copy the newest one of a file, and returns True. Returns False if a newer one may
-        be in the trace already; that stays."""
-        newest = self.newest.setdefault(number, copy)
-        if self.places[id(newest)] > self.places[id(copy)]:
+    def add_stores_of_file(self, copy: FileCopy, number: int, node: Node) -> None:
+        """Adds the stores that a copy shows to the file with a number, which is this node."""
+        data, has_one_writer = copy.bytes_by_number[number], copy.has_one_writer(number)
+        mapped_stores.add_stores(self.files, node, data, has_one_writer=has_one_writer)
+
+    def note_newest_copy(self, copy: FileCopy, number: int) -> bool:
+        """Makes a copy the newest one of the file with a number, and returns True. Returns False if
+        a newer one may be in the trace already; that stays the newest."""
+        newest = self.newest_copies.setdefault(number, copy)
+        if self.copy_indexes[id(newest)] > self.copy_indexes[id(copy)]:
             return False
-        self.newest[number] = copy
+        self.newest_copies[number] = copy
         return True
 
-    def process_of(self, number: int, moment: int) -> Process:
-        """The process with this number, which calls at the line `moment`. One that isn't known is
-        made: COMMAND's first process, or a child from its parent, since it may call before its
-        parent's fork has returned."""
-        known = self.files.processes
-        if number not in known:
-            if number == self.log.first:
-                known[number] = self.files.first_process()
+    def find_process(self, number: int, line: int) -> Process:
+        """The process with a number, which calls at this line of the log. One that isn't known is
+        added: COMMAND's first process, or the child of a fork, which may call before its parent's
+        fork has returned."""
+        processes = self.files.processes
+        if number not in processes:
+            if number == self.log.first_thread:
+                processes[number] = self.files.first_process()
             else:
-                known[number] = self.new_process(number, moment)
-        return known[number]
+                processes[number] = self.new_process(number, line)
+        return processes[number]
 
-    def new_process(self, number: int, moment: int) -> Process:
-        """A process that hasn't called yet, as the newest fork before this line made it. If the log
-        has no such fork, that is reported, and the process has nothing open and is in the
-        directory."""
-        forks = [fork for fork in self.parents.get(number, []) if fork.begin <= moment]
+    def new_process(self, number: int, line: int) -> Process:
+        """A process that hasn't called yet, as the newest fork that began at this line or before
+        made it. A parent that isn't known is added. If the log has no such fork, that is reported,
+        and the process begins as COMMAND does, but with nothing open."""
+        forks = [fork for fork in self.forks.get(number, []) if fork.begin <= line]
         if not forks:
-            self.files.recording.report('a process whose parent is not in the log', '/')
+            self.recording.report('a process whose parent is not in the log', '/')
             conditions = self.files.conditions
             return Process(Descriptors(), PathContext(conditions.top, conditions.umask))
-        return self.process_of(forks[-1].process, moment).forked_child(forks[-1])
+        newest = forks[-1]
+        return self.find_process(newest.thread, newest.begin - 1).forked_child(newest)
 
     def renumber_thread(self, call: Call) -> None:
-        """Gives the thread that called exec the number of its process, as the system does; its old
-        number is free then. Nothing if the thread isn't known."""
-        known = self.files.processes
-        if call.result in known:
-            known[call.process] = known.pop(call.result)
+        """Gives the thread that called exec the number of its process, as the system does. What had
+        that number before is forgotten, and the thread's old number is free. Nothing if the thread
+        isn't known."""
+        processes = self.files.processes
+        if call.result in processes:
+            processes[call.thread] = processes.pop(call.result)
 
     def report_untraced_names(self) -> None:
-        """Reports, at the end, the names that the trace lacks of files that it has by another
-        name."""
-        for node in set(self.files.tree.nodes.values()):
-            for name in sorted(node.names - node.traced_paths) if node.traced_paths else []:
-                self.files.recording.report(
-                    f'stays another name of {node.traced_path}, by a link', name
-                )
+        """Reports each name at the end that the trace lacks, if it has the file by another name."""
+        for node in dict.fromkeys(self.files.tree.nodes.values()):
+            if not node.traced_paths:
+                continue
+            for name in sorted(node.names - node.traced_paths):
+                what = f'stays another name of {node.traced_path}, by a link'
+                self.recording.report(what, name)

@@ -45,15 +45,16 @@ class AcceptedFailure(NamedTuple):
 class AcceptedFailures:
     """The entries of a file of --accept; of entries with the same key the last one counts."""
 
-    def __init__(self, path: str, entries: List[AcceptedFailure], today: datetime.date) -> None:
-        self.path = path
+    def __init__(self, entries: List[AcceptedFailure], today: datetime.date) -> None:
+        """`today` is the day with which last days are compared, whatever the clock says."""
         self.today = today
         self.entries = {entry.key: entry for entry in entries}
 
     @staticmethod
     def read(path: str) -> AcceptedFailures:
-        """The entries of a file, whose last days are compared with the date of this call. Refused
-        if the file can't be read, or isn't a list of such entries."""
+        """Reads the entries of a file; their last days are compared with the local date of this
+        call. Refused if the file can't be read, or isn't a JSON list of entries in UTF-8, as
+        parse_entry() has them; the list may be empty."""
         try:
             with open(path, encoding='utf-8') as file:
                 values = json.load(file)
@@ -63,49 +64,50 @@ class AcceptedFailures:
             raise Refused(f'--accept {path}: no JSON ({error})') from error
         if not isinstance(values, list):
             raise Refused(f'--accept {path}: no list of entries')
-        entries = [entry_of(path, place, value) for place, value in enumerate(values, 1)]
-        return AcceptedFailures(path, entries, datetime.date.today())
+        entries = [parse_entry(path, place, value) for place, value in enumerate(values, 1)]
+        return AcceptedFailures(entries, datetime.date.today())
 
     def entry_for(self, failure: AcceptedFailure) -> Optional[AcceptedFailure]:
         """The entry with the same key as a failure, also if its last day has passed; None if there
         is none."""
         return self.entries.get(failure.key)
 
-    def is_over(self, entry: AcceptedFailure) -> bool:
+    def has_expired(self, entry: AcceptedFailure) -> bool:
         """Whether the last day of an entry has passed; never for one without a last day."""
         return entry.until is not None and self.today > entry.until
 
-    def entries_not_among(self, failures: Iterable[AcceptedFailure]) -> List[AcceptedFailure]:
-        """The entries that have the key of none of the failures, also those whose last day has
-        passed."""
+    def entries_without(self, failures: Iterable[AcceptedFailure]) -> List[AcceptedFailure]:
+        """The entries, except those with the key of one of the failures; also entries whose last
+        day has passed."""
         seen = {failure.key for failure in failures}
         return [entry for key, entry in self.entries.items() if key not in seen]
 
 
-def entry_of(path: str, place: int, value: Any) -> AcceptedFailure:
-    """The entry that the JSON at a place of a file, counted from 1, has. Refused if it is no object
-    of texts, has an unknown key, lacks `cause` or `why`, or has an `until` that is no date."""
-    where = f'--accept {path}: entry {place}'
+def parse_entry(path: str, place: int, value: Any) -> AcceptedFailure:
+    """The entry that a JSON value says, at a place of a file that is counted from 1. Refused if the
+    value is no object of texts, has an unknown key, lacks its `cause` or `why` or has an empty one,
+    or has an `until` that is no date. A missing `lost`, `kept` or `until` is empty."""
+    name = f'--accept {path}: entry {place}'
     if not isinstance(value, dict) or not all(isinstance(text, str) for text in value.values()):
-        raise Refused(f'{where} is no object of texts')
-    unknown = [key for key in value if key not in KEYS]
-    if unknown:
-        raise Refused(f'{where} has an unknown key: {unknown[0]}')
+        raise Refused(f'{name} is no object of texts')
+    unknown_keys = [key for key in value if key not in KEYS]
+    if unknown_keys:
+        raise Refused(f'{name} has an unknown key: {unknown_keys[0]}')
     for key in ('cause', 'why'):
         if not value.get(key):
-            raise Refused(f'{where} does not say its {key}')
+            raise Refused(f'{name} does not say its {key}')
     return AcceptedFailure(
         value['cause'],
         value.get('lost', ''),
         value.get('kept', ''),
         value['why'],
-        date_of(where, value.get('until', '')),
+        parse_date(name, value.get('until', '')),
     )
 
 
-def date_of(where: str, text: str) -> Optional[datetime.date]:
+def parse_date(name: str, text: str) -> Optional[datetime.date]:
     """The date of a text such as 2027-01-31; None for an empty text. Refused for any other text, in
-    a line that begins with `where`."""
+    a line that begins with the name of the entry."""
     if not text:
         return None
     try:
@@ -114,13 +116,13 @@ def date_of(where: str, text: str) -> Optional[datetime.date]:
         date = None
     # Since Python 3.11 other forms are dates too, such as 20270131.
     if date is None or date.isoformat() != text:
-        raise Refused(f'{where}: until is no date such as 2027-01-31: {text}')
+        raise Refused(f'{name}: until is no date such as 2027-01-31: {text}')
     return date
 
 
 def operation_text(line: Optional[TraceLine]) -> str:
-    """A line of the trace without its details, such as `rename /new to /old`; an empty text for
-    None."""
+    """A line of the trace without its number and details, such as `rename /new to /old`; only `say`
+    for an acknowledged line. An empty text for None."""
     if line is None:
         return ''
     target = f'to {line.target}' if line.target else ''

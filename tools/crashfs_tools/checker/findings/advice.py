@@ -3,11 +3,11 @@
 from __future__ import annotations
 
 from dataclasses import dataclass, field
-from typing import Dict, List, Optional
+from typing import Dict, FrozenSet, List, NamedTuple, Optional, Tuple
 
 from crashfs_tools.common.trace_lines import TraceLine
 
-from .sync_points import Places, end_of_path, is_synced, sync_points
+from .sync_points import LinePairs, end_of_path, is_synced, sync_points
 
 ATOMIC = 'write a new file, sync it, rename it, sync the directory'
 ONE_CHANGE = f'no sync helps: make these lines one change ({ATOMIC})'
@@ -17,57 +17,84 @@ NOT_REPRODUCIBLE = (
 )
 
 
-@dataclass
-class Tried:
-    """What an advice does, tried on a copy of the trace; all numbers count different states. Of the
-    group's `total` states a crash of the copy may still leave `left`. Of the copy's other states
-    `others` fail, of which `still` failed without the advice too. before and after are how many
-    fail in all, without the advice and with it."""
+class FailingCounts(NamedTuple):
+    """How many different states fail in all, before and after a change of the trace."""
 
-    left: int
-    total: int
-    others: int
-    still: int = 0
+    before: int
+    after: int
+
+    @property
+    def text(self) -> str:
+        """How many states fail after the change and before it, as `2 states fail, 5 before`; only
+        `none fails` if none fails after it."""
+        if not self.after:
+            return 'none fails'
+        fail = 'state fails' if self.after == 1 else 'states fail'
+        return f'{self.after:,} {fail}, {self.before:,} before'
+
+
+class AllSyncs(NamedTuple):
+    """All advised syncs together, each with its line and path, and the result of trying them at
+    once."""
+
+    points: FrozenSet[Tuple[int, str]]
+    failing_counts: FailingCounts
+
+
+@dataclass
+class AdviceResult:
+    """What an advice does, tried on a copy of the trace; all numbers count different states. Of the
+    group's states, group_states, a crash of the copy may still leave states_left. Of the copy's
+    other states other_failures fail, of which earlier_failures failed without the advice too.
+    before and after are how many fail in all, without the advice and with it."""
+
+    states_left: int
+    group_states: int
+    other_failures: int
+    earlier_failures: int = 0
     before: int = 0
     after: int = 0
 
-    def __add__(self, other: Tried) -> Tried:
-        """The results for two groups of different windows that are one entry, added up."""
-        return Tried(
-            self.left + other.left,
-            self.total + other.total,
-            self.others + other.others,
-            self.still + other.still,
+    def __add__(self, other: AdviceResult) -> AdviceResult:
+        """The results for two groups of different windows that are one entry, added up. A failing
+        state that both windows have counts twice in before and after."""
+        return AdviceResult(
+            self.states_left + other.states_left,
+            self.group_states + other.group_states,
+            self.other_failures + other.other_failures,
+            self.earlier_failures + other.earlier_failures,
             self.before + other.before,
             self.after + other.after,
         )
 
     @property
-    def is_right(self) -> bool:
+    def is_helpful(self) -> bool:
         """Whether fewer states fail with the advice than without it."""
         return self.after < self.before
 
-    def text(self, syncs: int) -> str:
-        """A sentence on an advice of so many syncs that is right: how many of the group's states
-        are left, and how many others fail."""
-        that = 'that sync' if syncs == 1 else f'those {syncs:,} syncs'
-        these = 'this state' if self.total == 1 else f'these {self.total:,} states'
-        line = f'tried: with {that} {self.left:,} of {these} are left'
-        if self.total == 1:
-            line = f'tried: with {that} {these} is {"still" if self.left else "not"} left'
-        if self.left:
-            line += f', so {"one sync is" if syncs == 1 else "they are"} not enough'
-        if self.others == 0:
+    def text(self, sync_count: int) -> str:
+        """A sentence on an advice of so many syncs, which must be helpful: how many of the group's
+        states are left, and how many others fail."""
+        syncs = 'that sync' if sync_count == 1 else f'those {sync_count:,} syncs'
+        if self.group_states == 1:
+            how = 'still' if self.states_left else 'not'
+            line = f'tried: with {syncs} this state is {how} left'
+        else:
+            states = f'{self.states_left:,} of these {self.group_states:,} states'
+            line = f'tried: with {syncs} {states} are left'
+        if self.states_left:
+            line += f', so {"one sync is" if sync_count == 1 else "they are"} not enough'
+        if self.other_failures == 0:
             return f'{line}, and no other fails'
-        still = ' still' if self.still == self.others else ''
+        still = ' still' if self.earlier_failures == self.other_failures else ''
         return (
-            f'{line}, and {self.others:,} other{"s" if self.others > 1 else ""}{still} '
-            f'fail{"" if self.others > 1 else "s"}'
+            f'{line}, and {self.other_failures:,} other{"s" if self.other_failures > 1 else ""}'
+            f'{still} fail{"" if self.other_failures > 1 else "s"}'
         )
 
     def not_enough_text(self, remedy: str) -> str:
-        """A sentence on an advice that isn't right: the remedy, and how many states fail with it
-        and without it."""
+        """A sentence on an advice that isn't helpful: the remedy, and how many states fail with it
+        and without it, in all."""
         return (
             f'tried, and not enough alone: {remedy} ({self.after:,} '
             f'state{" fails" if self.after == 1 else "s fail"} then, {self.before:,} before)'
@@ -77,73 +104,86 @@ class Tried:
 @dataclass
 class Advice:
     """text is the sentence, in lines, and remedy what to do. syncs has the path to sync after each
-    of these lines of the trace. tried is None if the advice wasn't tried."""
+    of these lines of the trace. result is None if the advice wasn't tried."""
 
     text: List[str] = field(default_factory=list)
     remedy: str = ''
     syncs: Dict[int, str] = field(default_factory=dict)
-    tried: Optional[Tried] = None
+    result: Optional[AdviceResult] = None
 
     def lines(self) -> List[str]:
         """The lines of a report: the sentence, the remedy, and the result if the advice was tried.
-        If no fewer states fail with it, the remedy is only a part of the result."""
-        if self.tried is None:
+        If it isn't helpful, the remedy is only a part of the result."""
+        if self.result is None:
             return self.text + ([self.remedy] if self.remedy else [])
-        if not self.tried.is_right:
-            return [*self.text, self.tried.not_enough_text(self.remedy)]
-        return [*self.text, self.remedy, self.tried.text(len(self.syncs))]
+        if not self.result.is_helpful:
+            return [*self.text, self.result.not_enough_text(self.remedy)]
+        return [*self.text, self.remedy, self.result.text(len(self.syncs))]
 
 
 def loss_advice(
-    kept: TraceLine, lost: TraceLine, places: Places, lines: Dict[int, TraceLine]
+    kept: TraceLine, lost: TraceLine, pairs: LinePairs, lines: Dict[int, TraceLine]
 ) -> Advice:
-    """The advice for states that have the line `kept`, and lack the earlier line `lost`: a sync
-    between them. Its syncs are as few as keep all pairs of `places` in order; lines are those of
-    the trace by number. If no sync makes the lost line durable, there is neither a remedy nor a
-    sync."""
-    path = lost.synced_by
+    """The advice for states that have the line `kept` and lack the earlier line `lost`: a sync
+    between them. Its syncs are as few as serve all pairs, of which these lines should be one; the
+    remedy names the sync between these lines, and counts the others. `lines` has the trace's lines
+    by number. If no sync makes the lost line durable, there is no remedy."""
+    path = lost.path_to_fsync
     sentence = f'line {lost.number} ({lost.text}) was not durable when {kept_text(kept)}'
     if path is None:
         return Advice([sentence])
-    syncs = sync_points(places, lines)
-    target, before = f'fsync {path}', [sentence + ':']
-    if lost.path != path:
-        target = f'fsync the directory {path}'
-        if not is_synced(path, lines):
-            target = f'the directory {path} is never synced: fsync it'
-    more = len(syncs) - 1
-    also = f' (and at {more:,} more place{"s" if more > 1 else ""})' if more > 0 else ''
+    syncs = sync_points(pairs, lines)
+    other_places = len(syncs) - 1
+    also = ''
+    if other_places > 0:
+        also = f' (and at {other_places:,} more place{"s" if other_places > 1 else ""})'
     end = end_of_path(path, range(lost.number + 1, kept.number), lines)
-    where = f', before line {end.number} ({end.text})' if end else ''
-    return Advice(before, f'{target} between them{where}{also}', syncs)
+    limit = f', before line {end.number} ({end.text})' if end else ''
+    remedy = f'{sync_text(path, lost, lines)} between them{limit}{also}'
+    return Advice([f'{sentence}:'], remedy, syncs)
+
+
+def sync_text(path: str, lost: TraceLine, lines: Dict[int, TraceLine]) -> str:
+    """The beginning of a remedy: to sync the path that makes a lost line durable, which is that of
+    the line itself or a directory. It says so if the session never syncs this directory; `lines`
+    has the trace's lines by number."""
+    if lost.path == path:
+        return f'fsync {path}'
+    if is_synced(path, lines):
+        return f'fsync the directory {path}'
+    return f'the directory {path} is never synced: fsync it'
 
 
 def kept_text(kept: TraceLine) -> str:
     """The end of the sentence `line N was not durable when ..`: that an acknowledged line
-    acknowledged its text, or that another line was durable."""
+    acknowledged its text, which may be cut, or that another line was durable."""
     if kept.word == 'say':
         return f'line {kept.number} acknowledged "{kept.details}"'
     return f'line {kept.number} ({kept.text}) was'
 
 
-def torn_advice(line: TraceLine, parts: str) -> Advice:
-    """The advice for a line of which a crash kept only a part, which `parts` names in words. It has
-    no syncs, since none helps."""
+def torn_advice(line: TraceLine, kept_part: str) -> Advice:
+    """The advice for a line of which a crash kept only a part. kept_part says in words what it kept
+    and what it lost. There are no syncs, since none helps."""
+    remedy = f'a record that recovery may drop needs a checksum; for all else, {ATOMIC}'
+    if line.word == 'rename':
+        remedy = 'a rename within one directory is one change'
     return Advice(
-        [f'line {line.number} ({line.text}) was torn: a crash kept {parts}'],
-        f'no sync helps: a record that recovery may drop needs a checksum; for all else, {ATOMIC}',
+        [f'line {line.number} ({line.text}) was torn: a crash kept {kept_part}'],
+        f'no sync helps: {remedy}',
     )
 
 
-def span_advice(kept: Optional[TraceLine], lost: Optional[TraceLine]) -> Advice:
-    """The advice for states that lose nothing, before anything is tried. They fail from the line
-    `kept` on, or from the beginning if that is None, until the line `lost` repairs them. If this is
-    None, they fail to the end, and there is no remedy."""
-    first = f'line {kept.number} ({kept.text})' if kept else 'the beginning'
+def no_loss_advice(kept: Optional[TraceLine], lost: Optional[TraceLine]) -> Advice:
+    """The advice for a failure that needs no loss, before another order is tried. States fail from
+    the line `kept` on, or from the beginning if it is None, until the line `lost` repairs them. If
+    that is None, they fail to the end, and there is no remedy. For an acknowledged line the remedy
+    is a question about COMMAND, else to make the lines one change. There are no syncs."""
+    begin = f'line {kept.number} ({kept.text})' if kept else 'the beginning'
     if lost is None:
-        return Advice([f'from {first} on it fails, though nothing is lost'])
+        return Advice([f'from {begin} on it fails, though nothing is lost'])
     sentence = (
-        f'from {first} until line {lost.number} ({lost.text}) it fails, though nothing is lost'
+        f'from {begin} until line {lost.number} ({lost.text}) it fails, though nothing is lost'
     )
     if lost.word == 'say':
         return Advice(
@@ -156,7 +196,7 @@ def span_advice(kept: Optional[TraceLine], lost: Optional[TraceLine]) -> Advice:
 
 def overwriting_text(kept: TraceLine, lost: TraceLine) -> str:
     """The remedy if the line `kept` overwrites bytes that are needed until the later line `lost` is
-    durable."""
+    durable: to write to another place."""
     return (
         f'no sync helps: line {kept.number} overwrites bytes that are needed until line '
         f'{lost.number} ({lost.text}) is durable: write to another place until then'
@@ -164,7 +204,8 @@ def overwriting_text(kept: TraceLine, lost: TraceLine) -> str:
 
 
 def swap_text(kept: TraceLine, lost: TraceLine) -> str:
-    """The remedy if fewer states fail when the line `lost` comes before the line `kept`."""
+    """The remedy if fewer states fail when the line `lost` comes before the line `kept`: to do the
+    two lines in that order."""
     return (
         f'no sync helps: do line {lost.number} before line {kept.number}, with a sync between them'
     )

@@ -8,41 +8,41 @@ from typing import Dict, FrozenSet, Iterable, List, NamedTuple, Optional, Set, T
 from crashfs_tools.checker.running.results import Results
 from crashfs_tools.checker.running.runner import GOOD, Outcome
 from crashfs_tools.checker.running.trials import Trials
-from crashfs_tools.checker.states.plan import Offsets, Plan, Planned, Trial
+from crashfs_tools.checker.states.plan import Offsets, Plan, PlannedTrace, Trial
 from crashfs_tools.checker.states.planning import Planner
 from crashfs_tools.common.command import TEXT
 from crashfs_tools.common.trace_lines import with_syncs
 
-from .advice import Tried
+from .advice import AdviceResult, AllSyncs, FailingCounts
 from .equal_sets import EqualSets
-from .groups import Findings, Group, Totals, Union
+from .groups import Findings, Group
 from .tree_diff import find_differences
 
-# So many copies are tried, and so many of the largest entries get one, unless others cover them.
-TRIED, COVERED = 5, 100
+# So many of the largest entries get a copy, unless others cover them, and so many copies are tried.
+MOST_COPIES, MOST_TRIED = 100, 5
 
 # Syncs: each after the line of a number, with the path that is synced.
-Points = FrozenSet[Tuple[int, str]]
+SyncPoints = FrozenSet[Tuple[int, str]]
 
 
 class SyncedCopy(NamedTuple):
     """A copy of the trace with some syncs: its plan, and the keys of its states, which are empty if
     not all crash states are listed."""
 
-    planned: Planned
-    keys: Set[object]
+    planned: PlannedTrace
+    state_keys: Set[object]
 
 
 def add_details(trials: Trials, planner: Planner, findings: Findings) -> None:
-    """Adds to the findings how files differ, another order for groups that lose nothing, and the
-    results of trying the advised syncs. The planner makes the plans of copies of the trace. Refused
-    if the program refuses a copy with syncs; what was added before stays."""
+    """Adds to the findings how files differ, the results of another order of lines, and those of
+    the advised syncs. The planner makes the plans of copies of the trace. Refused if the program
+    refuses a copy with syncs. What was added before an exception stays."""
     find_differences(trials, findings)
-    spans = [group for group in findings.groups if group.is_swappable]
-    if spans:
+    swappable = [group for group in findings.groups if group.is_swappable]
+    if swappable:
         from .swaps import add_swaps
 
-        add_swaps(trials, planner, findings, spans)
+        add_swaps(trials, planner, findings, swappable)
     AdviceTrials(trials, planner, findings).run()
 
 
@@ -51,170 +51,181 @@ class AdviceTrials:
     plans of the copies. A copy has the same micro-operations as the trace, so that outcomes are
     known by their sets; a set that was tried before is not tried again.
 
-    known has the outcomes by sets, of the trace and of the copies, and before is how many different
-    states of the trace fail. equal finds the outcomes of equal states; it is None unless all crash
-    states were asked for. equal_of_all is the same if these are listed, else None."""
+    kept_sets has the sets of the trace's states, by their numbers. outcomes has the outcomes of
+    sets of the trace and of the copies, and failing_before is how many different states of the
+    trace fail. equal_sets finds the outcomes of equal states; it is None unless all crash states
+    were asked for. listed_sets is the same if all are listed, else None."""
 
     def __init__(self, trials: Trials, planner: Planner, findings: Findings) -> None:
+        """If all crash states were asked for, reads the trace by the second reading: ReadingFault
+        if this refuses it. Outcomes that the findings get later aren't known."""
         self.trials = trials
         self.planner = planner
         self.findings = findings
-        self.kept = findings.plan.kept
-        self.known: Dict[int, Outcome] = {
-            self.kept[state]: one for state, one in findings.by_state.items()
+        self.kept_sets = findings.plan.kept
+        self.outcomes: Dict[int, Outcome] = {
+            self.kept_sets[state]: outcome for state, outcome in findings.outcomes_by_state.items()
         }
-        self.before = count_failing_sets(findings.plan, self.known)
+        self.failing_before = count_failing_sets(findings.plan, self.outcomes)
         every = findings.plan.all_states
-        self.equal = EqualSets(trials.planned, findings) if every else None
+        self.equal_sets = EqualSets(trials.planned, findings) if every else None
         # Only of all crash states it is known what each allowed set leaves.
         has_all = every is not None and every.are_listed
-        self.equal_of_all = self.equal if has_all else None
+        self.listed_sets = self.equal_sets if has_all else None
 
     def run(self) -> None:
-        """Makes a copy with the group's syncs for each of the first COVERED groups, and tries the
-        first TRIED copies. Sets the results of the groups, and the union of the findings. A group
-        that earlier copies cover, or that is advised no sync, gets no copy. Refused if the program
-        refuses a copy."""
+        """Makes a copy with the group's syncs for each of the first MOST_COPIES groups, and tries
+        the first MOST_TRIED copies. A group that earlier copies cover, or that is advised no sync,
+        gets no copy. Sets the results and is_covered of the groups, and all_syncs of the findings.
+        Refused if the program refuses a copy: then all_syncs isn't set."""
         copies: List[SyncedCopy] = []
-        tried = 0
-        for group in self.findings.groups[:COVERED]:
+        tried_count = 0
+        for group in self.findings.groups[:MOST_COPIES]:
             if group.advice.syncs:
                 group.is_covered = self.is_covered(group, copies)
                 if not group.is_covered:
-                    copy = self.make_copy(points_of([group]))
+                    copy = self.make_copy(advised_points([group]))
                     copies.append(copy)
-                    if tried < TRIED:
-                        group.advice.tried = self.result_of(copy, group)
-                        tried += 1
-        self.findings.union = self.try_union()
+                    if tried_count < MOST_TRIED:
+                        group.advice.result = self.try_copy(copy, group)
+                        tried_count += 1
+        self.findings.all_syncs = self.try_all_syncs()
 
     def is_covered(self, group: Group, copies: List[SyncedCopy]) -> bool:
-        """Whether for each state of a group at least one copy can't leave it, maybe another copy
-        for each. False if there are no copies."""
-        left = {self.state_key(self.kept[state.number]): state for state in group.states}
+        """Whether each state of a group can't be left by at least one copy, which may be another
+        one for each state. False if there are no copies."""
+        kept_sets = [self.kept_sets[state.number] for state in group.states]
+        different = {self.state_key(kept_set): kept_set for kept_set in kept_sets}
         return all(
-            any(not self.is_left_by(copy, self.kept[state.number]) for copy in copies)
-            for state in left.values()
+            any(not self.may_leave(copy, kept_set) for copy in copies)
+            for kept_set in different.values()
         )
 
-    def state_key(self, kept: int) -> object:
+    def state_key(self, kept_set: int) -> object:
         """What a set leaves, equal for equal states, if the tree of each allowed set is known; else
-        the set itself. is_left_by, make_copy and count_others compare by it."""
-        return kept if self.equal_of_all is None else self.equal_of_all.tree_and_says(kept)
+        the set itself. may_leave, make_copy and count_other_failures compare by it."""
+        if self.listed_sets is None:
+            return kept_set
+        return self.listed_sets.tree_and_says(kept_set)
 
-    def is_left_by(self, copy: SyncedCopy, kept: int) -> bool:
+    def may_leave(self, copy: SyncedCopy, kept_set: int) -> bool:
         """Whether a crash of a copy may leave what a set of the trace leaves. If trees aren't
         compared, whether the copy's rules allow the set itself."""
-        if self.equal_of_all is not None:
-            return self.state_key(kept) in copy.keys
-        return copy.planned.plan.needs.is_allowed(kept)
+        if self.listed_sets is not None:
+            return self.state_key(kept_set) in copy.state_keys
+        return copy.planned.plan.needs.is_allowed(kept_set)
 
-    def try_union(self) -> Union:
+    def try_all_syncs(self) -> AllSyncs:
         """Tries all advised syncs at once, also those of groups that weren't tried, and returns
         them with how many states fail. Nothing is tried if there are no syncs, or only those of a
-        single group that was tried."""
+        single group that was tried: its result is taken. Refused as make_copy()."""
         advised = [group for group in self.findings.groups if group.advice.syncs]
-        points = points_of(advised)
+        points = advised_points(advised)
         if not points:
-            return Union(points, Totals(self.before, self.before))
-        if len(advised) == 1 and advised[0].advice.tried is not None:
-            tried = advised[0].advice.tried
-            return Union(points, Totals(tried.before, tried.after))
+            return AllSyncs(points, FailingCounts(self.failing_before, self.failing_before))
+        if len(advised) == 1 and advised[0].advice.result is not None:
+            result = advised[0].advice.result
+            return AllSyncs(points, FailingCounts(result.before, result.after))
         planned = self.make_copy(points).planned
         self.try_states(planned)
-        return Union(points, Totals(self.before, count_failing_sets(planned.plan, self.known)))
+        failing_after = count_failing_sets(planned.plan, self.outcomes)
+        return AllSyncs(points, FailingCounts(self.failing_before, failing_after))
 
-    def make_copy(self, points: Points) -> SyncedCopy:
+    def make_copy(self, points: SyncPoints) -> SyncedCopy:
         """Writes a copy of the trace that has these syncs, and plans it; syncs after lines of other
         windows are left out. All copies have the same path: the file of the last copy is replaced,
         and only its plan stays. Refused if the program refuses the copy."""
         planned = self.trials.planned
         with open(planned.trace, **TEXT) as file:
             text = file.read()
-        own = [
+        own_points = [
             (line, path)
             for number, path in points
-            for line in planned.offsets.by_own_lines({number: path})
+            for line in planned.offsets.values_by_own_lines({number: path})
         ]
-        path = os.path.join(self.trials.guard.directory, 'advice.trace')
-        with open(path, 'w', **TEXT) as file:
-            file.write(with_syncs(text, own))
-        copy = self.planner.plan(path, Offsets(says=planned.offsets.says))
-        plan = copy.plan
-        keys = (
-            {self.state_key(plan.kept[one.number]) for one in plan.states}
-            if self.equal_of_all
-            else set()
-        )
+        copy_path = os.path.join(self.trials.guard.directory, 'advice.trace')
+        with open(copy_path, 'w', **TEXT) as file:
+            file.write(with_syncs(text, own_points))
+        copy = self.planner.plan(copy_path, Offsets(says=planned.offsets.says))
+        if self.listed_sets is None:
+            return SyncedCopy(copy, set())
+        kept_sets = copy.plan.kept
+        keys = {self.state_key(kept_sets[state.number]) for state in copy.plan.states}
         return SyncedCopy(copy, keys)
 
-    def result_of(self, copy: SyncedCopy, group: Group) -> Tried:
+    def try_copy(self, copy: SyncedCopy, group: Group) -> AdviceResult:
         """Tries the states of a copy, which must be the last one that was made, and returns what
-        its syncs do for a group."""
-        planned = copy.planned
-        self.try_states(planned)
-        left = {
-            state.trial for state in group.states if self.is_left_by(copy, self.kept[state.number])
+        its syncs do for a group. States that --fail-fast left untried don't count as failing."""
+        plan = copy.planned.plan
+        self.try_states(copy.planned)
+        trials_left = {
+            state.trial
+            for state in group.states
+            if self.may_leave(copy, self.kept_sets[state.number])
         }
-        others, still = self.count_others(planned.plan, group)
-        after = count_failing_sets(planned.plan, self.known)
-        return Tried(len(left), group.count, others, still, self.before, after)
+        others, earlier = self.count_other_failures(plan, group)
+        after = count_failing_sets(plan, self.outcomes)
+        return AdviceResult(
+            len(trials_left), group.count, others, earlier, self.failing_before, after
+        )
 
-    def try_states(self, planned: Planned) -> None:
-        """Tries the states of the last copy whose outcomes aren't known. Afterwards `known` has the
-        outcome of each of its sets; some are missing if --fail-fast ended the trial. After an
+    def try_states(self, planned: PlannedTrace) -> None:
+        """Tries the states of the last copy whose outcomes aren't known. Afterwards `outcomes` has
+        the outcome of each of its sets; some are missing if --fail-fast ended the trial. After an
         exception it is as before."""
-        copy = Trials(self.trials.workplace, planned)
         plan = planned.plan
-        found: Dict[Trial, Outcome] = {}
+        outcomes: Dict[Trial, Outcome] = {}
         for state in plan.states:
             known = self.outcome_of_set(plan.kept[state.number])
             if known is not None:
-                found[state.trial] = known
-        trials = Results(plan).trials
-        new = {number: trial for trial, number in trials.items() if trial not in found}
+                outcomes[state.trial] = known
+        trials = Results(plan).own_numbers
+        new_trials = {number: trial for trial, number in trials.items() if trial not in outcomes}
 
         def on_outcome(number: int, outcome: Outcome) -> None:
-            found[new[number]] = outcome
+            outcomes[new_trials[number]] = outcome
 
-        copy.try_states([set(new)], on_outcome)
+        Trials(self.trials.workplace, planned).try_states([set(new_trials)], on_outcome)
         for state in plan.states:
-            outcome = found.get(state.trial)
+            outcome = outcomes.get(state.trial)
             if outcome is not None:
-                self.known.setdefault(plan.kept[state.number], outcome)
+                self.outcomes.setdefault(plan.kept[state.number], outcome)
 
-    def outcome_of_set(self, kept: int) -> Optional[Outcome]:
-        """The outcome of a set of the trace or of a copy; None if neither it nor one that leaves
-        the same was tried."""
-        if kept not in self.known and self.equal is not None:
-            return self.equal.outcome(kept)
-        return self.known.get(kept)
+    def outcome_of_set(self, kept_set: int) -> Optional[Outcome]:
+        """The outcome of a set of the trace or of a copy: its own, or that of a set of the trace
+        that leaves the same, if all crash states were asked for. None if neither was tried."""
+        if kept_set not in self.outcomes and self.equal_sets is not None:
+            return self.equal_sets.outcome(kept_set)
+        return self.outcomes.get(kept_set)
 
-    def count_others(self, plan: Plan, group: Group) -> Tuple[int, int]:
-        """How many different states of a copy's plan fail that aren't the group's, and how many of
-        these are states of the trace too: they failed before."""
-        mine = {self.state_key(self.kept[state.number]) for state in group.states}
-        before = {self.state_key(self.kept[state]) for state in self.findings.by_state}
-        others: Dict[Trial, bool] = {}
+    def count_other_failures(self, plan: Plan, group: Group) -> Tuple[int, int]:
+        """How many different states of a copy's plan fail, or give no answer, that aren't the
+        group's, and how many of these are states of the trace too: they failed before."""
+        group_keys = {self.state_key(self.kept_sets[state.number]) for state in group.states}
+        numbers = self.findings.outcomes_by_state
+        trace_keys = {self.state_key(self.kept_sets[number]) for number in numbers}
+        is_earlier: Dict[Trial, bool] = {}
         for state in plan.states:
-            kept, trial = plan.kept[state.number], state.trial
-            if is_failing(self.known, kept) and self.state_key(kept) not in mine:
-                others[trial] = others.get(trial, False) or self.state_key(kept) in before
-        return len(others), sum(others.values())
+            kept_set, trial = plan.kept[state.number], state.trial
+            if is_failing(self.outcomes, kept_set) and self.state_key(kept_set) not in group_keys:
+                in_trace = self.state_key(kept_set) in trace_keys
+                is_earlier[trial] = is_earlier.get(trial, False) or in_trace
+        return len(is_earlier), sum(is_earlier.values())
 
 
-def points_of(groups: Iterable[Group]) -> Points:
+def advised_points(groups: Iterable[Group]) -> SyncPoints:
     """All syncs that some groups are advised, each once."""
     return frozenset(point for group in groups for point in group.advice.syncs.items())
 
 
-def count_failing_sets(plan: Plan, known: Dict[int, Outcome]) -> int:
-    """How many different states of a plan aren't good by the outcomes of their sets. A set without
+def count_failing_sets(plan: Plan, outcomes: Dict[int, Outcome]) -> int:
+    """How many different states of a plan aren't good, by the outcomes of their sets. A set without
     an outcome doesn't count."""
-    return len({state.trial for state in plan.states if is_failing(known, plan.kept[state.number])})
+    states = plan.states
+    return len({state.trial for state in states if is_failing(outcomes, plan.kept[state.number])})
 
 
-def is_failing(known: Dict[int, Outcome], kept: int) -> bool:
-    """Whether a set was tried, and COMMAND failed or gave no answer."""
-    outcome = known.get(kept)
+def is_failing(outcomes: Dict[int, Outcome], kept_set: int) -> bool:
+    """Whether a set was tried, and COMMAND failed or gave no answer, by the outcomes of sets."""
+    outcome = outcomes.get(kept_set)
     return outcome is not None and outcome.result != GOOD

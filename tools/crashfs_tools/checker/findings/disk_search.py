@@ -8,19 +8,24 @@ import time
 from dataclasses import dataclass
 from typing import Callable, Dict, Iterator, List, NamedTuple, Optional, Sequence, Set, Tuple
 
-from crashfs_tools.checker.running.runner import GOOD, Outcome
+from crashfs_tools.checker.running.runner import GOOD, Outcome, refuse_left_processes
 from crashfs_tools.checker.running.trials import Trials
 from crashfs_tools.checker.states.layout import lay_out
 from crashfs_tools.common.archive import Member
 from crashfs_tools.common.entry import Entries
 from crashfs_tools.common.guard import Guard
 from crashfs_tools.common.removal import remove_tree
-from crashfs_tools.common.trace_read import read_trace
+from crashfs_tools.common.trace_read import read_trace_with_numbers
 from crashfs_tools.disks.disk import Crash, Disk, digest_of
-from crashfs_tools.disks.filesystems import IMAGES, bytes_written, filesystems_of, with_room
+from crashfs_tools.disks.filesystems import (
+    IMAGES,
+    most_session_bytes,
+    filesystems_by_names,
+    with_room_for,
+)
 from crashfs_tools.disks.pool import DiskPool
-from crashfs_tools.reading import read
-from crashfs_tools.reading.classes import Classes
+from crashfs_tools.reading import parse_trace
+from crashfs_tools.reading.classes import SetClasses
 from crashfs_tools.reading.order import Order
 from crashfs_tools.reading.states import States
 
@@ -44,26 +49,28 @@ class DiskTree:
 
     digest: str
     says: int
-    tree: Entries
+    entries: Entries
     crashes: Dict[str, Crash]
 
 
-def sightings_of(trials: Trials, by_state: Dict[int, Outcome]) -> Sightings:
-    """Makes the session again on the file systems of --disks, and returns what was seen; by_state
-    has the outcomes of the states by their numbers. Images are in memory if there is room for them,
-    since a crash is then taken in a fraction of a second; they are removed in any case. Refused if
-    one can't be made or mounted."""
+def search_disks(trials: Trials, outcomes: Dict[int, Outcome]) -> Sightings:
+    """Makes the session again on the file systems of --disks, and returns what was seen; outcomes
+    are those of the states, by their numbers. It shows its progress, and may take hours. Images are
+    in memory if there is room, since a crash is then taken in a fraction of a second; they are
+    removed in any case. Raises what DiskSearch.run() does, and OSError if the trace is gone."""
     with open(trials.planned.trace, 'rb') as file:
         text = file.read()
-    trace = read_trace(text.decode('utf-8', 'surrogateescape'))
-    size = bytes_written(trace)
-    filesystems = [with_room(one, size) for one in filesystems_of(trials.options.disks or [])]
-    room = IMAGES * process_count(trials) * sum(one.size for one in filesystems)
+    trace, lines = read_trace_with_numbers(text.decode('utf-8', 'surrogateescape'))
+    size = most_session_bytes(trace)
+    filesystems = [
+        with_room_for(filesystem, size)
+        for filesystem in filesystems_by_names(trials.options.disks or [])
+    ]
+    room = IMAGES * process_count(trials) * sum(filesystem.size for filesystem in filesystems)
     with Guard('crashfs-disks', MEMORY if has_room(MEMORY, room) else None) as guard:
-        search = DiskSearch(trials, by_state, text)
-        return search.run(
-            DiskPool(filesystems, trace, guard.directory), trials.workplace.progress.show_moments
-        )
+        search = DiskSearch(trials, outcomes, text)
+        pool = DiskPool(filesystems, trace, guard.directory, line_numbers=lines)
+        return search.run(pool, trials.workplace.progress.show_moments)
 
 
 def process_count(trials: Trials) -> int:
@@ -73,8 +80,8 @@ def process_count(trials: Trials) -> int:
 
 
 def has_room(folder: str, size: int) -> bool:
-    """Whether the file system of a folder has room for so many bytes, and we may write there. False
-    if the folder isn't there."""
+    """Whether the file system of a folder has room for more than so many bytes, and we may write
+    there. False if the folder isn't there. Nothing is reserved."""
     try:
         room = os.statvfs(folder)
     except OSError:
@@ -83,75 +90,83 @@ def has_room(folder: str, size: int) -> bool:
 
 
 class DiskSearch:
-    """Makes the session again, and looks for the tree of each disk among the states. by_state has
-    the outcomes of states by their numbers, trace is the trace's text."""
+    """Looks for the tree of each disk among the states. outcomes has those of the states by their
+    numbers, and trace is the trace's text."""
 
-    def __init__(self, trials: Trials, by_state: Dict[int, Outcome], trace: bytes) -> None:
+    def __init__(self, trials: Trials, outcomes: Dict[int, Outcome], trace: bytes) -> None:
+        """COMMAND is run by a checker of this process, which notes what can't be ended."""
         self.trials = trials
-        self.by_state = by_state
+        self.outcomes = outcomes
         self.trace = trace
         self.checker = trials.new_checker()
 
     def run(self, pool: DiskPool, on_step: Callable[[int, int], None]) -> Sightings:
         """Makes the disks, and returns what was seen on them. on_step is called with how many
         moments are done and how many there are, each counted once for each file system. Refused if
-        an image can't be made or mounted, or a process is killed."""
+        an image can't be made or mounted, a process is killed, or COMMAND can't be started;
+        LeftRunning if COMMAND leaves what can't be ended; an OSError, workers.Fault or ProgramFault
+        for other faults."""
         disks = pool.disks(process_count(self.trials), on_step)
-        found = Sightings(list(disks))
-        for name, different in disks.items():
-            found.crashes[name] = sum(len(one.crashes) for one in different)
-            found.trees[name] = len(different)
-        self.add_outcomes(all_trees(disks), found)
-        return found
+        sightings = Sightings(list(disks))
+        for name, different_disks in disks.items():
+            sightings.crash_counts[name] = sum(len(disk.crashes) for disk in different_disks)
+            sightings.tree_counts[name] = len(different_disks)
+        self.add_outcomes(all_trees(disks), sightings)
+        refuse_left_processes(self.checker.left_processes)
+        return sightings
 
-    def add_outcomes(self, trees: List[DiskTree], found: Sightings) -> None:
-        """Adds to `found` which listed states have the trees, and on each file system how many
-        trees fail or give no answer. COMMAND is run in each tree that no tried state has; what
-        fails there is added as a further failure."""
+    def add_outcomes(self, trees: List[DiskTree], sightings: Sightings) -> None:
+        """Adds to the sightings which listed states have the trees, and on each file system how
+        many trees fail or give no answer with some number of lines. COMMAND is run in each tree
+        that no tried state has: if it fails or gives no answer there, that is a further failure.
+        After an exception only states are added."""
         states = self.states_by_tree()
-        failing: Dict[str, Set[str]] = {name: set() for name in found.names}
-        unlisted: List[Tuple[DiskTree, Outcome]] = []
-        for one in trees:
-            numbers = states.get((one.digest, one.says), [])
+        failing: Dict[str, Set[str]] = {name: set() for name in sightings.names}
+        untried: List[Tuple[DiskTree, Outcome]] = []
+        for tree in trees:
+            numbers = states.get((tree.digest, tree.says), [])
             for number in numbers:
-                keep_first(found.states.setdefault(number, {}), one.crashes)
+                keep_first(sightings.crashes_by_state.setdefault(number, {}), tree.crashes)
             outcome = self.known_outcome(numbers)
             if outcome is None:
-                outcome = self.run_in(one)
+                outcome = self.run_in_tree(tree)
                 if outcome.result != GOOD:
-                    unlisted.append((one, outcome))
+                    untried.append((tree, outcome))
             if outcome.result != GOOD:
-                for name in one.crashes:
-                    failing[name].add(one.digest)
-        found.failing = {name: len(digests) for name, digests in failing.items()}
-        found.further = failures_of(self.trace, unlisted)
+                for name in tree.crashes:
+                    failing[name].add(tree.digest)
+        sightings.failing_counts = {name: len(digests) for name, digests in failing.items()}
+        sightings.further_failures = explain_failures(self.trace, untried)
 
     def states_by_tree(self) -> Dict[TreeAndCount, List[int]]:
         """The numbers of all listed states, tried or not, by the tree and the number of
         acknowledged lines that they leave. ProgramFault if the program doesn't give a tree."""
         planned = self.trials.planned
         digests: Dict[int, str] = {}
-        firsts = {state.same for state in planned.plan.listed}
-        for request in planned.requests(firsts):
-            trees = self.trials.program.trees(request.words, self.trials.guard.environment)
-            digests.update((own + request.lead, digest_of(tree)) for own, tree in trees)
-        found: Dict[TreeAndCount, List[int]] = {}
+        first_equal_states = {state.same for state in planned.plan.listed}
+        for request in planned.requests(first_equal_states):
+            trees = self.trials.program.trees(request.options, self.trials.guard.environment)
+            digests.update(
+                (own_number + request.number_offset, digest_of(tree)) for own_number, tree in trees
+            )
+        numbers: Dict[TreeAndCount, List[int]] = {}
         for state in planned.plan.listed:
-            found.setdefault((digests[state.same], state.says), []).append(state.number)
-        return found
+            numbers.setdefault((digests[state.same], state.says), []).append(state.number)
+        return numbers
 
     def known_outcome(self, numbers: Sequence[int]) -> Optional[Outcome]:
         """The outcome of the first of these states that was tried; None if none was."""
-        return next((self.by_state[it] for it in numbers if it in self.by_state), None)
+        return next((self.outcomes[number] for number in numbers if number in self.outcomes), None)
 
-    def run_in(self, one: DiskTree) -> Outcome:
-        """Runs COMMAND in a tree that no tried state has, and returns its outcome; CRASHFS_STATE is
-        the first number after those of the listed states."""
+    def run_in_tree(self, tree: DiskTree) -> Outcome:
+        """Lays out a tree that no tried state has, runs COMMAND there, and returns its outcome,
+        which isn't cached. CRASHFS_STATE is always the first number after those of the listed
+        states. Refused or an OSError as Checker.run()."""
         directory = os.path.join(self.trials.guard.directory, 'disk')
-        lay_out(directory, members_of(one.tree))
+        lay_out(directory, members_of(tree.entries))
         try:
             plan = self.trials.plan
-            return self.checker.run(plan.first + len(plan.listed), one.says, directory)
+            return self.checker.run(plan.first + len(plan.listed), tree.says, directory)
         finally:
             remove_tree(directory)
 
@@ -159,16 +174,15 @@ class DiskSearch:
 def all_trees(disks: Dict[str, List[Disk]]) -> List[DiskTree]:
     """Each tree of some disks, once for each number of lines that may be acknowledged with it, with
     the first crash of each file system. disks has those of each file system by its name."""
-    found: Dict[TreeAndCount, DiskTree] = {}
-    for name, different in disks.items():
-        for disk in different:
-            for crash in disk.crashes:
-                for says in range(crash.moment.least, crash.moment.most + 1):
-                    tree = found.setdefault(
-                        (disk.digest, says), DiskTree(disk.digest, says, disk.tree, {})
-                    )
-                    keep_first(tree.crashes, {name: crash})
-    return list(found.values())
+    trees: Dict[TreeAndCount, DiskTree] = {}
+    all_disks = [(name, disk) for name, of_one in disks.items() for disk in of_one]
+    for name, disk in all_disks:
+        for crash in disk.crashes:
+            for says in range(crash.moment.least_says, crash.moment.most_says + 1):
+                new_tree = DiskTree(disk.digest, says, disk.tree, {})
+                tree = trees.setdefault((disk.digest, says), new_tree)
+                keep_first(tree.crashes, {name: crash})
+    return list(trees.values())
 
 
 def members_of(tree: Entries) -> Iterator[Member]:
@@ -177,28 +191,29 @@ def members_of(tree: Entries) -> Iterator[Member]:
         yield path[1:], entry
 
 
-def failures_of(trace: bytes, unlisted: List[Tuple[DiskTree, Outcome]]) -> List[DiskFailure]:
-    """The failures that no tried state has, each tree, cause and reason once, with all numbers of
-    lines and the first crash of each file system. Searches the crash states for the trees: the
-    reason says why no tried state has them."""
-    wanted = {(one.digest, one.says) for one, _ in unlisted}
+def explain_failures(trace: bytes, untried: List[Tuple[DiskTree, Outcome]]) -> List[DiskFailure]:
+    """The failures in trees that no tried state has. Searches the crash states for the trees, so
+    each failure says why no tried state has its tree. Failures with the same tree, cause and reason
+    are one, with all numbers of lines, the outcome of the first of these, and the first crash of
+    each file system."""
+    wanted = {(tree.digest, tree.says) for tree, _ in untried}
     result = search_trees(trace, wanted) if wanted else SearchResult(set(), 0, True)
     failures: Dict[Tuple[str, str, str], DiskFailure] = {}
-    for one, outcome in unlisted:
-        why = result.explanation((one.digest, one.says))
-        key = (one.digest, outcome.cause, why.where)
-        failure = failures.setdefault(key, DiskFailure(outcome, [], {}, one.tree, why))
-        failure.says.append(one.says)
-        keep_first(failure.crashes, one.crashes)
+    for tree, outcome in untried:
+        explanation = result.explanation((tree.digest, tree.says))
+        key = (tree.digest, outcome.cause, explanation.reason)
+        failure = failures.setdefault(key, DiskFailure(outcome, [], {}, tree.entries, explanation))
+        failure.says.append(tree.says)
+        keep_first(failure.crashes, tree.crashes)
     return list(failures.values())
 
 
 class SearchResult(NamedTuple):
     """Which trees are left by an allowed set, how many different states were looked through, and
-    whether these were all."""
+    whether the search is whole: it didn't end at a limit."""
 
     found: Set[TreeAndCount]
-    searched: int
+    searched_states: int
     is_whole: bool
 
     def explanation(self, tree: TreeAndCount) -> Explanation:
@@ -206,24 +221,24 @@ class SearchResult(NamedTuple):
         UNKNOWN if the search ended before it was found."""
         if tree in self.found:
             return Explanation(UNTRIED)
-        return Explanation(OUTSIDE) if self.is_whole else Explanation(UNKNOWN, self.searched)
+        return Explanation(OUTSIDE) if self.is_whole else Explanation(UNKNOWN, self.searched_states)
 
 
 def search_trees(trace: bytes, wanted: Set[TreeAndCount]) -> SearchResult:
-    """Looks for trees among the different crash states, by the second reading. is_whole is False if
-    it ended at MOST_STATES or MOST_SECONDS, and True if it went through all states or found all
-    trees."""
-    reading = read(trace)
+    """Looks for trees, at least one, among the different crash states of the trace's own profile,
+    by the second reading. It ends when all are found or all states were looked through, and isn't
+    whole if it ends at MOST_STATES or MOST_SECONDS. ReadingFault if the trace has a fault."""
+    reading = parse_trace(trace)
     states = States(reading)
     found: Set[TreeAndCount] = set()
     deadline = time.monotonic() + MOST_SECONDS
-    searched = 0
-    for places in Classes(reading, Order(reading)).different():
-        if searched >= MOST_STATES or time.monotonic() > deadline:
-            return SearchResult(found, searched, False)
-        searched += 1
-        tree = entries_of(states.tree(places))
-        found |= {(digest_of(tree), states.count_says(places))} & wanted
+    searched_states = 0
+    for kept_set in SetClasses(reading, Order(reading)).different_sets():
+        if searched_states >= MOST_STATES or time.monotonic() > deadline:
+            return SearchResult(found, searched_states, is_whole=False)
+        searched_states += 1
+        tree = entries_of(states.tree(kept_set))
+        found |= {(digest_of(tree), states.count_says(kept_set))} & wanted
         if found == wanted:
             break
-    return SearchResult(found, searched, True)
+    return SearchResult(found, searched_states, is_whole=True)

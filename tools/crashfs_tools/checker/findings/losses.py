@@ -10,11 +10,11 @@ from __future__ import annotations
 
 from functools import reduce
 from operator import or_
-from typing import Dict, Generator, Iterator, List, Optional
+from typing import Callable, Dict, Generator, Iterator, List, Optional
 
 from crashfs_tools.checker.running.runner import Outcome
 from crashfs_tools.checker.running.trials import Trials
-from crashfs_tools.checker.states.place_sets import lacking_of, places_of
+from crashfs_tools.checker.states.place_sets import missing_set, places_of
 from crashfs_tools.checker.states.plan import Plan, State
 from crashfs_tools.checker.states.planning import Planner
 
@@ -32,8 +32,8 @@ Search = Generator[int, bool, Loss]
 
 
 def sets_by_line(plan: Plan, lacking: int) -> List[int]:
-    """A set in parts: for each line of the trace, in their order, the set of its members that are
-    of this line."""
+    """Divides a set by the lines of the trace: for each line that it has micro-operations of, in
+    the order of lines, the set of these."""
     sets: Dict[int, int] = {}
     for place in places_of(lacking):
         line = plan.operations[place].line
@@ -42,13 +42,13 @@ def sets_by_line(plan: Plan, lacking: int) -> List[int]:
 
 
 def find_losses(trials: Trials, planner: Planner, findings: Findings) -> None:
-    """Finds the smallest losses of examples whose pair is a guess: of SEARCHED at most, or of
+    """Finds the smallest losses of examples whose pair is a guess, of SEARCHED at most, or of
     SEARCHED_OF_ALL if all crash states are listed. Adds them to the findings, which make their
     groups again; after an exception those that were added stay. The planner makes plans of the sets
-    to try."""
+    to try. Refused if the program refuses one."""
     searched = 0
-    equal = EqualSets(trials.planned, findings) if findings.plan.all_states else None
     every = findings.plan.all_states
+    equal_sets = EqualSets(trials.planned, findings) if every else None
     most = SEARCHED_OF_ALL if every is not None and every.are_listed else SEARCHED
     while searched < most:
         examples = [
@@ -60,103 +60,114 @@ def find_losses(trials: Trials, planner: Planner, findings: Findings) -> None:
             return
         examples = examples[: most - searched]
         searched += len(examples)
-        found = Searches(trials, planner, findings, equal).run(examples)
-        findings.add_losses(found)
+        losses = LossSearches(trials, planner, findings, equal_sets).run(examples)
+        findings.add_losses(losses)
 
 
-class Searches:
-    """Searches for several states at once: in each turn one set of each is tried. known has the
-    outcomes of the sets that were tried, and equal, if it is given, those of what they leave.
+class LossSearches:
+    """Searches for the smallest losses of several states at once: in each turn one set of each is
+    tried. outcomes has the outcomes of the sets that were tried; equal_sets, if it is given, has
+    those of sets that leave the same.
 
-    searches, wanted and found are by the numbers of the states: the searches that run, the set that
-    each wants tried, and the losses that they found."""
+    searches, wanted_sets and losses are by the numbers of the states: the searches, the set that
+    each running search wants tried, and the losses that the others found."""
 
     def __init__(
         self,
         trials: Trials,
         planner: Planner,
         findings: Findings,
-        equal: Optional[EqualSets] = None,
+        equal_sets: Optional[EqualSets] = None,
     ) -> None:
+        """The outcomes that the findings have are known. No search is begun: run() does that."""
         self.trials = trials
         self.planner = planner
         self.findings = findings
-        self.equal = equal
-        plan, by_state = findings.plan, findings.by_state
-        self.known: Dict[int, Outcome] = {plan.kept[one]: by_state[one] for one in by_state}
+        self.equal_sets = equal_sets
+        kept_sets, outcomes = findings.plan.kept, findings.outcomes_by_state
+        self.outcomes: Dict[int, Outcome] = {
+            kept_sets[number]: outcome for number, outcome in outcomes.items()
+        }
         self.searches: Dict[int, Search] = {}
-        self.wanted: Dict[int, int] = {}
-        self.found: Dict[int, Loss] = {}
+        self.wanted_sets: Dict[int, int] = {}
+        self.losses: Dict[int, Loss] = {}
 
     def run(self, states: List[State]) -> Dict[int, Loss]:
-        """The smallest losses of failing states, by their numbers; to be called once. A search that
-        isn't over after RUNS sets ends with the smallest loss so far."""
+        """The smallest losses of failing states, each of which must lack something, by their
+        numbers; to be called once. A search that isn't over after RUNS sets whose outcomes weren't
+        known ends with the smallest loss so far."""
         for state in states:
             self.searches[state.number] = loss_search(self.findings.plan, state)
-            self.send_answer(state.number, None)
+            self.advance_search(state.number, next)
         self.answer_known()
         for _ in range(RUNS):
-            if not self.wanted:
+            if not self.wanted_sets:
                 break
-            self.try_sets(list(self.wanted.values()))
+            self.try_sets(list(self.wanted_sets.values()))
             self.answer_known()
-        for number, one in self.searches.items():
-            if number not in self.found:
-                self.found[number] = smallest_so_far(one)
-        return self.found
+        for number, search in self.searches.items():
+            if number not in self.losses:
+                self.losses[number] = end_search(search)
+        return self.losses
 
     def answer_known(self) -> None:
         """Answers each search by the outcomes that are known, until it wants a set without one, or
         ends."""
-        for number in list(self.wanted):
-            while number in self.wanted:
-                outcome = self.outcome_of_set(self.wanted[number])
+        for number in list(self.wanted_sets):
+            while number in self.wanted_sets:
+                outcome = self.outcome_of_set(self.wanted_sets[number])
                 if outcome is None:
                     break
-                failing = self.findings.by_state[number]
-                self.send_answer(number, self.findings.pairs.is_same_failure(failing, outcome))
+                failing = self.findings.outcomes_by_state[number]
+                is_same = self.findings.pairs.is_same_failure(failing, outcome)
+                self.send_answer(number, is_same)
 
-    def outcome_of_set(self, kept: int) -> Optional[Outcome]:
-        """The outcome of a set that a search wants; None if neither it nor one that leaves the same
-        was tried."""
-        if kept not in self.known and self.equal is not None:
-            return self.equal.outcome(kept)
-        return self.known.get(kept)
+    def outcome_of_set(self, kept_set: int) -> Optional[Outcome]:
+        """The outcome of a set that a search wants: its own or, if equal_sets is given, that of a
+        set that leaves the same. None if neither is known."""
+        if kept_set not in self.outcomes and self.equal_sets is not None:
+            return self.equal_sets.outcome(kept_set)
+        return self.outcomes.get(kept_set)
 
-    def send_answer(self, number: int, answer: Optional[bool]) -> None:
-        """Answers the search for a state: whether the set that it wanted fails alike, or None to
-        begin it. Notes what it wants next in `wanted`, or the loss in `found`."""
-        self.wanted.pop(number, None)
-        one = self.searches[number]
+    def send_answer(self, number: int, is_same: bool) -> None:
+        """Answers the search for the state of a number whether the set that it wanted fails alike,
+        and continues it as advance_search() says."""
+        self.advance_search(number, lambda search: search.send(is_same))
+
+    def advance_search(self, number: int, step: Callable[[Search], int]) -> None:
+        """Continues the search for the state of a number by a step, which returns the set that the
+        search wants next. Notes that set in wanted_sets or, if the search ends, its loss in
+        losses."""
+        self.wanted_sets.pop(number, None)
         try:
-            self.wanted[number] = next(one) if answer is None else one.send(answer)
+            self.wanted_sets[number] = step(self.searches[number])
         except StopIteration as end:
-            self.found[number] = end.value
+            self.losses[number] = end.value
 
     def try_sets(self, sets: List[int]) -> None:
-        """Tries sets that the order allows, and adds each outcome to `known` as it comes. Some are
-        missing if an exception or --fail-fast ends the trial. Of a set that is a prefix too, the
-        prefix is tried."""
-        planned = self.planner.plan_of_sets(self.trials.planned, sets)
-        numbers = {
-            planned.plan.kept[state.number]: state.number for state in reversed(planned.plan.states)
-        }
-        of_number = {numbers[one]: one for one in sets}
+        """Tries sets that the order allows, and adds each outcome to `outcomes` as it comes; some
+        are missing if an exception or --fail-fast ends the trial. Of a set that is a prefix too,
+        the prefix is tried. Refused if the program refuses the sets. A later call replaces their
+        file."""
+        planned = self.planner.plan_sets(self.trials.planned, sets)
+        kept_sets, states = planned.plan.kept, reversed(planned.plan.states)
+        numbers = {kept_sets[state.number]: state.number for state in states}
+        sets_by_number = {numbers[kept_set]: kept_set for kept_set in sets}
 
         def on_outcome(number: int, outcome: Outcome) -> None:
-            self.known[of_number[number]] = outcome
+            self.outcomes[sets_by_number[number]] = outcome
 
-        Trials(self.trials.workplace, planned).try_states([set(of_number)], on_outcome)
+        Trials(self.trials.workplace, planned).try_states([set(sets_by_number)], on_outcome)
 
 
 class EndSearch(Exception):
     """Thrown into a search to end it: it returns its smallest loss so far."""
 
 
-def smallest_so_far(one: Search) -> Loss:
+def end_search(search: Search) -> Loss:
     """Ends a search that waits for an answer, by EndSearch; returns its smallest loss so far."""
     try:
-        one.throw(EndSearch())
+        search.throw(EndSearch())
     except StopIteration as end:
         loss: Loss = end.value
         return loss
@@ -168,73 +179,81 @@ def loss_search(plan: Plan, state: State) -> Search:
     and must be sent whether each fails alike. First it puts back lines that the state lacks, then
     it makes the state shorter. It returns the loss at its end, and the smallest one so far if
     EndSearch is thrown into it."""
-    kept = plan.kept[state.number]
+    kept_set = plan.kept[state.number]
     try:
-        parts = 2
+        part_count = 2
         while True:
-            lines = sets_by_line(plan, lacking_of(kept))
-            smaller = None
-            for part in united_in_parts(lines, parts):
-                put_back = kept | with_needed(plan, part)
-                if put_back.bit_length() == kept.bit_length() and lacking_of(put_back):
-                    if (yield put_back):
-                        smaller = put_back
-                        break
-            if smaller is not None:
-                kept, parts = smaller, max(2, parts - 1)
-            elif parts >= len(lines):
+            lines = sets_by_line(plan, missing_set(kept_set))
+            larger_set = yield from put_back_part(plan, kept_set, lines, part_count)
+            if larger_set is not None:
+                kept_set, part_count = larger_set, max(2, part_count - 1)
+            elif part_count >= len(lines):
                 break
             else:
-                parts = min(2 * parts, len(lines))
-        kept = yield from shortest_beginning(kept)
+                part_count = min(2 * part_count, len(lines))
+        kept_set = yield from shortest_beginning(kept_set)
     except EndSearch:
         pass
-    return loss_of(kept)
+    return loss_of(kept_set)
 
 
-def shortest_beginning(kept: int) -> Generator[int, bool, int]:
+def put_back_part(
+    plan: Plan, kept_set: int, line_sets: List[int], part_count: int
+) -> Generator[int, bool, Optional[int]]:
+    """A part of loss_search: divides the sets of the lines that a set lacks into so many parts, and
+    puts back each part alone, with what it needs. Returns the first larger set that has the same
+    last place, still lacks something, and fails alike; None if there is none."""
+    for part in unions_of_parts(line_sets, part_count):
+        larger_set = kept_set | with_needed(plan, part)
+        if larger_set.bit_length() == kept_set.bit_length() and missing_set(larger_set):
+            if (yield larger_set):
+                return larger_set
+    return None
+
+
+def shortest_beginning(kept_set: int) -> Generator[int, bool, int]:
     """A part of loss_search, by binary search: the shortest beginning of a set that lacks the same
     and still fails alike. The set must lack something. If EndSearch is thrown into it, it returns
     the shortest beginning so far."""
-    members = [place for place in places_of(kept) if place > first_lacking(kept)]
-    low, high = 0, len(members) - 1
+    ends = [place for place in places_of(kept_set) if place > first_lacking(kept_set)]
+    low, high = 0, len(ends) - 1
     try:
         while low < high:
             middle = (low + high) // 2
-            if (yield kept & (1 << members[middle] + 1) - 1):
+            if (yield kept_set & (1 << ends[middle] + 1) - 1):
                 high = middle
             else:
                 low = middle + 1
     except EndSearch:
         pass
-    return kept & (1 << members[high] + 1) - 1
+    return kept_set & (1 << ends[high] + 1) - 1
 
 
-def united_in_parts(sets: List[int], parts: int) -> Iterator[int]:
+def unions_of_parts(sets: List[int], part_count: int) -> Iterator[int]:
     """Divides a list of sets into so many parts of neighbours, at most one for each set, and yields
     the union of each part."""
-    parts = min(parts, len(sets))
-    for part in range(parts):
-        first, last = part * len(sets) // parts, (part + 1) * len(sets) // parts
-        yield reduce(or_, sets[first:last])
+    count = min(part_count, len(sets))
+    for part in range(count):
+        begin, end = part * len(sets) // count, (part + 1) * len(sets) // count
+        yield reduce(or_, sets[begin:end])
 
 
-def with_needed(plan: Plan, members: int) -> int:
-    """The set of some members and all micro-operations that they need."""
-    needed = 0
-    for place in places_of(members):
-        needed |= plan.needs.masks[place]
-    return needed
+def with_needed(plan: Plan, micro_operations: int) -> int:
+    """A set of micro-operations with all that they need."""
+    whole = 0
+    for place in places_of(micro_operations):
+        whole |= plan.needs.masks[place]
+    return whole
 
 
-def first_lacking(kept: int) -> int:
+def first_lacking(kept_set: int) -> int:
     """The first place that a set lacks before its last one; -1 if it lacks none."""
-    return next(places_of(lacking_of(kept)), -1)
+    return next(places_of(missing_set(kept_set)), -1)
 
 
-def loss_of(kept: int) -> Loss:
-    """The loss of a set that isn't empty: its last member was kept, the first place that it lacks
-    was lost, None if it lacks none."""
-    lacking = lacking_of(kept)
+def loss_of(kept_set: int) -> Loss:
+    """The loss of a set that isn't empty. In its pair the last place of the set was kept, and the
+    first place that it lacks was lost, None if it lacks none."""
+    lacking = missing_set(kept_set)
     lost: Optional[int] = next(places_of(lacking), None)
-    return Loss(Pair(kept.bit_length() - 1, lost), lacking)
+    return Loss(Pair(kept_set.bit_length() - 1, lost), lacking)

@@ -6,17 +6,22 @@ from __future__ import annotations
 import os
 import subprocess
 import sys
-from typing import Iterator, List, Optional, Set, Tuple
+from typing import Iterator, List, Set, Tuple
 
 from crashfs_tools.checker.running.results import Head, Results
 from crashfs_tools.checker.running.runner import GOOD, Outcome
 from crashfs_tools.checker.running.trials import Trials
 from crashfs_tools.checker.states.plan import Offsets, State
-from crashfs_tools.checker.states.planning import Planner, TooLarge
+from crashfs_tools.checker.states.planning import Planner
 from crashfs_tools.common.command import TEXT, Refused, ending_text
 from crashfs_tools.common.program import LIBRARY, last_line
 from crashfs_tools.common.removal import remove_tree
-from crashfs_tools.common.trace_lines import read_text, trace_version, without_numbers, without_says
+from crashfs_tools.common.trace_lines import (
+    parse_trace_text,
+    trace_version,
+    without_numbers,
+    without_says,
+)
 
 from .groups import Findings, Group
 from .reruns import rerun_examples
@@ -42,32 +47,34 @@ class RecoveryRecorder:
         self.trials = trials
         self.guard = trials.guard
 
-    def recovery(self, state: State) -> Trials:
+    def record_recovery(self, state: State) -> Trials:
         """Records COMMAND in the tree of a state; returns the trials of the states that a crash
-        during it leaves. Refused if it can't be recorded, or its trace is too long for one plan. If
-        the program doesn't take the version of this trace, the second reading takes its place. A
-        state's recovery can be recorded once: its trace stays until the guard ends."""
+        during it leaves, by the second reading if the program doesn't take the trace's version.
+        Refused if COMMAND can't be recorded, or its trace is too long for one plan; ProgramFault if
+        the program doesn't give the tree. The trace stays until the guard ends: a second recording
+        of one state is a FileExistsError."""
         folder = os.path.join(self.guard.directory, f'recovery-{state.number}')
         os.mkdir(folder)
         ((_, directory),) = self.trials.archive_layout(folder).states({state.number})
         trace = os.path.join(folder, f'recovery-{state.number}.trace')
-        self.record(state, directory, trace)
+        self.run_recorder(state, directory, trace)
         remove_tree(directory)
         with open(trace, **TEXT) as file:
             text = without_says(file.read())
         with open(trace, 'w', **TEXT) as file:
             file.write(text)
-        program = self.trials.program.for_version(trace_version(text))
+        program = self.trials.program.program_for_version(trace_version(text))
         planner = Planner(self.trials.options, program, self.guard)
         planned = planner.plan(trace, Offsets(says=state.says))
-        return self.trials.for_recovery(planned, program)
+        return self.trials.with_plan(planned, program)
 
-    def record(self, state: State, directory: str, trace: str) -> None:
-        """Records COMMAND in a directory that has a state's tree, into the file of a trace; COMMAND
-        may fail there. Refused if no trace is written, or if it takes SLOWER times as long as
-        COMMAND may."""
+    def run_recorder(self, state: State, directory: str, trace: str) -> None:
+        """Records COMMAND, by a process of the recorder, in a directory that has a state's tree,
+        and writes the trace to a file. COMMAND may fail; what it prints is dropped. The recorder is
+        killed after SLOWER times as long as COMMAND may take. Refused then, and if no trace is
+        written; OSError if the recorder can't be started."""
         checker = self.trials.new_checker()
-        line = [
+        words = [
             sys.executable,
             '-S',
             '-c',
@@ -83,10 +90,10 @@ class RecoveryRecorder:
             'CRASHFS_STATE': str(state.number),
             'CRASHFS_SAYS': str(state.says),
         }
-        with open(checker.says.path(state.says), 'rb') as acknowledged:
+        with open(checker.acknowledged_lines.write_file(state.says), 'rb') as acknowledged:
             try:
                 ran = subprocess.run(
-                    line,
+                    words,
                     stdin=acknowledged,
                     stdout=subprocess.DEVNULL,
                     stderr=subprocess.PIPE,
@@ -100,96 +107,100 @@ class RecoveryRecorder:
             raise Refused(recorder_fault(ran.returncode, ran.stderr.decode('utf-8', 'replace')))
 
 
-class Nested:
-    """Tries the recoveries of up to so many states, over all windows. left is how many may still be
-    tried. seen has the causes and the kinds of last operations of the states that were chosen."""
+class SecondCrashTrials:
+    """Tries second crashes in the recoveries of up to `count` states, over all windows.
+    recoveries_left is how many may still be tried, and seen_features has the features of the states
+    that were chosen."""
 
     def __init__(self, count: int) -> None:
-        self.left = count
-        self.seen: Set[Tuple[str, str]] = set()
+        self.recoveries_left = count
+        self.seen_features: Set[Tuple[str, str]] = set()
 
-    def run(self, trials: Trials, findings: Findings) -> Iterator[Recovery]:
+    def try_recoveries(self, trials: Trials, findings: Findings) -> Iterator[Recovery]:
         """Chooses states of a window, records the recovery of each, and yields what second crashes
-        of it leave; one that can't be recorded, or is too long, has its fault instead. `left`
-        counts down in either case."""
-        for state in self.chosen_states(findings):
-            self.left -= 1
+        of it leave. A recovery that can't be recorded, or is too long, has its fault instead, and
+        counts too. A fault while its states are tried is raised, also Refused."""
+        for state in self.choose_states(findings):
+            self.recoveries_left -= 1
             try:
-                recovery = RecoveryRecorder(trials).recovery(state)
-            except (Refused, TooLarge) as fault:
+                recovery = RecoveryRecorder(trials).record_recovery(state)
+            except Refused as fault:
                 yield Recovery(state.number, fault=str(fault))
                 continue
-            yield self.recovery_of(recovery, state, findings.by_state[state.number])
+            yield self.try_recovery(recovery, state, findings.outcomes_by_state[state.number])
 
-    def recovery_of(self, trials: Trials, state: State, first: Outcome) -> Recovery:
-        """Tries all states of a recovery, and runs their examples again. `first` is the outcome of
-        the state that was recovered: if it isn't good, failures with the same cause are left
-        out."""
+    def try_recovery(self, trials: Trials, state: State, first_outcome: Outcome) -> Recovery:
+        """Tries the states of a state's recovery, and runs the examples of their groups again. If
+        the state itself wasn't good, as first_outcome says, failures with the same cause but for
+        numbers are left out. Only states that were tried are counted: fewer than all after a
+        failure with --fail-fast, or if all would take too long."""
         results = Results(trials.plan)
         trials.try_all(results)
         with open(trials.planned.trace, **TEXT) as file:
-            head = Head('', '', [], lines=read_text(file.read()).operations)
-        found = Findings(head, results, {}, first if first.result != GOOD else None)
-        rerun_examples(trials, found)
-        failing = sum(group.count for group in found.groups)
+            head = Head('', '', [], lines=parse_trace_text(file.read()).operations)
+        ignored = first_outcome if first_outcome.result != GOOD else None
+        findings = Findings(head, results, {}, ignored)
+        rerun_examples(trials, findings)
+        groups = findings.groups
         return Recovery(
             state.number,
-            len(results.trials),
-            failing,
-            found.groups,
-            {group.example.number: crash_place(found, group) for group in found.groups},
-            unproved=trials.program.unproved,
+            len(results.outcomes),
+            sum(group.count for group in groups),
+            groups,
+            {group.example.number: crash_place(findings, group) for group in groups},
+            unproved=trials.program.is_unproved,
         )
 
-    def chosen_states(self, findings: Findings) -> Iterator[State]:
-        """Up to `left` of the states that were tried in the window. First, one by one, the state
-        with the most features that no chosen one has; of several that with the most acknowledged
-        lines, since it has the most to lose. When no state has new features, the rest are taken
-        evenly from the others."""
-        left = [findings.plan.state(number) for number in sorted(findings.results.outcomes)]
-        wanted = self.left
+    def choose_states(self, findings: Findings) -> List[State]:
+        """Up to recoveries_left of the states that were tried in a window, whatever their outcomes.
+        First, one by one, the state with the most features that aren't in seen_features, which gets
+        them; of several the one with the most acknowledged lines, then the first. When no state has
+        new features, more are taken evenly from the others."""
+        others = [findings.plan.state(number) for number in sorted(findings.results.outcomes)]
+        wanted = self.recoveries_left
         chosen: List[State] = []
-        while left and len(chosen) < wanted:
-            best = max(
-                left,
-                key=lambda one: (
-                    len(self.features_of(findings, one) - self.seen),
-                    one.says,
-                    -one.number,
-                ),
-            )
-            if not self.features_of(findings, best) - self.seen:
+
+        def rank(state: State) -> Tuple[int, int, int]:
+            new_features = self.features_of(findings, state) - self.seen_features
+            return len(new_features), state.says, -state.number
+
+        while others and len(chosen) < wanted:
+            best = max(others, key=rank)
+            if not self.features_of(findings, best) - self.seen_features:
                 break
-            self.seen |= self.features_of(findings, best)
-            left.remove(best)
+            self.seen_features |= self.features_of(findings, best)
+            others.remove(best)
             chosen.append(best)
         more = wanted - len(chosen)
-        if more > 0 and left:
-            chosen += left[:: max(1, -(-len(left) // more))][:more]
-        return iter(chosen)
+        if more > 0 and others:
+            chosen += others[:: max(1, -(-len(others) // more))][:more]
+        return chosen
 
     @staticmethod
     def features_of(findings: Findings, state: State) -> Set[Tuple[str, str]]:
-        """Two features of a tried state: its cause, and the kind and path of the last operation
-        that it has, both without numbers."""
-        kept = findings.plan.kept[state.number]
-        last = findings.plan.operations[kept.bit_length() - 1] if kept else None
-        kind = f'{last.kind} {without_numbers(last.path)}' if last else ''
-        return {('cause', findings.by_state[state.number].cause_without_numbers), ('last', kind)}
+        """Two features of a tried state, each after its name: its cause, and the kind and path of
+        its last micro-operation, both without numbers. The cause of a good state is an empty text,
+        and so is the second feature of a state without micro-operations."""
+        kept_set = findings.plan.kept[state.number]
+        last = findings.plan.operations[kept_set.bit_length() - 1] if kept_set else None
+        operation = f'{last.kind} {without_numbers(last.path)}' if last else ''
+        cause = findings.outcomes_by_state[state.number].cause_without_numbers
+        return {('cause', cause), ('last', operation)}
 
 
 def recorder_fault(status: int, printed: str) -> str:
-    """Why the recorder wrote no trace, which is never empty: its own text in the last line that was
-    printed on standard error; or, if that line is another program's, how the recorder ended."""
+    """Why the recorder wrote no trace: the text after its name in the last line of `printed`, its
+    standard error. If that line has no text, or isn't the recorder's, how it ended, by its status
+    as Popen has it. Never an empty text."""
     name, _, text = last_line(printed).partition(': ')
     return text if name == RECORDER and text else f'{RECORDER} {ending_text(status)}'
 
 
-def crash_place(found: Findings, group: Group) -> str:
-    """Where the second crash of a group's example was, as text: at the line of the last operation
-    that it has, or before any change."""
-    kept = found.plan.kept[group.example.number]
-    line: Optional[int] = found.plan.operations[kept.bit_length() - 1].line if kept else None
-    if line is None:
+def crash_place(findings: Findings, group: Group) -> str:
+    """Where the second crash of a group's example was, as text: at the line of the example's last
+    micro-operation, or before any change. The findings must be of the recovery's own trace."""
+    kept_set = findings.plan.kept[group.example.number]
+    if not kept_set:
         return 'before its recovery changed anything'
-    return f'at line {line} of its recovery ({found.head.lines[line].text})'
+    line = findings.plan.operations[kept_set.bit_length() - 1].line
+    return f'at line {line} of its recovery ({findings.head.lines[line].text})'

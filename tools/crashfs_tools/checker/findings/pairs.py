@@ -32,8 +32,8 @@ from crashfs_tools.checker.states.plan import Plan, State
 
 
 class Pair(NamedTuple):
-    """The places of two micro-operations: kept is None if nothing was kept, and lost if all was.
-    is_guess says that a smaller loss may make the state fail."""
+    """The places of two micro-operations: kept is None if nothing was kept, lost is None if nothing
+    was lost. is_guess says that a smaller loss may make the state fail."""
 
     kept: Optional[int]
     lost: Optional[int]
@@ -45,6 +45,12 @@ class Loss(NamedTuple):
 
     pair: Pair
     lacking: int
+
+    def is_part_of(self, kept_set: int, lost_set: int) -> bool:
+        """Whether a state that has kept_set, and lost lost_set, lost all of this loss and has the
+        operation that it kept. False if the pair kept nothing."""
+        has_kept = self.pair.kept is not None and bool(kept_set >> self.pair.kept & 1)
+        return has_kept and self.lacking & ~lost_set == 0
 
 
 class Comparison(Enum):
@@ -69,14 +75,17 @@ class Pairs:
     their whole causes, except for numbers."""
 
     def __init__(self, plan: Plan, outcomes: Dict[int, Outcome]) -> None:
+        """Counts the causes now: `outcomes` mustn't get others later."""
         self.plan = plan
         self.outcomes = outcomes
-        prefixes = [one for one in plan.listed if one.family == 'prefix']
-        self.prefixes = {one.numbers[0]: one.number for one in prefixes}
-        self.equal_prefixes = {one.trial: one.numbers[0] for one in reversed(prefixes)}
-        self.holes = {one.numbers: one.number for one in plan.listed if one.family == 'hole'}
-        failing = (one for one in outcomes.values() if one.result != GOOD)
-        self.causes = Counter(one.cause_without_numbers for one in failing)
+        prefixes = [state for state in plan.listed if state.family == 'prefix']
+        self.prefixes = {state.numbers[0]: state.number for state in prefixes}
+        self.equal_prefixes = {state.trial: state.numbers[0] for state in reversed(prefixes)}
+        self.holes = {
+            state.numbers: state.number for state in plan.listed if state.family == 'hole'
+        }
+        failing = (outcome for outcome in outcomes.values() if outcome.result != GOOD)
+        self.causes = Counter(outcome.cause_without_numbers for outcome in failing)
 
     def pair_of(self, state: State) -> Pair:
         """The pair of a state that was tried and isn't good: by rule 1 for a prefix, by rule 2 for
@@ -93,11 +102,10 @@ class Pairs:
         return self.pick_pair(state, compare)
 
     def comparison_with(self, outcome: Outcome) -> Compare:
-        """A function that compares the state of a number with a failing one that has this
+        """A function that compares the state of a number with a failing state that has this
         outcome."""
 
         def compare(number: int) -> Comparison:
-            """How the state of a number compares; NOT_TRIED if it has no outcome."""
             other = self.outcomes.get(number)
             if other is None:
                 return Comparison.NOT_TRIED
@@ -107,34 +115,35 @@ class Pairs:
         return compare
 
     def is_same_failure(self, outcome: Outcome, other: Outcome) -> bool:
-        """Rule 7: whether a state of the outcome `other` fails as one of `outcome` does; False if
-        one of them is good, or only one gave an answer. The words before the colons are compared
-        only if no other state has the whole cause of `outcome`."""
+        """Whether a state with the outcome `other` fails as a state with `outcome` does, by rule 7.
+        False if one of them is good, or only one gave an answer. The words before the colons are
+        compared only if no other state has the whole cause of `outcome`."""
         if not other.result == outcome.result != GOOD:
             return False
         cause = outcome.cause_without_numbers
         if self.causes[cause] > 1:
             return other.cause_without_numbers == cause
-        return other.word == outcome.word
+        return other.cause_kind == outcome.cause_kind
 
     def prefix_pair(self, length: int, compare: Compare) -> Pair:
         """The pair of the prefix of a length by rule 1. A prefix that wasn't tried is taken to fail
         alike."""
-        first = last = length
-        while first > 0 and compare(self.prefixes[first - 1]) is not Comparison.OTHER:
-            first -= 1
-        total = len(self.plan.operations)
-        while last < total and compare(self.prefixes[last + 1]) is not Comparison.OTHER:
-            last += 1
-        return Pair(first - 1 if first > 0 else None, last if last < total else None)
+        shortest = longest = length
+        while shortest > 0 and compare(self.prefixes[shortest - 1]) is not Comparison.OTHER:
+            shortest -= 1
+        whole = len(self.plan.operations)
+        while longest < whole and compare(self.prefixes[longest + 1]) is not Comparison.OTHER:
+            longest += 1
+        kept = shortest - 1 if shortest > 0 else None
+        return Pair(kept, longest if longest < whole else None)
 
     def hole_pair(self, state: State, compare: Compare) -> Pair:
-        """The pair of a hole by rules 3 to 5. In rule 5 a shorter hole that wasn't tried, or isn't
-        there, is passed over."""
-        lost, length = state.numbers
+        """The pair of a hole by rules 3 to 5. In rule 5 a shorter hole that wasn't tried, or that
+        the plan doesn't list, is passed over."""
+        hole_place, length = state.numbers
         if is_failing_alike(self.prefixes[length], compare):
             return self.prefix_pair(length, compare)
-        lost = self.last_lost(lost, length, compare)
+        lost = self.last_lost_place(hole_place, length, compare)
         shortest = length
         for shorter in range(length - 1, lost + 1, -1):
             hole = self.holes.get((lost, shorter))
@@ -145,27 +154,28 @@ class Pairs:
                 shortest = shorter
         return Pair(shortest - 1, lost)
 
-    def last_lost(self, lost: int, length: int, compare: Compare) -> int:
-        """Rule 4: the last place that needs a lost one and whose own hole of this length fails
-        alike; the lost one if there is none."""
-        for later in range(length - 2, lost, -1):
+    def last_lost_place(self, hole_place: int, length: int, compare: Compare) -> int:
+        """The place that a hole of this length lost, by rule 4: the last one that needs hole_place
+        and whose own hole of this length fails alike; hole_place if there is none."""
+        for later in range(length - 2, hole_place, -1):
             hole = self.holes.get((later, length))
-            if self.plan.needs.is_needed(lost, by=later) and is_failing_alike(hole, compare):
+            if self.plan.needs.is_needed(hole_place, by=later) and is_failing_alike(hole, compare):
                 return later
-        return lost
+        return hole_place
 
     def pick_pair(self, state: State, compare: Compare) -> Pair:
         """The pair of a pick by rule 6. If no hole gives it, it is a guess, unless the pick has
         nothing or lacks nothing."""
-        kept, lacking = self.plan.kept[state.number], self.plan.set_lost_by(state)
+        kept_set, lacking = self.plan.kept[state.number], self.plan.set_lost_by(state)
         for place in places_of(lacking):
-            hole = self.holes.get((place, kept.bit_length()))
+            hole = self.holes.get((place, kept_set.bit_length()))
             if hole is not None and is_failing_alike(hole, compare):
                 return self.hole_pair(self.plan.state(hole), compare)
-        first = next(places_of(lacking), None)
-        return Pair(kept.bit_length() - 1 if kept else None, first, kept > 0 and lacking > 0)
+        kept = kept_set.bit_length() - 1 if kept_set else None
+        return Pair(kept, next(places_of(lacking), None), kept_set > 0 and lacking > 0)
 
 
 def is_failing_alike(number: Optional[int], compare: Compare) -> bool:
-    """Whether a number is that of a state that fails alike. False for None, which is no state."""
+    """Whether a state fails alike, by its number. False for None, which means that there is no such
+    state."""
     return number is not None and compare(number) is Comparison.FAILS_ALIKE

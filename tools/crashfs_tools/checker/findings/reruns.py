@@ -16,28 +16,29 @@ ENTRIES = 20
 
 
 def rerun_example(trials: Trials, example: State) -> Outcome:
-    """Tries a failing state a second time, and a third time if it fails again, since COMMAND may
-    fail in some runs only; the cache may have the outcomes. Returns the last one: if it is good,
-    the failure isn't reproducible."""
+    """Tries a failing state again, until it is good or was tried ATTEMPTS times in all, since
+    COMMAND may fail in some runs only; the cache may have the outcomes. Returns the last outcome:
+    if it is good, the failure isn't reproducible."""
     for attempt in range(1, ATTEMPTS):
-        outcome = trials.try_one(example, attempt)
+        outcome = trials.try_state(example, attempt)
         if outcome.result == GOOD:
             break
     return outcome
 
 
 def rerun_examples(trials: Trials, findings: Findings, seconds: float = float('inf')) -> None:
-    """Runs the examples of the first ENTRIES groups again, one at a time, but none that was run
-    again before; begins none after so many seconds. Writes the outcomes into the results and the
-    groups. If an example passes, the states of its group are dropped from the cache."""
+    """Runs the examples of the first ENTRIES groups again, one at a time, except those that were
+    run again before; begins none after so many seconds. The results get each outcome as it comes,
+    the groups get all at the end, and their rerun_seconds. If an example is good then, the states
+    of its group are dropped from the cache."""
     deadline = time.monotonic() + seconds
     results = findings.results
     for group in findings.groups[:ENTRIES]:
-        number = results.tried_for[group.example.trial]
+        number = results.tried_numbers[group.example.trial]
         if number not in results.reruns and time.monotonic() < deadline:
-            began = time.monotonic()
+            begin = time.monotonic()
             results.reruns[number] = rerun_example(trials, group.example)
-            group.seconds = time.monotonic() - began
+            group.rerun_seconds = time.monotonic() - begin
             if results.reruns[number].result == GOOD:
                 trials.drop_from_cache(state.number for state in group.states)
     findings.set_reruns()

@@ -10,16 +10,16 @@ from .groups import Group
 
 @dataclass
 class Recovery:
-    """The recovery of the state of a number: how many different states a second crash may leave,
-    how many fail, and their groups; places says where the second crash was, by the number of a
-    group's example. fault says why the recovery wasn't tried, or is empty; unproved whether the
-    second reading computed its states."""
+    """The recovery of the state of a number: how many different states of a second crash were
+    tried, how many of them fail or gave no answer, and their groups. crash_places says where the
+    second crash was, by the number of a group's example. fault says why the recovery wasn't tried,
+    or is empty; unproved says whether the second reading computed its states."""
 
     state: int
-    states: int = 0
-    failing: int = 0
+    tried_count: int = 0
+    failing_count: int = 0
     groups: List[Group] = field(default_factory=list)
-    places: Dict[int, str] = field(default_factory=dict)
+    crash_places: Dict[int, str] = field(default_factory=dict)
     fault: str = ''
     unproved: bool = False
 
@@ -32,17 +32,18 @@ class SecondCrash(NamedTuple):
 
 
 def second_crash_entries(recoveries: Iterable[Recovery]) -> List[Tuple[Group, SecondCrash]]:
-    """The groups of all recoveries as copies, each with the two crashes of its example. Of groups
-    with the same key only the first is an entry; the states of the others are added to it, and
-    nothing else of them is reported."""
-    found: Dict[Tuple[object, ...], Tuple[Group, SecondCrash]] = {}
+    """Copies of the groups of all recoveries, in their order, each with the two crashes of its
+    example. Of groups with the same key only the first is an entry, which gets the states of the
+    others; nothing else of those is reported. The rows of tried_states begin with the number of the
+    first crash's state. A copy shares the advice of its group."""
+    entries: Dict[Tuple[object, ...], Tuple[Group, SecondCrash]] = {}
     for recovery in recoveries:
         for group in recovery.groups:
-            place = recovery.places[group.example.number]
-            tried = frozenset((recovery.state, *one) for one in group.tried)
-            copy = replace(group, states=list(group.states), tried=tried)
-            first, _ = found.setdefault(group.key, (copy, SecondCrash(recovery.state, place)))
+            second_crash = SecondCrash(recovery.state, recovery.crash_places[group.example.number])
+            tried = frozenset((recovery.state, *row) for row in group.tried_states)
+            copy = replace(group, states=list(group.states), tried_states=tried)
+            first, _ = entries.setdefault(group.key, (copy, second_crash))
             if first is not copy:
                 first.states.extend(copy.states)
-                first.tried |= copy.tried
-    return list(found.values())
+                first.tried_states |= copy.tried_states
+    return list(entries.values())

@@ -9,7 +9,7 @@ from crashfs_tools.checker.running.runner import Outcome
 from crashfs_tools.common.entry import Entries, Entry
 from crashfs_tools.disks.disk import Crash
 
-from .wording import fails, joined_by
+from .wording import fail_verb, joined_by
 
 # So many paths of a tree are shown.
 SHOWN_PATHS = 12
@@ -17,20 +17,21 @@ OUTSIDE, UNTRIED, UNKNOWN = 'outside the model', 'not tried', 'not found'
 
 
 class Explanation(NamedTuple):
-    """Why no tried state has a disk's tree: `where` is OUTSIDE, UNTRIED or UNKNOWN. `searched` is
-    how many states were looked through for an UNKNOWN one, else 0."""
+    """Why no tried state has a disk's tree: reason is OUTSIDE, UNTRIED or UNKNOWN. searched_states
+    is how many states were looked through for an UNKNOWN tree, else 0."""
 
-    where: str
-    searched: int = 0
+    reason: str
+    searched_states: int = 0
 
     @property
     def text(self) -> str:
         """The explanation as a report has it, such as `no crash state has this tree`."""
-        if self.where == OUTSIDE:
+        if self.reason == OUTSIDE:
             return 'no crash state has this tree'
-        if self.where == UNTRIED:
+        if self.reason == UNTRIED:
             return 'a crash state has this tree, and is not among those that were tried'
-        return f'none of the {self.searched:,} crash states that were looked through has this tree'
+        count = f'{self.searched_states:,}'
+        return f'none of the {count} crash states that were looked through has this tree'
 
 
 @dataclass
@@ -45,22 +46,23 @@ class DiskFailure:
     explanation: Explanation
 
     def lines(self) -> List[str]:
-        """Three lines of a report: on which file systems and after which crashes it was seen, why
-        it is listed, and the first SHOWN_PATHS paths of the tree."""
+        """Three lines of a report: on which file systems and after which crashes the tree was seen,
+        why no tried state has it, and its first SHOWN_PATHS paths, with how many more there are."""
         more = len(self.tree) - SHOWN_PATHS
         paths = [path_text(path, self.tree[path]) for path in sorted(self.tree)[:SHOWN_PATHS]]
         says = joined_by('or', list(map(str, self.says)))
         return [
-            f'{sentence(list(self.crashes), self.crashes)}, says {says}',
+            f'{sighting_text(list(self.crashes), self.crashes)}, says {says}',
             self.explanation.text,
             ', '.join(paths) + (f' and {more:,} more' if more > 0 else ''),
         ]
 
     def fields(self) -> Dict[str, Any]:
-        """The failure as the JSON has it, with all paths of the tree."""
+        """The failure as the JSON has it: with all paths of the tree, but not what is there, nor
+        what COMMAND printed above the cause."""
         return {
             'cause': self.outcome.cause,
-            'where': self.explanation.where,
+            'where': self.explanation.reason,
             'says': self.says,
             'crashes': crash_fields(self.crashes),
             'paths': sorted(self.tree),
@@ -69,97 +71,100 @@ class DiskFailure:
 
 @dataclass
 class Sightings:
-    """What was seen on the file systems, by their names: crashes and trees have how many there
-    were, and failing in how many of the trees COMMAND failed or gave no answer. states has for the
-    number of each state seen the first crash, as keep_first() has it, of each file system that left
-    it. further has the failures that no tried state has."""
+    """What was seen on the file systems of these names. crash_counts and tree_counts have how many
+    crashes and different trees there were on each; failing_counts has in how many of the trees
+    COMMAND failed or gave no answer. crashes_by_state has for the number of each state seen the
+    first crash, as keep_first() has it, of each file system that left it. further_failures has the
+    failures that no tried state has."""
 
     names: List[str]
-    crashes: Dict[str, int] = field(default_factory=dict)
-    trees: Dict[str, int] = field(default_factory=dict)
-    failing: Dict[str, int] = field(default_factory=dict)
-    states: Dict[int, Dict[str, Crash]] = field(default_factory=dict)
-    further: List[DiskFailure] = field(default_factory=list)
+    crash_counts: Dict[str, int] = field(default_factory=dict)
+    tree_counts: Dict[str, int] = field(default_factory=dict)
+    failing_counts: Dict[str, int] = field(default_factory=dict)
+    crashes_by_state: Dict[int, Dict[str, Crash]] = field(default_factory=dict)
+    further_failures: List[DiskFailure] = field(default_factory=list)
 
-    def of_states(self, numbers: Sequence[int]) -> Dict[str, Crash]:
+    def crashes_of_states(self, numbers: Sequence[int]) -> Dict[str, Crash]:
         """The first crash of each file system that left one of the states of these numbers; without
         the file systems on which none of them was seen."""
-        found: Dict[str, Crash] = {}
+        crashes: Dict[str, Crash] = {}
         for number in numbers:
-            keep_first(found, self.states.get(number, {}))
-        return found
+            keep_first(crashes, self.crashes_by_state.get(number, {}))
+        return crashes
 
-    def sentence(self, numbers: Sequence[int]) -> str:
-        """A sentence on the states of these numbers: on which file systems a crash left one of
-        them, after which crash, and on which not."""
-        return sentence(self.names, self.of_states(numbers))
+    def text_of_states(self, numbers: Sequence[int]) -> str:
+        """The text on the states of these numbers: on which file systems a crash left one of them,
+        after which crash, and on which not."""
+        return sighting_text(self.names, self.crashes_of_states(numbers))
 
     def fields(self) -> Dict[str, Any]:
         """What the JSON has: the counts of each file system, the first crashes of each state seen
         by its number, and the further failures."""
         counts = {
             name: {
-                'crashes': self.crashes[name],
-                'different': self.trees[name],
-                'failing': self.failing[name],
+                'crashes': self.crash_counts[name],
+                'different': self.tree_counts[name],
+                'failing': self.failing_counts[name],
             }
             for name in self.names
         }
-        states = {str(state): crash_fields(found) for state, found in sorted(self.states.items())}
-        further = [one.fields() for one in self.further]
+        seen = sorted(self.crashes_by_state.items())
+        states = {str(state): crash_fields(crashes) for state, crashes in seen}
+        further = [failure.fields() for failure in self.further_failures]
         return {'filesystems': counts, 'states': states, 'further': further}
 
     def lines(self) -> List[str]:
         """A line of a report for each file system: how many crashes there were, how many different
-        trees they left, and in how many of these COMMAND fails."""
+        trees they left, and in how many of these COMMAND fails or gives no answer."""
         return [
-            f'{name}: {self.crashes[name]:,} crashes, {self.trees[name]:,} different trees: '
-            + fail_text(self.failing[name])
+            f'{name}: {self.crash_counts[name]:,} crashes, {self.tree_counts[name]:,} different '
+            f'trees: {fail_text(self.failing_counts[name])}'
             for name in self.names
         ]
 
 
-def keep_first(found: Dict[str, Crash], more: Dict[str, Crash]) -> None:
-    """Adds crashes to `found`, by the names of file systems. Of two of one file system the one
-    stays for which the kernel wrote less by itself, since it says more; of equal ones the earlier
-    one."""
+def keep_first(crashes: Dict[str, Crash], more: Dict[str, Crash]) -> None:
+    """Adds `more` crashes to `crashes`; both have one for each file system, by its name. Of two of
+    one file system that stays for which the kernel was made to write less, since it says more; then
+    the earlier one in the session, then the one in `crashes`."""
     for name, crash in more.items():
-        if name not in found or crash.rank < found[name].rank:
-            found[name] = crash
+        if name not in crashes or crash.rank < crashes[name].rank:
+            crashes[name] = crash
 
 
 def fail_text(count: int) -> str:
     """How many fail, as text: `3 fail`, `none fails`."""
-    return f'{count:,} {fails(count)}' if count else 'none fails'
+    return f'{count:,} {fail_verb(count)}' if count else 'none fails'
 
 
-def sentence(names: Sequence[str], found: Dict[str, Crash]) -> str:
-    """A sentence on something that was seen on some file systems: on which of them and after which
-    crash, by `found`, and on which not."""
-    seen = [f'{name} ({crash_text(found[name])})' for name in names if name in found]
-    unseen = [name for name in names if name not in found]
+def sighting_text(names: Sequence[str], crashes: Dict[str, Crash]) -> str:
+    """On which of the file systems of these names something was seen, after which crash, and on
+    which not. `crashes` has the crash for each file system on which it was seen; its other names
+    are passed over."""
+    seen = [f'{name} ({crash_text(crashes[name])})' for name in names if name in crashes]
+    unseen = [name for name in names if name not in crashes]
     if not seen:
         return f'not seen on {joined_by("or", unseen)}'
     others = f'; not on {joined_by("or", unseen)}' if unseen else ''
     return f'seen on {joined_by("and", seen)}{others}'
 
 
-def crash_fields(found: Dict[str, Crash]) -> Dict[str, Any]:
-    """What the JSON has of crashes, by the names of file systems: the line and the lever of
+def crash_fields(crashes: Dict[str, Crash]) -> Dict[str, Any]:
+    """What the JSON has of crashes, by the names of file systems: the line and the flush kind of
     each."""
-    return {name: [crash.moment.line, crash.lever.value] for name, crash in found.items()}
+    return {name: [crash.moment.line, crash.flush_kind.value] for name, crash in crashes.items()}
 
 
 def crash_text(crash: Crash) -> str:
     """When a crash was, as text: after which line of the trace, or before the first operation, and
     what the kernel had written by then."""
     place = f'after line {crash.moment.line}' if crash.moment.line else 'before the first operation'
-    return f'{place}, {crash.lever.value}'
+    return f'{place}, {crash.flush_kind.value}'
 
 
 def path_text(path: str, entry: Entry) -> str:
-    """A path with what is there: a link's target, a file's size, and of a directory nothing
-    more."""
+    """A path with the target of the symbolic link or the size of the file there; the path only for
+    a directory."""
     if entry.link is not None:
         return f'{path} (a symbolic link to {entry.link})'
     return path if entry.data is None else f'{path} ({len(entry.data):,} bytes)'

@@ -4,30 +4,33 @@ from __future__ import annotations
 
 import json
 import os
+from collections import Counter
 from typing import Dict, Iterable, List, Optional, Tuple
 
 from crashfs_tools.checker.running.results import Results
-from crashfs_tools.checker.running.runner import Outcome
+from crashfs_tools.checker.running.runner import GOOD, Outcome
 from crashfs_tools.checker.running.trials import Trials
 from crashfs_tools.checker.states.place_sets import places_of
-from crashfs_tools.checker.states.plan import Offsets, Plan, Planned
+from crashfs_tools.checker.states.plan import Offsets, Plan, PlannedTrace
 from crashfs_tools.checker.states.planning import Planner
 from crashfs_tools.common.command import TEXT, Refused
 from crashfs_tools.common.sparse import PAGE_BYTES, SparseBytes
 from crashfs_tools.common.trace_lines import SYNCS, TraceLine
 
-from .groups import Findings, Group, Totals
+from .advice import FailingCounts
+from .groups import Findings, Group
 
 # So many entries have the other order tried, of so many states at most.
 ENTRIES, MOST_STATES = 3, 2_000
 
 
-def add_swaps(trials: Trials, planner: Planner, findings: Findings, spans: List[Group]) -> None:
-    """Tries the other order for the first ENTRIES of some swappable groups, finds out whether their
-    kept line overwrites bytes in use, and sets their advice again."""
-    for group in spans[:ENTRIES]:
-        group.swap = Swap(trials, planner, findings, group).run()
-        group.overwrites = is_overwriting(trials, findings, group)
+def add_swaps(trials: Trials, planner: Planner, findings: Findings, swappable: List[Group]) -> None:
+    """Tries the other order of lines for the first ENTRIES of some swappable groups, finds out
+    whether their kept line overwrites bytes in use, and sets their advice again. Further groups
+    stay as they are, and so do the next ones after an exception."""
+    for group in swappable[:ENTRIES]:
+        group.swap_counts = Swap(trials, planner, findings, group).run()
+        group.is_overwriting = is_overwriting(trials, findings, group)
         group.set_advice(findings.head.lines)
 
 
@@ -36,143 +39,148 @@ class Swap:
     before the earlier one."""
 
     def __init__(self, trials: Trials, planner: Planner, findings: Findings, group: Group) -> None:
+        """The group must have both lines (is_swappable). Nothing is written yet."""
         self.trials = trials
         self.planner = planner
         self.findings = findings
-        assert group.kept is not None and group.lost is not None
-        self.kept, self.lost = group.kept, group.lost
+        assert group.kept_line is not None and group.lost_line is not None
+        self.kept_line, self.lost_line = group.kept_line, group.lost_line
 
-    def run(self) -> Optional[Totals]:
-        """How many different states fail in the trace and in the copy. None if the lines can't
-        change places, or the copy has more than MOST_STATES states: then none is tried."""
-        moved = moved_lines(self.kept, self.lost, self.findings.head.lines)
-        planned = self.planned_copy(moved) if moved else None
+    def run(self) -> Optional[FailingCounts]:
+        """Writes the copy and tries its states; returns how many different states fail in the trace
+        and in the copy. Those that --fail-fast left untried don't count. None, and nothing is
+        tried, if the lines can't change places, or the copy has more than MOST_STATES states."""
+        moved_numbers = lines_to_move(self.kept_line, self.lost_line, self.findings.head.lines)
+        planned = self.plan_copy(moved_numbers) if moved_numbers else None
         if planned is None or len(planned.plan.states) > MOST_STATES:
             return None
-        outcomes = self.outcomes_of(planned)
-        before = count_failing_states(self.findings.plan, self.findings.by_state)
-        return Totals(before, count_failing_states(planned.plan, outcomes))
+        outcomes = self.try_copy(planned)
+        before = count_failing_states(self.findings.plan, self.findings.outcomes_by_state)
+        return FailingCounts(before, count_failing_states(planned.plan, outcomes))
 
-    def planned_copy(self, moved: List[int]) -> Optional[Planned]:
+    def plan_copy(self, moved_numbers: List[int]) -> Optional[PlannedTrace]:
         """Writes the copy, in which the lines of these numbers come before the kept one, and after
         them a sync of the lost one's path; then plans it. None if the window lacks one of the
         lines, or has one of these numbers in parts, or if the program refuses this order. A later
         copy replaces the file."""
-        before = self.trials.planned.offsets
+        offsets = self.trials.planned.offsets
         with open(self.trials.planned.trace, **TEXT) as file:
             text = file.read().rstrip('\n').split('\n')
-        numbered = list(zip(before.lines or range(1, len(text) + 1), text))
+        numbered = list(zip(offsets.lines or range(1, len(text) + 1), text))
         numbers = [number for number, _ in numbered]
-        taken = [(number, line) for number, line in numbered if number in moved]
-        if len(taken) != len(moved) or self.kept.number not in numbers:
+        moved = [(number, line) for number, line in numbered if number in moved_numbers]
+        if len(moved) != len(moved_numbers) or self.kept_line.number not in numbers:
             return None
-        sync = {'op': 'fsync', 'path': self.lost.synced_by}
+        sync = {'op': 'fsync', 'path': self.lost_line.path_to_fsync}
         # Of a kept line in parts this is the first: all parts come after the sync.
-        place = numbers.index(self.kept.number)
+        place = numbers.index(self.kept_line.number)
         lines: List[Tuple[int, str]] = [
             *numbered[:place],
-            *taken,
+            *moved,
             (0, json.dumps(sync, ensure_ascii=False)),
-            *(one for one in numbered[place:] if one[0] not in moved),
+            *((number, line) for number, line in numbered[place:] if number not in moved_numbers),
         ]
         path = os.path.join(self.trials.guard.directory, 'swap.trace')
         with open(path, 'w', **TEXT) as file:
             file.write('\n'.join(line for _, line in lines))
         try:
             return self.planner.plan(
-                path, Offsets(says=before.says, lines=tuple(number for number, _ in lines))
+                path, Offsets(says=offsets.says, lines=tuple(number for number, _ in lines))
             )
         except Refused:
             return None
 
-    def outcomes_of(self, planned: Planned) -> Dict[int, Outcome]:
-        """Tries the copy's states, and returns their outcomes by their numbers. A state with the
-        same micro-operations as a tried one of the session is equal to it, and not tried. Those
-        that --fail-fast left untried have no outcome."""
-        plan, findings = planned.plan, self.findings
-        known = {findings.plan.kept[one]: found for one, found in findings.by_state.items()}
-        places = same_operations(plan, findings.plan)
+    def try_copy(self, planned: PlannedTrace) -> Dict[int, Outcome]:
+        """Tries the copy's states, and returns the outcomes of all of them by their numbers. A
+        state with the same micro-operations as a tried one of the session is equal to it, and not
+        tried. Those that --fail-fast left untried have no outcome."""
+        plan, session_plan = planned.plan, self.findings.plan
+        outcomes = self.findings.outcomes_by_state.items()
+        known = {session_plan.kept[number]: outcome for number, outcome in outcomes}
+        session_places = matching_places(plan, session_plan)
         results = Results(plan)
         for state in plan.states:
-            found = known.get(set_in_places(plan.kept[state.number], places))
-            if found is not None:
-                results.outcomes[results.tried_for[state.trial]] = found
+            session_set = set_at_places(plan.kept[state.number], session_places)
+            if session_set is not None and session_set in known:
+                results.outcomes[results.tried_numbers[state.trial]] = known[session_set]
 
         def on_outcome(number: int, outcome: Outcome) -> None:
             results.outcomes[number] = outcome
 
-        new = set(results.trials.values()) - set(results.outcomes)
-        Trials(self.trials.workplace, planned).try_states([new], on_outcome)
+        new_numbers = set(results.own_numbers.values()) - set(results.outcomes)
+        Trials(self.trials.workplace, planned).try_states([new_numbers], on_outcome)
         return results.outcomes_by_state({})
 
 
-def moved_lines(kept: TraceLine, lost: TraceLine, lines: Dict[int, TraceLine]) -> List[int]:
-    """The numbers, ascending, of the lines that must be moved before the kept one: the later lost
-    line, and lines between the two that must be moved together with it (moves_with). Empty if the
-    kept line has a path in common with one of them that isn't a sync."""
+def lines_to_move(kept: TraceLine, lost: TraceLine, lines: Dict[int, TraceLine]) -> List[int]:
+    """The ascending numbers of the lines that must be moved before the line `kept`: the later line
+    `lost`, and those between them that must be moved with it (must_move_with). Empty if a path of
+    `kept` is, or is below or above, one of theirs; syncs among them don't count."""
     moved = [lost]
     for number in range(lost.number - 1, kept.number, -1):
         line = lines.get(number)
-        if line is not None and moves_with(line, moved):
+        if line is not None and must_move_with(moved, line):
             moved.insert(0, line)
     are_apart = all(kept.is_apart_from(line) for line in moved if line.word not in SYNCS)
     return [line.number for line in moved] if are_apart else []
 
 
-def moves_with(line: TraceLine, moved: Iterable[TraceLine]) -> bool:
-    """Whether a line must be moved together with the moved ones, because it has a path in common
-    with one of them. A sync is moved only with a line of its own file."""
+def must_move_with(moved: Iterable[TraceLine], line: TraceLine) -> bool:
+    """Whether a line must be moved together with the moved lines, because a path of it is, or is
+    below or above, one of theirs; syncs among these don't count. A sync must be moved only with a
+    line of its own file."""
     if line.word in SYNCS:
-        return any(line.path in (one.path, one.target) for one in moved)
-    return not all(line.is_apart_from(one) for one in moved if one.word not in SYNCS)
+        return any(line.path in (other.path, other.target) for other in moved)
+    return not all(line.is_apart_from(other) for other in moved if other.word not in SYNCS)
 
 
-def same_operations(plan: Plan, other: Plan) -> Dict[int, int]:
+def matching_places(plan: Plan, other: Plan) -> Dict[int, int]:
     """The places in `plan` of the micro-operations that `other` has too, each with the place there.
     Micro-operations of one line and kind are matched in their order."""
-
-    def turns(of_plan: Plan) -> Dict[Tuple[int, str, int], int]:
-        """The place of each micro-operation of a plan, by its line, its kind, and how many of the
-        same line and kind come before it."""
-        found: Dict[Tuple[int, str, int], int] = {}
-        for place, one in enumerate(of_plan.operations):
-            turn = 0
-            while (one.line, one.kind, turn) in found:
-                turn += 1
-            found[one.line, one.kind, turn] = place
-        return found
-
-    others = turns(other)
-    return {place: others[key] for key, place in turns(plan).items() if key in others}
+    other_places = places_by_rank(other)
+    places = places_by_rank(plan).items()
+    return {place: other_places[key] for key, place in places if key in other_places}
 
 
-def set_in_places(kept: int, places: Dict[int, int]) -> int:
-    """A set whose members are at other places: each by its old place in `places`. If one isn't
-    there, -1, which is no set."""
-    found = 0
-    for place in places_of(kept):
+def places_by_rank(plan: Plan) -> Dict[Tuple[int, str, int], int]:
+    """The place of each micro-operation of a plan, by its line, its kind, and how many of the same
+    line and kind come before it."""
+    places: Dict[Tuple[int, str, int], int] = {}
+    counts: Dict[Tuple[int, str], int] = Counter()
+    for place, operation in enumerate(plan.operations):
+        line_and_kind = operation.line, operation.kind
+        places[(*line_and_kind, counts[line_and_kind])] = place
+        counts[line_and_kind] += 1
+    return places
+
+
+def set_at_places(kept_set: int, places: Dict[int, int]) -> Optional[int]:
+    """A set with each place replaced by that which `places` has for it; None if it has none for one
+    of them."""
+    replaced = 0
+    for place in places_of(kept_set):
         if place not in places:
-            return -1
-        found |= 1 << places[place]
-    return found
+            return None
+        replaced |= 1 << places[place]
+    return replaced
 
 
-def count_failing_states(plan: Plan, by_state: Dict[int, Outcome]) -> int:
-    """How many different states of a plan aren't good, by the outcomes of the states' numbers. A
-    state without an outcome doesn't count."""
+def count_failing_states(plan: Plan, outcomes: Dict[int, Outcome]) -> int:
+    """How many different states of a plan aren't good, by the outcomes of states' numbers. A state
+    without an outcome doesn't count."""
     return len(
         {
             state.trial
             for state in plan.states
-            if state.number in by_state and by_state[state.number].result != 'good'
+            if state.number in outcomes and outcomes[state.number].result != GOOD
         }
     )
 
 
 def is_overwriting(trials: Trials, findings: Findings, group: Group) -> bool:
     """Whether the kept micro-operation of a group is a write that replaces bytes of a file, other
-    than zeros, by different ones. False if the group keeps none. The trees of the prefixes before
-    and after it are compared."""
+    than zeros, by different ones. False if the group kept none. The trees of the prefixes before
+    and after it are compared, also if these weren't tried. Errors as in Trials.trees()."""
     plan, place = findings.plan, group.pair.kept
     if place is None or plan.operations[place].kind != 'write_block':
         return False
@@ -186,10 +194,11 @@ def is_overwriting(trials: Trials, findings: Findings, group: Group) -> bool:
 
 
 def has_replaced_bytes(before: SparseBytes, after: SparseBytes) -> bool:
-    """Whether a change of a file puts other bytes in the place of some that aren't zeros. Bytes
-    past the new end don't count."""
-    for number, page in before.data_pages():
-        new = after.read(number * PAGE_BYTES, PAGE_BYTES)
-        if page != new and any(old not in (0, now) for old, now in zip(page, new)):
+    """Whether a file has other bytes `after` a change in the place of bytes that weren't zeros
+    `before` it. Bytes past the new end don't count."""
+    for number, old_page in before.data_pages():
+        new_page = after.read(number * PAGE_BYTES, PAGE_BYTES)
+        is_same = old_page == new_page
+        if not is_same and any(old not in (0, new) for old, new in zip(old_page, new_page)):
             return True
     return False

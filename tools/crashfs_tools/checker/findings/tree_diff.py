@@ -19,77 +19,87 @@ SHOWN_BYTES = 8
 
 
 def find_differences(trials: Trials, findings: Findings) -> None:
-    """Compares the examples of the largest groups with their nearest good states, and sets the
-    groups' differences, at most SHOWN_LINES lines each. A group without such a state gets none."""
+    """Compares the examples of the first ENTRIES groups, the largest, with their nearest good
+    states, and sets the differences of these groups; of each difference SHOWN_LINES lines are kept.
+    A group without a good state gets none. ProgramFault or KeyError if the program lacks a
+    state."""
     for group in findings.groups[:ENTRIES]:
-        good = nearest_good(findings, group)
-        if good is not None:
-            failing, other = trials.trees([group.example.number, good.number])
-            lines = list(different_lines(failing, other))
-            group.difference = Difference(good.number, lines[:SHOWN_LINES])
+        good_state = nearest_good_state(findings, group)
+        if good_state is not None:
+            failing, good = trials.trees([group.example.number, good_state.number])
+            lines = list(difference_lines(failing, good))
+            group.difference = Difference(good_state.number, lines[:SHOWN_LINES])
 
 
-def nearest_good(findings: Findings, group: Group) -> Optional[State]:
+def nearest_good_state(findings: Findings, group: Group) -> Optional[State]:
     """The good state that differs from a group's example in the fewest micro-operations, of several
-    the first; None if no state of the window is good."""
-    kept = findings.plan.kept
+    the first; None if no state of the window was found good."""
+    kept_sets = findings.plan.kept
     good = [
         state
         for state in findings.plan.states
-        if state.number in findings.by_state and findings.by_state[state.number].result == GOOD
+        if state.number in findings.outcomes_by_state
+        and findings.outcomes_by_state[state.number].result == GOOD
     ]
 
     def distance(state: State) -> Tuple[int, int]:
         """In how many micro-operations a state differs from the example, then its number."""
-        return size_of(kept[state.number] ^ kept[group.example.number]), state.number
+        return size_of(kept_sets[state.number] ^ kept_sets[group.example.number]), state.number
 
     return min(good, key=distance) if good else None
 
 
-def different_lines(failing: Entries, good: Entries) -> Iterator[str]:
+def difference_lines(failing: Entries, good: Entries) -> Iterator[str]:
     """How a failing tree differs from a good one: a line for each path that differs, in the order
-    of paths. It has the first difference of these: presence, kind, bytes, owner, group and mode."""
+    of paths. A line names one difference only, the first of presence, kind, bytes and rights."""
     for path in sorted(failing.keys() | good.keys()):
-        one, other = failing.get(path), good.get(path)
-        if one is None or other is None:
-            present = one or other
+        bad_entry, good_entry = failing.get(path), good.get(path)
+        if bad_entry is None or good_entry is None:
+            present = bad_entry or good_entry
             assert present is not None
-            where = 'failing' if one else 'good'
-            yield f'{path} ({size_text(present)}) is only in the {where} state'
-        elif kind_text(one) != kind_text(other):
-            yield f'{path} is {kind_text(one)}, in the good state {kind_text(other)}'
-        elif one.data != other.data:
-            yield f'{path} {size_difference(one, other)}{first_difference(one, other)}'
-        elif (one.owner, one.group, one.mode) != (other.owner, other.group, other.mode):
-            yield f'{path} is {rights_text(one)}, in the good state {rights_text(other)}'
+            state = 'failing' if bad_entry else 'good'
+            yield f'{path} ({size_text(present)}) is only in the {state} state'
+        elif kind_text(bad_entry) != kind_text(good_entry):
+            yield f'{path} is {kind_text(bad_entry)}, in the good state {kind_text(good_entry)}'
+        elif bad_entry.data != good_entry.data:
+            sizes = sizes_text(bad_entry, good_entry)
+            yield f'{path} {sizes}{first_bytes_text(bad_entry, good_entry)}'
+        elif rights_of(bad_entry) != rights_of(good_entry):
+            yield f'{path} is {rights_text(bad_entry)}, in the good state {rights_text(good_entry)}'
 
 
 def kind_text(entry: Entry) -> str:
-    """What is at a path, without its size: `a file`."""
+    """What an entry is, without its size: `a file`, `a directory` or a symbolic link with its
+    target."""
     if entry.link is not None:
         return f'a symbolic link to {entry.link}'
     return 'a directory' if entry.is_directory else 'a file'
 
 
 def size_text(entry: Entry) -> str:
-    """The size of a file; of a directory or a link what it is."""
+    """The size of a file; for a directory or a link what it is."""
     return kind_text(entry) if entry.data is None else f'{len(entry.data):,} bytes'
 
 
-def size_difference(one: Entry, other: Entry) -> str:
+def sizes_text(failing: Entry, good: Entry) -> str:
     """The end of a sentence: which sizes a file has in the failing state and in the good one, or
-    that they are equal."""
-    if one.data is not None and other.data is not None and len(one.data) == len(other.data):
-        return f'has {size_text(one)} in both'
-    return f'has {size_text(one)}, in the good state {size_text(other)}'
+    which it has in both."""
+    if size_text(failing) == size_text(good):
+        return f'has {size_text(failing)} in both'
+    return f'has {size_text(failing)}, in the good state {size_text(good)}'
 
 
 def bytes_text(data: bytes) -> str:
-    """Some bytes of a file as text if all are printable ASCII, otherwise as hexadecimal digits. No
-    bytes mean that the file ends there."""
+    """Some bytes of a file: in quotes if all are printable ASCII, else as hexadecimal digits, and
+    `its end` if there are none."""
     if data and all(0x20 <= byte < 0x7F for byte in data):
         return f'"{data.decode("ascii")}"'
     return data.hex() or 'its end'
+
+
+def rights_of(entry: Entry) -> Tuple[str, str, int]:
+    """The owner, the group and the mode of an entry."""
+    return entry.owner, entry.group, entry.mode
 
 
 def rights_text(entry: Entry) -> str:
@@ -97,13 +107,14 @@ def rights_text(entry: Entry) -> str:
     return f'{entry.mode:03o} {entry.owner} {entry.group}'
 
 
-def first_difference(one: Entry, other: Entry) -> str:
-    """The end of a sentence: the offset at which the bytes of two files begin to differ, and up to
-    SHOWN_BYTES of each from there. An empty text if one isn't a file. They must differ."""
-    if one.data is None or other.data is None:
+def first_bytes_text(failing: Entry, good: Entry) -> str:
+    """The end of a sentence: the offset at which the bytes of a file in the failing state and in
+    the good one, which must differ, begin to differ, and up to SHOWN_BYTES of each from there. An
+    empty text if one of the entries is no file."""
+    if failing.data is None or good.data is None:
         return ''
-    place = sparse.first_difference(one.data, other.data)
-    pieces = [
-        bytes_text(bytes(entry[place : place + SHOWN_BYTES])) for entry in (one.data, other.data)
-    ]
-    return f'; at byte {place:,} {pieces[0]}, in the good state {pieces[1]}'
+    place = sparse.first_difference(failing.data, good.data)
+    failing_bytes = bytes(failing.data[place : place + SHOWN_BYTES])
+    good_bytes = bytes(good.data[place : place + SHOWN_BYTES])
+    texts = bytes_text(failing_bytes), bytes_text(good_bytes)
+    return f'; at byte {place:,} {texts[0]}, in the good state {texts[1]}'

@@ -18,11 +18,11 @@ LEAST_OF_MANY = 1_000_000
 
 
 class AcceptedStates(NamedTuple):
-    """How many different failing states are of accepted failures, in total and by the words of
+    """How many different failing states are of accepted failures, in total and by the kinds of
     their causes."""
 
     total: int
-    words: Counts[str]
+    cause_kinds: Counts[str]
 
 
 NO_ACCEPTED = AcceptedStates(0, Counter())
@@ -30,126 +30,133 @@ NO_ACCEPTED = AcceptedStates(0, Counter())
 
 @dataclass
 class StateCounts:
-    """How many states there are, over all windows. results and words count different states, which
-    are tried once; all_failing counts states that are equal to them too. is_part says that all
-    crash states were asked for, but only some are tried; seconds is how long a state takes, 0 if
-    that isn't known; drawn counts the drawn sets, up to the first that wasn't tried, by their
-    results."""
+    """How many states there are, over all windows. results and cause_kinds count different states,
+    which are tried once; `states` and all_failing_states also count states that are equal to them.
+    is_part says that all crash states were asked for, but only some are tried. seconds_per_state is
+    0 if it isn't known. drawn_results counts the drawn sets, up to the first that wasn't tried, by
+    their results."""
 
     windows: int = 0
     operations: int = 0
     states: int = 0
-    different: int = 0
-    wanted: int = 0
-    tried: int = 0
-    all_failing: int = 0
-    every: List[Optional[AllStates]] = field(default_factory=list)
+    different_states: int = 0
+    wanted_states: int = 0
+    tried_states: int = 0
+    all_failing_states: int = 0
+    all_states: List[Optional[AllStates]] = field(default_factory=list)
     profile: str = ''
     is_part: bool = False
-    seconds: float = 0.0
-    drawn: Counts[str] = field(default_factory=Counter)
+    seconds_per_state: float = 0.0
+    drawn_results: Counts[str] = field(default_factory=Counter)
     results: Counts[str] = field(default_factory=Counter)
-    words: Counts[str] = field(default_factory=Counter)
+    cause_kinds: Counts[str] = field(default_factory=Counter)
 
     def add(self, findings: Findings) -> None:
-        """Adds the states of a window, in the order of windows. Of those that the window before has
-        too only drawn ones count."""
+        """Adds the states of a window; to be called once for each, in the order of windows. Of the
+        states that the window before has too only drawn ones count."""
         results, shard = findings.results, findings.head.shard
         outcomes = [
             results.outcomes[number]
-            for number in results.trials.values()
+            for number in results.own_numbers.values()
             if number in results.outcomes
         ]
         self.windows += 1
-        self.every.append(findings.plan.all_states)
+        self.all_states.append(findings.plan.all_states)
         self.profile = findings.plan.profiles.wanted
         self.operations = findings.plan.first_place + len(findings.plan.operations)
-        self.states += len(results.own)
-        self.different += len(results.trials)
-        self.wanted += sum(map(shard.has_place, range(len(results.wanted))))
+        self.states += len(results.own_states)
+        self.different_states += len(results.own_numbers)
+        self.wanted_states += sum(map(shard.has_place, range(len(results.wanted_numbers))))
         self.is_part = self.is_part or results.is_part
-        self.seconds = results.seconds or self.seconds
+        self.seconds_per_state = results.seconds_per_state or self.seconds_per_state
         drawn = results.plan.all_states.drawn if results.plan.all_states else ()
-        tried = takewhile(bool, map(findings.by_state.get, drawn))
-        self.drawn.update(one.result for one in tried if one is not None)
-        self.tried += len(outcomes)
-        self.all_failing += sum(one.result == BAD for one in findings.own_outcomes())
-        self.results.update(one.result for one in outcomes)
-        self.words.update(one.word for one in outcomes if one.result == BAD)
+        tried = takewhile(bool, map(findings.outcomes_by_state.get, drawn))
+        self.drawn_results.update(outcome.result for outcome in tried if outcome is not None)
+        self.tried_states += len(outcomes)
+        self.all_failing_states += sum(outcome.result == BAD for outcome in findings.own_outcomes())
+        self.results.update(outcome.result for outcome in outcomes)
+        self.cause_kinds.update(outcome.cause_kind for outcome in outcomes if outcome.result == BAD)
 
     @property
-    def good(self) -> int:
+    def good_count(self) -> int:
         """How many different states are good."""
         return self.results[GOOD]
 
     @property
-    def failing(self) -> int:
+    def failing_count(self) -> int:
         """How many different states are bad."""
         return self.results[BAD]
 
     @property
-    def left(self) -> int:
-        """How many different states of this shard should have been tried, and weren't: in the
-        windows so far, and of those that were chosen."""
-        return self.wanted - self.tried
+    def untried_count(self) -> int:
+        """How many different states that were chosen, of this shard and in the windows so far, were
+        not tried."""
+        return self.wanted_states - self.tried_states
 
     @property
     def has_every(self) -> bool:
-        """Whether all crash states of each window are listed."""
-        return bool(self.every) and all(one is not None and one.are_listed for one in self.every)
+        """Whether all crash states of each window are listed, tried or not; False without
+        windows."""
+        are_listed = [one is not None and one.are_listed for one in self.all_states]
+        return bool(are_listed) and all(are_listed)
 
     @property
-    def are_read(self) -> bool:
+    def is_by_second_reading(self) -> bool:
         """Whether the second reading, not the program, found which crash states there are."""
-        return any(one is not None and one.are_read for one in self.every)
+        return any(one is not None and one.are_read for one in self.all_states)
 
     @property
-    def sets(self) -> Optional[int]:
-        """How many sets the rules allow. None if they are too many to count, weren't asked for, or
-        the session is in several windows."""
-        only = self.every[0] if len(self.every) == 1 else None
-        return only.sets if only is not None else None
+    def set_count(self) -> Optional[int]:
+        """How many sets the rules allow. None if they are too many to count or weren't asked for,
+        for a session in several windows, and if nothing was tried."""
+        if len(self.all_states) != 1 or self.all_states[0] is None:
+            return None
+        return self.all_states[0].sets
 
     @property
     def tried_text(self) -> str:
-        """How many of the crash states were tried, or how many states of some families, as a
-        sentence."""
+        """A sentence on how many of the crash states were tried, or how many states of some
+        families."""
+        tried = f'{self.tried_states:,}'
         if self.is_part or self.has_every:
-            return f'{self.tried:,} of {self.total} crash states were tried.'
-        return f'{self.tried:,} different states of some families were tried, not all crash states.'
+            return f'{tried} of {self.total_text} crash states were tried.'
+        return f'{tried} different states of some families were tried, not all crash states.'
 
     @property
-    def total(self) -> str:
-        """How many crash states there are, as text. If they aren't all listed: more than the most
-        that are tried, if the session is in windows; else how many sets, or more than
-        LEAST_OF_MANY."""
+    def total_text(self) -> str:
+        """How many crash states there are, as text; they must have been asked for. If not all are
+        listed, it is `more than` the most that are tried for a session in windows; else the number
+        of sets, or `more than` LEAST_OF_MANY."""
         if self.has_every:
-            return f'{self.different:,}'
-        if len(self.every) > 1:
-            return f'more than {max(one.most for one in self.every if one is not None):,}'
-        return f'{self.sets:,}' if self.sets is not None else f'more than {LEAST_OF_MANY:,}'
+            return f'{self.different_states:,}'
+        if len(self.all_states) > 1:
+            return f'more than {max(plan.most for plan in self.all_states if plan is not None):,}'
+        return f'more than {LEAST_OF_MANY:,}' if self.set_count is None else f'{self.set_count:,}'
 
     def has_tried_all(self, head: Head) -> bool:
         """Whether the whole check has tried all states that it chose. False for a shard, even if
-        none of its own states is left, and if the session goes on after the last window."""
-        return head.shard.parts == 1 and not self.left and not head.has_rest
+        all its own states were tried, and if the session goes on after the last window."""
+        return head.shard.parts == 1 and not self.untried_count and not head.has_rest
 
 
 def counts_by_profile(group: Group) -> Dict[str, int]:
     """For each profile how many of a group's different states a crash may leave by its rules. Empty
     if the profiles aren't known, or if the window before tried all of these states: the sets of
     that window may leave them too, under other profiles."""
-    return {name: len(states) for name, states in group.under.items()} if group.tried else {}
+    if not group.tried_states:
+        return {}
+    return {name: len(states) for name, states in group.states_by_profile.items()}
 
 
-def states_of_accepted(groups: List[Group]) -> AcceptedStates:
-    """The states of accepted groups that no group has that isn't accepted. A state of several
-    accepted groups counts once, for the first of them."""
+def count_accepted_states(groups: List[Group]) -> AcceptedStates:
+    """Counts the different states of accepted groups, without those of groups that aren't accepted.
+    A state of several accepted groups counts once, for the first of them; states that the window
+    before tried don't count."""
     none: FrozenSet[Tuple[int, ...]] = frozenset()
-    seen = none.union(*(group.tried for group in groups if group.accepted is None))
-    found: Counts[str] = Counter()
+    counted = none.union(*(group.tried_states for group in groups if group.accepted_entry is None))
+    cause_kinds: Counts[str] = Counter()
     for group in groups:
-        if group.accepted is not None:
-            found[group.outcome.word] += len(group.tried - seen)
-            seen |= group.tried
-    return AcceptedStates(sum(found.values()), found)
+        if group.accepted_entry is not None:
+            cause_kinds[group.outcome.cause_kind] += len(group.tried_states - counted)
+            counted |= group.tried_states
+    return AcceptedStates(sum(cause_kinds.values()), cause_kinds)

@@ -11,7 +11,7 @@ from crashfs_tools.checker.findings.second_crashes import Recovery
 from crashfs_tools.checker.running.results import Results
 
 from .counts import counts_by_profile
-from .json_text import COMPACT, as_json, unpacked
+from .json_text import COMPACT, as_json, unpack_text
 from .report import CheckReport
 from .text import ReportText
 
@@ -21,70 +21,74 @@ KILLED = 'a kill'
 
 def json_pieces(report: CheckReport) -> Iterator[str]:
     """The text of the file of --json, in pieces: the results of each window, the entries with their
-    texts, and what else was found. The report must have been made with has_json."""
+    texts, and what else was found. A report that was made without has_json has kept no window, so
+    its text has none."""
     yield as_json(report.head.fields(), **COMPACT)[:-1] + ',\n"windows":[\n'
     for place, window in enumerate(report.packed_windows):
-        yield (',\n' if place else '') + unpacked(window)
+        yield (',\n' if place else '') + unpack_text(window)
     groups = [group_fields(report, group) for group in report.groups()]
     yield '],\n"groups":' + as_json(groups, indent=1)
-    recoveries = [recovery_fields(one) for one in report.recoveries]
+    recoveries = [recovery_fields(recovery) for recovery in report.recoveries]
     yield ',\n"recoveries":' + as_json(recoveries, indent=1)
     if report.sightings is not None:
         yield ',\n"disks":' + json.dumps(report.sightings.fields(), indent=1, ensure_ascii=False)
     if report.not_done:
         yield ',\n"not_done":' + as_json(report.not_done)
-    missing = [entry.fields for entry in report.accepted_not_found()]
+    missing = [entry.fields for entry in report.missing_accepted_failures()]
     yield ',\n"accepted_missing":' + as_json(missing, indent=1)
     yield '}\n'
 
 
-def partial_pieces(report: CheckReport, results: Results) -> Iterator[str]:
+def partial_pieces(report: CheckReport, results: Results, has_rest: bool) -> Iterator[str]:
     """The text of the file of --json while the check still runs, in pieces: the results of earlier
-    windows and of the one that is tried, without entries. It reads as the report of a check that
-    was killed."""
-    yield as_json(replace(report.head, stopped=KILLED).fields())[:-1] + ',\n"windows":[\n'
+    windows and of the one that is tried, without entries. has_rest says whether the session goes on
+    after that window. The text is that of a check that was killed. The report isn't changed."""
+    head = replace(report.head, stopped=KILLED, has_rest=has_rest)
+    yield as_json(head.fields())[:-1] + ',\n"windows":[\n'
     for window in report.packed_windows:
-        yield unpacked(window) + ',\n'
+        yield unpack_text(window) + ',\n'
     yield as_json(results.fields()) + '],\n"groups":[],\n"recoveries":[]}\n'
 
 
 def recovery_fields(recovery: Recovery) -> Dict[str, Any]:
-    """What the JSON has of a recovery: of one with a fault, no groups."""
+    """What the JSON has of a recovery. Its `groups` are empty if it has a fault; the `text` of each
+    is only the advice."""
     groups = [
         {
             'cause': group.cause,
             'states': [state.number for state in group.states],
             'example': group.example.number,
-            'crash': recovery.places[group.example.number],
+            'crash': recovery.crash_places[group.example.number],
             'text': group.advice.lines(),
         }
         for group in recovery.groups
     ]
     return {
         'state': recovery.state,
-        'states': recovery.states,
+        'states': recovery.tried_count,
         'fault': recovery.fault,
         'groups': groups,
     }
 
 
 def group_fields(report: CheckReport, group: Group) -> Dict[str, Any]:
-    """What the JSON has of an entry; `good` and `differences` only if its files were compared."""
+    """What the JSON has of an entry. `good` and `differences` are only there if its files were
+    compared. `lost` has the numbers of the lines that the example lacks."""
     fields = {
         'cause': group.cause,
         'states': [state.number for state in group.states],
         'different': group.count,
         'under': counts_by_profile(group),
-        'explained': len(group.explained),
+        'explained': len(group.explained_states),
         'covered': group.is_covered,
         'example': group.example.number,
-        'lines': group.places,
+        'lines': group.line_pairs,
         'lost': group.lost_lines,
         'text': ReportText(report).details(group),
         'syncs': group.advice.syncs,
-        'accepted': group.accepted and group.accepted.fields,
+        'accepted': group.accepted_entry and group.accepted_entry.fields,
         'accept': group.as_accepted.fields,
     }
     if group.difference is not None:
-        fields.update(good=group.difference.good, differences=group.difference.lines)
+        fields.update(good=group.difference.good_state, differences=group.difference.lines)
     return fields

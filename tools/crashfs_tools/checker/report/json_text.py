@@ -10,15 +10,16 @@ COMPACT = {'separators': (',', ':')}
 SURROGATE = re.compile('[\ud800-\udfff]')
 
 
-def packed(text: str) -> bytes:
-    """A text, compressed, for unpacked(). It may have surrogates of bytes that aren't UTF-8."""
+def pack_text(text: str) -> bytes:
+    """Compresses a text, which unpack_text() gives back. It may have surrogates of bytes that
+    aren't UTF-8."""
     import zlib
 
     return zlib.compress(text.encode('utf-8', 'surrogateescape'))
 
 
-def unpacked(packed_text: bytes) -> str:
-    """The text that packed() was given."""
+def unpack_text(packed_text: bytes) -> str:
+    """The text that pack_text() was given."""
     import zlib
 
     return zlib.decompress(packed_text).decode('utf-8', 'surrogateescape')
@@ -26,7 +27,8 @@ def unpacked(packed_text: bytes) -> str:
 
 def as_json(fields: Any, **layout: Any) -> str:
     """Fields as JSON that can be written as UTF-8: bytes in their texts that aren't UTF-8 are
-    escapes of surrogates. layout has further arguments of json.dumps()."""
+    escapes of surrogates. layout has further arguments of json.dumps(), which raises ValueError or
+    TypeError for what isn't JSON."""
     return SURROGATE.sub(
         lambda match: f'\\u{ord(match[0]):04x}',
         json.dumps(fields, ensure_ascii=False, **layout),

@@ -9,14 +9,14 @@ from typing import Iterator, List
 
 from crashfs_tools.checker.findings.groups import Group
 from crashfs_tools.checker.findings.second_crashes import SecondCrash
-from crashfs_tools.common.printable import printable
+from crashfs_tools.common.printable import escape_unprintable
 from crashfs_tools.common.trace_lines import SYNCS, TraceLine
 from crashfs_tools.common.command import version_text
 
 from .page_parts import SCRIPT, STYLE
 from .json_text import COMPACT, as_json
 from .report import CheckReport
-from .text import ReportText, accepted_text
+from .text import ReportText
 
 # Of a long session, so many lines are shown before and after each one that is named.
 NEAR = 20
@@ -24,24 +24,24 @@ NEAR = 20
 DRAWN = 8
 
 
-def page(report: CheckReport) -> Iterator[str]:
-    """The text of the file of --html, in pieces. It draws the states of the first crash only, and
-    has nothing of what was cut off, or of all advised syncs at once. Of a session in many windows
-    it draws DRAWN."""
+def page_pieces(report: CheckReport) -> Iterator[str]:
+    """The text of the file of --html, in pieces. It draws the states of the first crash, in at most
+    DRAWN windows. What windows cut off, all advised syncs at once, drawn sets and hits of the cache
+    are only in the other reports."""
     title = shown_text(report.head.trace)
-    text = ReportText(report)
+    report_text = ReportText(report)
     yield (
         f'<!DOCTYPE html>\n<html lang="en"><head><meta charset="utf-8">'
         '<meta name="viewport" content="width=device-width">\n'
         f'<title>{title}</title>\n<style>{STYLE}</style></head>\n<body>\n<h1>{title}</h1>\n'
     )
-    for line in [*text.first_lines(), *text.recovery_counts()]:
+    for line in [*report_text.first_lines(), *report_text.recovery_counts()]:
         yield f'<p class="summary">{shown_text(line)}</p>\n'
     yield about_line(report)
-    groups = sorted(report.groups(), key=lambda group: group.accepted is not None)
+    groups = sorted(report.groups(), key=lambda group: group.accepted_entry is not None)
     for group in groups:
         yield from entry_lines(report, group)
-    for line in text.not_found_lines():
+    for line in report_text.missing_accepted_lines():
         yield f'<p>{shown_text(line.strip())}</p>\n'
     yield from recovery_section(report)
     yield from disk_section(report)
@@ -61,14 +61,14 @@ def page(report: CheckReport) -> Iterator[str]:
 
 
 def shown_text(text: str) -> str:
-    """A text as HTML shows it: escaped, and with visible escapes for characters that would control
-    how the rest is shown."""
-    return html.escape(printable(text, '\n\t'))
+    """A text as HTML shows it: escaped, and with visible escapes for control characters other than
+    newlines and tabs."""
+    return html.escape(escape_unprintable(text, '\n\t'))
 
 
 def about_line(report: CheckReport) -> str:
-    """The line with the command, the version of the tools, what computed the states, and the time
-    now, as HTML."""
+    """A line of HTML with the command, the version of the tools, what computed the states, and the
+    present time."""
     states = 'states by the Python implementation' if report.head.unproved else 'states by crashfs'
     parts = [
         f'COMMAND: {shlex.join(report.head.command)}',
@@ -80,15 +80,16 @@ def about_line(report: CheckReport) -> str:
 
 
 def entry_lines(report: CheckReport, group: Group) -> Iterator[str]:
-    """An entry as HTML: its cause, what the report says of it, its two lines of the trace, how
-    files differ, and the end of what COMMAND printed."""
+    """An entry as HTML: its cause, its details, its two lines of the trace, how files differ, and
+    the end of what COMMAND printed in the example. What isn't known is left out. Of a line that the
+    report doesn't have only the number is shown."""
     states = ReportText.states_text(group)
-    kind = '' if group.accepted is None else ' class="accepted"'
+    kind = '' if group.accepted_entry is None else ' class="accepted"'
     yield f'<section{kind}><h2>{shown_text(group.cause)}</h2><p>{shown_text(states)}</p>\n<ul>\n'
     for line in ReportText(report).details(group):
         yield f'<li>{shown_text(line)}</li>\n'
     yield '</ul>\n<table class="session">\n'
-    for number in sorted({line.number for line in (group.lost, group.kept) if line}):
+    for number in sorted({line.number for line in (group.lost_line, group.kept_line) if line}):
         yield line_row(report.head.lines.get(number) or TraceLine(number, ''), 'pair')
     yield '</table>\n'
     yield from difference_lines(group)
@@ -98,28 +99,28 @@ def entry_lines(report: CheckReport, group: Group) -> Iterator[str]:
 
 
 def recovery_section(report: CheckReport) -> Iterator[str]:
-    """A section with the entries of second crashes, and the recoveries in which none was tried;
-    nothing if there are neither."""
-    text, entries = ReportText(report), report.recovery_groups()
-    not_tried = text.not_tried_lines()
+    """A section of HTML with the entries of second crashes, and the recoveries in which none was
+    tried; no section if there are neither."""
+    report_text, entries = ReportText(report), report.recovery_groups()
+    not_tried = report_text.not_tried_lines()
     if not entries and not not_tried:
         return
     yield '<section><h2>A crash during the recovery</h2>\n'
-    for group, second in entries:
-        yield from second_crash_lines(text, group, second)
+    for group, second_crash in entries:
+        yield from second_crash_lines(report_text, group, second_crash)
     for line in not_tried:
         yield f'<p>{shown_text(line.strip())}</p>\n'
     yield '</section>\n'
 
 
-def second_crash_lines(text: ReportText, group: Group, second: SecondCrash) -> Iterator[str]:
-    """An entry of second crashes as HTML: its cause, why it is accepted if it is, its two crashes,
-    the advice, and the end of what COMMAND printed."""
-    states = text.states_text(group, f'{second.state}/')
+def second_crash_lines(
+    report_text: ReportText, group: Group, second_crash: SecondCrash
+) -> Iterator[str]:
+    """An entry of second crashes as HTML: its cause, the lines of second_crash_details(), and the
+    end of what COMMAND printed in the example, if it printed anything."""
+    states = report_text.states_text(group, f'{second_crash.state}/')
     yield f'<h3>{shown_text(group.cause)}</h3>\n<p>{shown_text(states)}</p>\n<ul>\n'
-    if group.accepted is not None:
-        yield f'<li>accepted {shown_text(accepted_text(group.accepted))}</li>\n'
-    for line in text.second_crash_details(group, second):
+    for line in report_text.second_crash_details(group, second_crash):
         yield f'<li>{shown_text(line)}</li>\n'
     yield '</ul>\n'
     if group.outcome.output:
@@ -127,18 +128,18 @@ def second_crash_lines(text: ReportText, group: Group, second: SecondCrash) -> I
 
 
 def disk_section(report: CheckReport) -> Iterator[str]:
-    """A section with what was seen on real disks, and the failures there that no tried state has;
-    nothing without --disks."""
+    """A section of HTML with what was seen on real disks, and the failures there that no tried
+    state has; no section without --disks."""
     if report.sightings is None:
         return
     yield '<section><h2>On real disks</h2>\n<ul>\n'
     for line in report.sightings.lines():
         yield f'<li>{shown_text(line)}</li>\n'
     yield '</ul>\n'
-    for one in report.disk_failures():
-        yield f'<h3>{shown_text(one.outcome.cause)}</h3>\n'
-        yield f'<p>{shown_text(one.explanation.where)}</p>\n<ul>\n'
-        for line in one.lines():
+    for failure in report.disk_failures():
+        yield f'<h3>{shown_text(failure.outcome.cause)}</h3>\n'
+        yield f'<p>{shown_text(failure.explanation.reason)}</p>\n<ul>\n'
+        for line in failure.lines():
             yield f'<li>{shown_text(line)}</li>\n'
         yield '</ul>\n'
     yield '</section>\n'
@@ -152,12 +153,12 @@ def difference_lines(group: Group) -> Iterator[str]:
         return
     if not difference.lines:
         yield (
-            f'<p>State {group.example.number} has the same files as state {difference.good}, '
+            f'<p>State {group.example.number} has the same files as state {difference.good_state}, '
             'which is good: other lines were acknowledged.</p>\n'
         )
         return
     yield (
-        f'<p>State {group.example.number} and state {difference.good}, which is good:</p>'
+        f'<p>State {group.example.number} and state {difference.good_state}, which is good:</p>'
         '\n<ul class="differences">\n'
     )
     for line in difference.lines:
@@ -166,17 +167,20 @@ def difference_lines(group: Group) -> Iterator[str]:
 
 
 def session_lines(report: CheckReport, groups: List[Group]) -> Iterator[str]:
-    """The rows of the session's table, in which the lines that `groups` name are marked. Of a
-    session in several windows only these lines and those near them have rows."""
-    named = {line.number for group in groups for line in (group.lost, group.kept) if line}
-    near = {number for one in named for number in range(one - NEAR, one + NEAR + 1)}
+    """The rows of the session's table, in which the lost and the kept line of each group are
+    marked. Of a session in several windows only these lines have rows, and those up to NEAR line
+    numbers away. No rows if the report has no lines."""
+    marked = {
+        line.number for group in groups for line in (group.lost_line, group.kept_line) if line
+    }
+    near = {near for number in marked for near in range(number - NEAR, number + NEAR + 1)}
     for number, line in report.head.lines.items():
         if report.counts.windows == 1 or number in near:
-            yield line_row(line, 'pair' if number in named else '')
+            yield line_row(line, 'pair' if number in marked else '')
 
 
 def line_row(line: TraceLine, mark: str) -> str:
-    """A row of a table for a line of the trace. mark is a class of the page's style for it, or
+    """A row of a table, as HTML, for a line of the trace. mark is a class of the page's style, or
     empty."""
     kind = 'sync' if line.word in SYNCS else line.word
     return (

@@ -6,21 +6,15 @@ import time
 from dataclasses import replace
 from typing import TYPE_CHECKING, List, Optional, Tuple
 
-from crashfs_tools.checker.findings.groups import (
-    Findings,
-    Group,
-    Totals,
-    Union,
-    merged_groups,
-    set_all_advice,
-)
+from crashfs_tools.checker.findings.advice import AllSyncs, FailingCounts
+from crashfs_tools.checker.findings.groups import Findings, Group, merged_groups, set_all_advice
 from crashfs_tools.checker.findings.accepted_failures import AcceptedFailure, AcceptedFailures
 from crashfs_tools.checker.running.results import Head
 from crashfs_tools.checker.running.runner import BAD, NO_ANSWER, Outcome
 from crashfs_tools.checker.states.plan import State
 
 from .counts import StateCounts
-from .json_text import COMPACT, as_json, packed
+from .json_text import COMPACT, as_json, pack_text
 
 if TYPE_CHECKING:
     from crashfs_tools.checker.findings.sightings import DiskFailure, Sightings
@@ -52,15 +46,15 @@ class CheckReport:
         self.accept_list = accept_list
         self.has_states = False
         # How many runs of COMMAND were those of earlier checks.
-        self.cached = 0
+        self.cache_hits = 0
         self.state_outcomes: List[StateRow] = []
         self.profiles: Tuple[str, ...] = ()
         self.has_json = has_json
         self.has_page = has_page
         self.counts = StateCounts()
-        self.began = time.monotonic()
+        self.begin = time.monotonic()
         self.groups_of_windows: List[List[Group]] = []
-        self.unions: List[Optional[Union]] = []
+        self.syncs_of_windows: List[Optional[AllSyncs]] = []
         self.packed_windows: List[bytes] = []
         self.drawings: List[Drawing] = []
         self.recoveries: List[Recovery] = []
@@ -69,119 +63,128 @@ class CheckReport:
         self.not_done: List[str] = []
 
     def add(self, findings: Findings) -> None:
-        """Adds the findings of a window, after those of the windows before it; its drawing too if
-        it is the first or has failures."""
+        """Adds the findings of a window; with has_page also its drawing, if it is the first one or
+        has failures. The report has the findings' own groups: what is changed in them later is in
+        the report too."""
         self.counts.add(findings)
         self.profiles = findings.plan.profiles.names
         if self.has_states:
-            self.state_outcomes += rows_of(findings)
+            self.state_outcomes += state_rows(findings)
         self.groups_of_windows.append(findings.groups)
-        self.unions.append(findings.union)
+        self.syncs_of_windows.append(findings.all_syncs)
         if self.has_json:
-            self.packed_windows.append(packed(as_json(findings.results.fields(), **COMPACT)))
+            self.packed_windows.append(pack_text(as_json(findings.results.fields(), **COMPACT)))
         if self.has_page and (findings.groups or not self.drawings):
             from .drawing import drawing_of
 
             self.drawings.append(drawing_of(findings))
 
-    def replace_last(self, findings: Findings) -> None:
-        """Replaces the groups and results of the last window that was added, after something was
-        added to its findings. The counts, the outcomes of states and the drawing stay."""
+    def replace_last_window(self, findings: Findings) -> None:
+        """Replaces the groups, the advised syncs and the results of the last window that was added,
+        after something was added to its findings. The counts, the outcomes of states and the
+        drawing stay. A window must have been added."""
         self.groups_of_windows[-1] = findings.groups
-        self.unions[-1] = findings.union
+        self.syncs_of_windows[-1] = findings.all_syncs
         if self.has_json:
-            self.packed_windows[-1] = packed(as_json(findings.results.fields(), **COMPACT))
+            self.packed_windows[-1] = pack_text(as_json(findings.results.fields(), **COMPACT))
 
     @property
     def seconds(self) -> float:
-        """How long the check has taken by now."""
-        return time.monotonic() - self.began
+        """How many seconds have passed since the report was made, at the beginning of the check."""
+        return time.monotonic() - self.begin
 
     def groups(self) -> List[Group]:
-        """Copies of the groups of all windows, the largest first; those with one key are one. Their
-        advice is made again, and accepted failures are marked."""
-        found = merged_groups(
+        """Copies of the groups of all windows, the largest first; groups with the same key are one.
+        Their advice is made again, and accepted failures are marked. Each call makes new copies,
+        which may be slow."""
+        merged = merged_groups(
             replace(group, states=list(group.states), advice=replace(group.advice))
-            for part in self.groups_of_windows
-            for group in part
+            for groups in self.groups_of_windows
+            for group in groups
         )
-        set_all_advice(found, self.head.lines)
-        for group in found:
-            self.mark(group)
-        return found
+        set_all_advice(merged, self.head.lines)
+        for group in merged:
+            self.mark_accepted(group)
+        return merged
 
-    def mark(self, group: Group) -> None:
-        """Sets on a group the accepted failure that it is, or, if its last day has passed, the
-        expired one. A group without an answer is never accepted."""
+    def mark_accepted(self, group: Group) -> None:
+        """Sets accepted_entry of a group that is an accepted failure, or expired_entry if its last
+        day has passed. A group whose example gave no answer is never accepted."""
         if self.accept_list is None or group.outcome.result != BAD:
             return
         entry = self.accept_list.entry_for(group.as_accepted)
         if entry is not None:
-            is_over = self.accept_list.is_over(entry)
-            group.accepted = None if is_over else entry
-            group.expired = entry if is_over else None
+            has_expired = self.accept_list.has_expired(entry)
+            group.accepted_entry = None if has_expired else entry
+            group.expired_entry = entry if has_expired else None
 
     def recovery_groups(self) -> List[Tuple[Group, SecondCrash]]:
-        """The groups of second crashes of all recoveries, as second_crash_entries() merges them,
-        with accepted failures marked."""
+        """Copies of the groups of all recoveries, as second_crash_entries() merges them, with
+        accepted failures marked. A recovery with a fault has none."""
         if not self.recoveries:
             return []
         from crashfs_tools.checker.findings.second_crashes import second_crash_entries
 
-        found = second_crash_entries([one for one in self.recoveries if not one.fault])
-        for group, _ in found:
-            self.mark(group)
-        return found
+        tried = [recovery for recovery in self.recoveries if not recovery.fault]
+        entries = second_crash_entries(tried)
+        for group, _ in entries:
+            self.mark_accepted(group)
+        return entries
 
-    def accepted_not_found(self) -> List[AcceptedFailure]:
-        """The accepted failures that no group is, also none of second crashes; empty if no --accept
-        is given. Expired ones that a group is count as found."""
+    def missing_accepted_failures(self) -> List[AcceptedFailure]:
+        """The accepted failures that no group is, nor any group of second crashes; empty without
+        --accept. A group counts also if the failure has expired, and if its example gave no answer.
+        What failed on disks only doesn't count."""
         if self.accept_list is None:
             return []
         groups = [*self.groups(), *(group for group, _ in self.recovery_groups())]
-        return self.accept_list.entries_not_among(group.as_accepted for group in groups)
+        return self.accept_list.entries_without(group.as_accepted for group in groups)
 
-    def union(self) -> Optional[Union]:
-        """The advised syncs of all windows that have failures, and their results added up. None if
-        no window has failures, or if the syncs of one weren't tried."""
-        failing = zip(self.groups_of_windows, self.unions)
-        unions = [union for groups, union in failing if groups]
-        whole = [union for union in unions if union is not None]
-        if not whole or len(whole) < len(unions):
+    def all_advised_syncs(self) -> Optional[AllSyncs]:
+        """The advised syncs of all windows that have failures, and their results added up: a state
+        that two windows have counts in both. None if no window has failures, or if the syncs of one
+        weren't tried."""
+        windows = zip(self.groups_of_windows, self.syncs_of_windows)
+        with_failures = [syncs for groups, syncs in windows if groups]
+        tried = [syncs for syncs in with_failures if syncs is not None]
+        if not tried or len(tried) < len(with_failures):
             return None
-        points = frozenset(point for union in whole for point in union.points)
-        totals = [union.totals for union in whole]
-        before, after = sum(one.before for one in totals), sum(one.after for one in totals)
-        return Union(points, Totals(before, after))
+        points = frozenset(point for syncs in tried for point in syncs.points)
+        counts = [syncs.failing_counts for syncs in tried]
+        before, after = sum(count.before for count in counts), sum(count.after for count in counts)
+        return AllSyncs(points, FailingCounts(before, after))
 
     def disk_failures(self) -> List[DiskFailure]:
         """The failures on real disks that no tried state has; none without --disks."""
-        return self.sightings.further if self.sightings is not None else []
+        return self.sightings.further_failures if self.sightings is not None else []
 
     @property
     def status(self) -> int:
-        """The exit status: NOT_ALL_TRIED if a state gave no answer, else SOME_FAIL if a group isn't
-        accepted, also one of second crashes, or something fails on disks only, else NOT_ALL_TRIED
-        if is_whole is False, else NONE_FAILS."""
+        """The exit status. NOT_ALL_TRIED if a state gave no answer; else SOME_FAIL if a group, also
+        of second crashes, isn't accepted, or something fails on disks only; else NOT_ALL_TRIED if
+        is_whole is False; else NONE_FAILS. No answer after a second crash, or on a disk, counts as
+        a failure."""
         if self.counts.results[NO_ANSWER]:
             return NOT_ALL_TRIED
         groups = [*self.groups(), *(group for group, _ in self.recovery_groups())]
-        if self.disk_failures() or any(group.accepted is None for group in groups):
+        if self.disk_failures() or any(group.accepted_entry is None for group in groups):
             return SOME_FAIL
         return NONE_FAILS if self.is_whole else NOT_ALL_TRIED
 
     @property
     def is_whole(self) -> bool:
-        """Whether all was tried that should have been, of a shard its own states: nothing stopped
-        the check, and no recovery had a fault."""
-        is_whole = not self.counts.left and not self.head.stopped
-        return is_whole and not any(one.fault for one in self.recoveries)
+        """Whether all was tried that was chosen, of a shard its own states: nothing stopped the
+        check, and no recovery had a fault. A state without an answer counts as tried, and options
+        in not_done don't count."""
+        is_whole = not self.counts.untried_count and not self.head.stopped
+        return is_whole and not any(recovery.fault for recovery in self.recoveries)
 
 
-def rows_of(findings: Findings) -> List[StateRow]:
-    """The states of a window that have an outcome, without those that the window before has too."""
+def state_rows(findings: Findings) -> List[StateRow]:
+    """The rows of the states of a window that have an outcome, their own or that of an equal state;
+    without the states that the window before has too."""
     return [
-        (state, findings.by_state[state.number], findings.plan.profile_names_of(state))
-        for state in findings.results.own
-        if state.number in findings.by_state
+        (state, findings.outcomes_by_state[state.number], findings.plan.profile_names_of(state))
+        for state in findings.results.own_states
+        if state.number in findings.outcomes_by_state
     ]

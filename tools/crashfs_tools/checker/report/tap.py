@@ -7,7 +7,7 @@ from typing import Iterator, List, NamedTuple, Sequence
 
 from crashfs_tools.checker.findings.groups import Group
 from crashfs_tools.checker.findings.second_crashes import SecondCrash
-from crashfs_tools.common.printable import printable
+from crashfs_tools.common.printable import escape_unprintable
 
 from .report import CheckReport
 from .text import ReportText, accepted_text
@@ -25,13 +25,13 @@ class TestPoint(NamedTuple):
     reason: str = ''
 
     def lines(self, number: int) -> Iterator[str]:
-        """The lines of the test in the file, where it has this number; those of its failure are
-        comments."""
+        """The lines of the test in the file, in which it has this number. The lines of its failure
+        are comments."""
         result = 'not ok' if self.failure else 'ok'
-        skipped = f' # SKIP {printable(self.reason)}' if self.reason else ''
-        yield f'{result} {number} - {description(self.name)}{skipped}\n'
+        skipped = f' # SKIP {escape_unprintable(self.reason)}' if self.reason else ''
+        yield f'{result} {number} - {escaped_name(self.name)}{skipped}\n'
         for line in self.failure:
-            yield f'# {printable(line)}\n'
+            yield f'# {escape_unprintable(line)}\n'
 
 
 def tap_lines(report: CheckReport) -> Iterator[str]:
@@ -40,10 +40,10 @@ def tap_lines(report: CheckReport) -> Iterator[str]:
     states. One of them fails exactly if the check's status isn't 0."""
     text = ReportText(report)
     points = [entry_point(text, group) for group in report.groups()]
-    points += [second_crash_point(text, *found) for found in report.recovery_groups()]
+    points += [second_crash_point(text, *entry) for entry in report.recovery_groups()]
     points += [
-        failed_point(f'{one.outcome.cause} ({one.explanation.where})', one.lines())
-        for one in report.disk_failures()
+        failed_point(f'{failure.outcome.cause} ({failure.explanation.reason})', failure.lines())
+        for failure in report.disk_failures()
     ]
     points.append(others_point(text))
     yield f'{VERSION}\n1..{len(points)}\n'
@@ -53,35 +53,37 @@ def tap_lines(report: CheckReport) -> Iterator[str]:
 
 def entry_point(text: ReportText, group: Group) -> TestPoint:
     """The test of an entry: skipped if the entry is accepted, else one that failed."""
-    if group.accepted is not None:
-        return TestPoint(group.cause, reason=accepted_text(group.accepted))
+    if group.accepted_entry is not None:
+        return TestPoint(group.cause, reason=accepted_text(group.accepted_entry))
     example = f'state {group.example.number} of {text.head.trace}'
     return failed_point(group.cause, [*text.details(group), example])
 
 
-def second_crash_point(text: ReportText, group: Group, second: SecondCrash) -> TestPoint:
+def second_crash_point(text: ReportText, group: Group, second_crash: SecondCrash) -> TestPoint:
     """The test of an entry of second crashes, whose example names both states; skipped if it is
-    accepted."""
-    if group.accepted is not None:
-        return TestPoint(group.cause, reason=accepted_text(group.accepted))
-    example = f'state {second.state}/{group.example.number} of {text.head.trace}'
-    return failed_point(group.cause, [*text.second_crash_details(group, second), example])
+    accepted, else one that failed."""
+    if group.accepted_entry is not None:
+        return TestPoint(group.cause, reason=accepted_text(group.accepted_entry))
+    example = f'state {second_crash.state}/{group.example.number} of {text.head.trace}'
+    return failed_point(group.cause, [*text.second_crash_details(group, second_crash), example])
 
 
 def others_point(text: ReportText) -> TestPoint:
-    """The test of all states that are in no entry; it fails if not all were tried that should have
-    been."""
-    name = f'all other states ({text.counts.good:,})'
+    """The test of all states that are in no entry. It fails if the report isn't whole, because a
+    state or a recovery wasn't tried. Its name counts the good states."""
+    name = f'all other states ({text.counts.good_count:,})'
     if text.report.is_whole:
         return TestPoint(name)
     return TestPoint(name, [text.summary(), *text.not_tried_lines()])
 
 
 def failed_point(cause: str, details: List[str]) -> TestPoint:
-    """A test that failed. Its name is the cause; its lines are the cause and the details."""
+    """A test that failed. Its name is the cause; its lines are the cause and the details, which are
+    indented."""
     return TestPoint(cause, [cause, *(f'  {line}' for line in details)])
 
 
-def description(name: str) -> str:
-    """A name as TAP has it: a `#` in it doesn't begin a directive, such as SKIP."""
-    return printable(name).replace('\\', '\\\\').replace('#', '\\#')
+def escaped_name(name: str) -> str:
+    """A test's name as TAP has it: printable, with a backslash before each backslash and each `#`,
+    so that no `#` begins a directive such as SKIP."""
+    return escape_unprintable(name).replace('\\', '\\\\').replace('#', '\\#')

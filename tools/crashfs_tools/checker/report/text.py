@@ -6,14 +6,14 @@ from typing import TYPE_CHECKING, Iterable, List, Optional
 
 from crashfs_tools.checker.findings.groups import Group
 from crashfs_tools.checker.findings.accepted_failures import AcceptedFailure
-from crashfs_tools.checker.findings.wording import fails, joined_by, number_of
-from crashfs_tools.common.printable import printable
+from crashfs_tools.checker.findings.wording import count_text, fail_verb, joined_by
+from crashfs_tools.common.printable import escape_unprintable
 from crashfs_tools.common.program import can_be_built
 from crashfs_tools.common.trace_lines import TraceLine
 
-from .counts import counts_by_profile, states_of_accepted
+from .counts import counts_by_profile, count_accepted_states
 from .report import CheckReport
-from .summary import Summary, rest_lines
+from .summary import Summary, partial_check_lines
 
 if TYPE_CHECKING:
     from crashfs_tools.checker.findings.second_crashes import SecondCrash
@@ -43,25 +43,25 @@ class ReportText:
         self.counts = report.counts
 
     def lines(self) -> List[str]:
-        """The whole report, each line without its end. No line but those of first_lines() is longer
-        than WIDTH: what is cut off is in the JSON."""
+        """The lines of the whole report, without their ends. Only those of first_lines() may be
+        longer than WIDTH: others are cut, and are whole in the JSON."""
         groups = self.report.groups()
-        accepted = [group for group in groups if group.accepted is not None]
-        # What the syncs of accepted entries remove has no others above it.
+        accepted = [group for group in groups if group.accepted_entry is not None]
+        # Entries that the syncs of accepted entries remove are shown as any others.
         covered = [group for group in groups if group.is_covered and not accepted]
         shown = [group for group in groups if group not in accepted and group not in covered]
         return self.first_lines() + [
-            cut(printable(line))
+            cut_text(escape_unprintable(line))
             for line in [
                 *self.entry_lines(shown),
-                *self.union_lines(shown, covered),
+                *self.all_syncs_lines(shown, covered),
                 *self.accepted_lines(accepted),
-                *self.not_found_lines(),
+                *self.missing_accepted_lines(),
                 *self.cut_off_lines(),
                 *self.recovery_lines(),
                 *self.disk_lines(),
-                *folded(self.report.not_done, '  '),
-                *folded(rest_lines(self.counts), '  '),
+                *folded_lines(self.report.not_done, '  '),
+                *folded_lines(partial_check_lines(self.counts), '  '),
                 *self.cache_lines(),
             ]
         ]
@@ -72,108 +72,115 @@ class ReportText:
         lines = [line for group in shown[:SHOWN_GROUPS] for line in self.group_lines(group)]
         others = shown[SHOWN_GROUPS:]
         if others:
-            states = number_of(sum(group.count for group in others), 'more state')
+            states = count_text(sum(group.count for group in others), 'more state')
             entries = f'{len(others):,} other {"entry" if len(others) == 1 else "entries"}'
             lines.append(f'  and {states} in {entries} (all are in the file of --json)')
         return lines
 
     def accepted_lines(self, accepted: List[Group]) -> List[str]:
-        """The first SHOWN_GROUPS accepted failures that were found, with their reasons, and how
-        many more there are; no line if there are none."""
+        """The lines of the first SHOWN_GROUPS accepted groups, with their reasons, and a line that
+        says how many more there are; no line if there are none."""
         lines: List[str] = []
         for group in accepted[:SHOWN_GROUPS]:
-            assert group.accepted is not None
-            cause = cut(printable(f'accepted: {group.cause}'), CAUSE_WIDTH)
+            assert group.accepted_entry is not None
+            cause = cut_text(escape_unprintable(f'accepted: {group.cause}'), CAUSE_WIDTH)
             lines.append(f'  {cause:<{CAUSE_WIDTH}} {self.states_text(group)}')
-            lines += folded([accepted_text(group.accepted)], '    ')
+            lines += folded_lines([accepted_text(group.accepted_entry)], '    ')
         more = len(accepted) - SHOWN_GROUPS
         return lines + ([f'  and {more:,} more that are accepted'] if more > 0 else [])
 
-    def not_found_lines(self) -> List[str]:
-        """The accepted failures of the file that no entry is. They are `gone` if all crash states
-        were tried, else `not seen`."""
+    def missing_accepted_lines(self) -> List[str]:
+        """The folded lines of the failures in the file of --accept that no entry is. They are
+        `gone` if all crash states of the whole check were tried, else `not seen`."""
         counts = self.counts
         is_all = counts.has_every and not counts.is_part and counts.has_tried_all(self.head)
         how = 'gone' if is_all else 'not seen'
-        not_found = self.report.accepted_not_found()
-        return folded((f'accepted, and {how}: {entry.name}' for entry in not_found), '  ')
+        missing = self.report.missing_accepted_failures()
+        return folded_lines((f'accepted, and {how}: {entry.name}' for entry in missing), '  ')
 
     def summary(self) -> str:
-        """The first line: what was checked, and the verdict."""
-        return Summary(self.head, self.counts, states_of_accepted(self.report.groups())).line
+        """The line that says what was checked, and the verdict."""
+        return Summary(self.head, self.counts, count_accepted_states(self.report.groups())).line
 
-    def union_lines(self, shown: List[Group], covered: List[Group]) -> List[str]:
-        """The result of all advised syncs at once, if several of the shown entries have some; then
-        the covered entries, whose states these syncs remove too. The sentences of a covered entry
-        are shown if no entry before it has its cause up to the first colon."""
-        union, lines = self.report.union(), []
+    def all_syncs_lines(self, shown: List[Group], covered: List[Group]) -> List[str]:
+        """The lines for all advised syncs at once, if several of the shown entries have some; then
+        those of the first SHOWN_GROUPS covered entries, whose states these syncs remove too, and
+        how many more there are. Of the covered entries with one kind of cause only the first has
+        its sentences, and only if no shown entry has that kind."""
+        syncs, lines = self.report.all_advised_syncs(), []
         advised = [group for group in shown if group.advice.syncs]
-        if union is not None and len(advised) > 1:
-            count = len(union.points)
-            all_syncs = 'both' if count == 2 else f'all {count:,}'
-            lines.append(f'  with {all_syncs} syncs {union.totals.text}')
+        if syncs is not None and len(advised) > 1:
+            count = len(syncs.points)
+            how_many = 'both' if count == 2 else f'all {count:,}'
+            lines.append(f'  with {how_many} syncs {syncs.failing_counts.text}')
         if covered:
             lines.append('  with these syncs these entries are gone too:')
-        words = {group.outcome.word for group in shown}
+        cause_kinds = {group.outcome.cause_kind for group in shown}
         for group in covered[:SHOWN_GROUPS]:
             states = self.states_text(group)
-            cause = cut(printable(group.cause), CAUSE_WIDTH - 2)
+            cause = cut_text(escape_unprintable(group.cause), CAUSE_WIDTH - 2)
             lines.append(f'    {cause:<{CAUSE_WIDTH - 2}} {states}')
-            if group.outcome.word not in words:
-                lines += folded(self.sentences(group), '      ')
-                words.add(group.outcome.word)
+            if group.outcome.cause_kind not in cause_kinds:
+                lines += folded_lines(self.trace_sentences(group), '      ')
+                cause_kinds.add(group.outcome.cause_kind)
         if len(covered) > SHOWN_GROUPS:
             lines.append(f'    and {len(covered) - SHOWN_GROUPS:,} more')
         return lines
 
     def first_lines(self) -> List[str]:
-        """The summary line. Before it, if the second reading took the program's place or found the
-        sets, a line says so. These lines may have any length."""
+        """The summary line and, before it, a line that says so if the second reading took the
+        program's place or found the sets. These lines may have any length."""
         how = HOW_TO_BUILD if can_be_built() else ''
         if self.head.refused_version:
             return [VERSION_UNPROVED.format(self.head.refused_version), self.summary()]
         if self.head.unproved:
             return [UNPROVED + how, self.summary()]
-        return [SETS_UNPROVED, self.summary()] if self.counts.are_read else [self.summary()]
+        return (
+            [SETS_UNPROVED, self.summary()]
+            if self.counts.is_by_second_reading
+            else [self.summary()]
+        )
 
     def cache_lines(self) -> List[str]:
         """A line that counts the outcomes from earlier checks; none if there is none."""
-        count = self.report.cached
-        return [f'  {number_of(count, "outcome")} from earlier checks (--cache)'] if count else []
+        count = self.report.cache_hits
+        return [f'  {count_text(count, "outcome")} from earlier checks (--cache)'] if count else []
 
     def cut_off_lines(self) -> List[str]:
-        """A line for what was still pending where its last window ended: its loss wasn't tried to
-        the session's end. No line if nothing was."""
+        """A line that names the first line of the trace whose loss wasn't tried to the session's
+        end, since a window ended before it was durable, and says how many more there are. No line
+        if there is none."""
         if not self.head.cut_off:
             return []
-        number, tried = self.head.cut_off[0]
+        number, tried_count = self.head.cut_off[0]
         more = len({line for line, _ in self.head.cut_off}) - 1
-        also = f', and so with {number_of(more, "more line")}' if more else ''
+        also = f', and so with {count_text(more, "more line")}' if more else ''
         return [
-            f'  the loss of {self.shown_line(number)} was tried for {tried:,} later '
+            f'  the loss of {self.line_text(number)} was tried for {tried_count:,} later '
             f'micro-operations only{also}'
         ]
 
     def recovery_lines(self) -> List[str]:
-        """What second crashes left, during the recovery from the first one; no line if no recovery
-        was chosen for that."""
+        """The lines on second crashes, during the recovery from the first one: the counts, all
+        entries, and the recoveries that weren't tried. No line if no recovery was chosen."""
         lines = [f'  {line}' for line in self.recovery_counts()]
-        for group, where in self.report.recovery_groups():
-            lines += self.group_lines(group, where)
+        for group, second_crash in self.report.recovery_groups():
+            lines += self.group_lines(group, second_crash)
         return lines + self.not_tried_lines()
 
     def recovery_counts(self) -> List[str]:
-        """A line that counts the states of second crashes and those that fail, and one if the
-        second reading computed some that crashfs should have; no line if no recovery was chosen."""
+        """A line that counts the states of second crashes, and those of them that fail or gave no
+        answer; then a line if the second reading computed some states, but not those of the first
+        crash. No line if no recovery was chosen."""
         if not self.report.recoveries:
             return []
-        tried = [one for one in self.report.recoveries if not one.fault]
-        failing = sum(one.failing for one in tried)
-        how_many = f'{failing:,} {fails(failing)}' if failing else 'none fails'
-        states = number_of(sum(one.states for one in tried), 'different state')
-        recoveries = number_of(len(tried), 'recovery', 'recoveries')
+        tried = [recovery for recovery in self.report.recoveries if not recovery.fault]
+        failing = sum(recovery.failing_count for recovery in tried)
+        how_many = f'{failing:,} {fail_verb(failing)}' if failing else 'none fails'
+        states = count_text(sum(recovery.tried_count for recovery in tried), 'different state')
+        recoveries = count_text(len(tried), 'recovery', 'recoveries')
         lines = [f'{recoveries}: {states} of a second crash, {how_many}']
-        unproved = sum(one.unproved for one in tried)
+        unproved = sum(recovery.unproved for recovery in tried)
         if unproved and not self.head.unproved:
             lines.append(
                 f'unproved: the Python implementation computed the states of {unproved} of these'
@@ -183,131 +190,134 @@ class ReportText:
     def not_tried_lines(self) -> List[str]:
         """A line for each recovery in which no second crash was tried, with the reason."""
         return [
-            f'  the recovery of state {one.state} was not tried: {one.fault}'
-            for one in self.report.recoveries
-            if one.fault
+            f'  the recovery of state {recovery.state} was not tried: {recovery.fault}'
+            for recovery in self.report.recoveries
+            if recovery.fault
         ]
 
     def disk_lines(self) -> List[str]:
-        """What was seen on real disks, and the failures there that no tried state has; no line
-        without --disks."""
+        """The lines on what was seen on real disks, and all failures there that no tried state has;
+        no line without --disks. They may be longer than WIDTH."""
         if self.report.sightings is None:
             return []
         lines = [f'  {line}' for line in self.report.sightings.lines()]
-        for one in self.report.disk_failures():
-            lines.append(
-                f'  {cut(one.outcome.cause, CAUSE_WIDTH):<{CAUSE_WIDTH}} {one.explanation.where}'
-            )
-            lines += [f'    {line}' for line in one.lines()]
+        for failure in self.report.disk_failures():
+            cause = cut_text(failure.outcome.cause, CAUSE_WIDTH)
+            lines.append(f'  {cause:<{CAUSE_WIDTH}} {failure.explanation.reason}')
+            lines += [f'    {line}' for line in failure.lines()]
         return lines
 
-    def group_lines(self, group: Group, second: Optional[SecondCrash] = None) -> List[str]:
-        """The lines of an entry: its cause with its states, and below it the details. second has
-        the first crash of an entry of second crashes."""
-        states = self.states_text(group, f'{second.state}/' if second else '')
-        cause = cut(printable(group.cause), max(CAUSE_WIDTH, WIDTH - len(states) - 3))
+    def group_lines(self, group: Group, second_crash: Optional[SecondCrash] = None) -> List[str]:
+        """The lines of an entry: its cause, which may be cut, with its states, and below it the
+        details, folded. second_crash is None unless the entry is one of second crashes."""
+        states = self.states_text(group, f'{second_crash.state}/' if second_crash else '')
+        cause = cut_text(escape_unprintable(group.cause), max(CAUSE_WIDTH, WIDTH - len(states) - 3))
         lines = [f'  {cause:<{CAUSE_WIDTH}} {states}']
-        if second is None:
-            return lines + folded(self.details(group), '    ')
-        return lines + folded(self.second_crash_details(group, second), '    ')
+        if second_crash is None:
+            return lines + folded_lines(self.details(group), '    ')
+        return lines + folded_lines(self.second_crash_details(group, second_crash), '    ')
 
     @staticmethod
-    def second_crash_details(group: Group, second: SecondCrash) -> List[str]:
-        """The lines below the cause of an entry of second crashes: where its example's two crashes
-        were, and the advice."""
-        crashes = f'state {second.state}, then a crash {second.place}'
-        return [crashes, *group.advice.lines()]
+    def second_crash_details(group: Group, second_crash: SecondCrash) -> List[str]:
+        """The lines below the cause of an entry of second crashes: why it is accepted, where its
+        example's two crashes were, and the advice."""
+        crashes = f'state {second_crash.state}, then a crash {second_crash.place}'
+        return [*acceptance_lines(group), crashes, *group.advice.lines()]
 
-    def sentences(self, group: Group) -> List[str]:
-        """Which lines of the trace an entry is about, without what to do about it."""
+    def trace_sentences(self, group: Group) -> List[str]:
+        """The sentences of an entry on lines of the trace, without what to do about them."""
         return [line.rstrip(':') for line in [*group.advice.text, *self.needed_lines(group)]]
 
     def needed_lines(self, group: Group) -> List[str]:
-        """A line with what must be lost too for the example to fail; no line if nothing must."""
-        lines = ', '.join(map(self.shown_line, group.needed_lines))
+        """A line that names what else must be lost for the example to fail; no line if there is
+        nothing."""
+        lines = ', '.join(map(self.line_text, group.needed_lines))
         return [f'it fails only if this is lost too: {lines}'] if lines else []
 
     @staticmethod
-    def states_text(group: Group, first: str = '') -> str:
-        """How many states an entry has, and the option that shows its example. `first` comes before
-        the example's number: the state of a first crash and a slash."""
-        example = f'--state {first}{group.example.number}'
+    def states_text(group: Group, prefix: str = '') -> str:
+        """How many different states an entry has, and the option that shows its example. The prefix
+        comes before the example's number: the state of a first crash and a slash, or nothing."""
+        example = f'--state {prefix}{group.example.number}'
         if group.count == 1:
             return f'1 state: {example}'
         return f'{group.count:,} states, e.g. {example}'
 
     def details(self, group: Group) -> List[str]:
-        """The lines below an entry's cause, not wrapped: its notes, why it is accepted, the
-        sentence and the advice with what was tried, what else the example lacks, and where its
-        states were seen."""
-        notes = {line.number: line.note for line in (group.lost, group.kept) if line and line.note}
+        """The lines below an entry's cause, not folded: the notes of its two lines, why it is
+        accepted, the advice, what isn't enough, what must be or is lost too, which profiles allow
+        its states, and where they were seen. Of syncs that aren't enough, and of what is lost too,
+        SHOWN_LINES are named."""
+        notes = {
+            line.number: line.note
+            for line in (group.lost_line, group.kept_line)
+            if line and line.note
+        }
         lines = [f'line {number}: {note}' for number, note in sorted(notes.items())]
-        if group.expired is not None:
-            lines.append(f'accepted {accepted_text(group.expired)} (this day has passed)')
-        if group.accepted is not None:
-            lines.append(f'accepted {accepted_text(group.accepted)}')
-        lines += group.advice.lines()
+        lines += [*acceptance_lines(group), *group.advice.lines()]
         for sync in group.other_syncs[:SHOWN_LINES] if group.advice.syncs else []:
             lines.append(f'line {sync.number} is {sync.text}, which is not enough')
         lines += self.needed_lines(group)
-        if 0 < len(group.explained) < group.count:
+        if 0 < len(group.explained_states) < group.count:
             lines.append(
-                f'{len(group.explained):,} of these states lack the first of the two lines and '
-                'have the second'
+                f'{len(group.explained_states):,} of these states lack the first of the two lines '
+                'and have the second'
             )
-        named = {group.lost.number if group.lost else 0, *group.needed_lines}
-        lost = [number for number in group.lost_lines if number not in named]
-        if lost and not group.is_span:
-            shown = ', '.join(map(self.shown_line, lost[:SHOWN_LINES]))
-            more = len(lost) - SHOWN_LINES
-            also = f' and {number_of(more, "more line")}' if more > 0 else ''
+        named = {group.lost_line.number if group.lost_line else 0, *group.needed_lines}
+        other_lost = [number for number in group.lost_lines if number not in named]
+        if other_lost and not group.has_no_loss:
+            shown = ', '.join(map(self.line_text, other_lost[:SHOWN_LINES]))
+            more = len(other_lost) - SHOWN_LINES
+            also = f' and {count_text(more, "more line")}' if more > 0 else ''
             lines.append(f'state {group.example.number} also lacks {shown}{also}')
         if counts_by_profile(group):
             lines.append(profiles_text(group, self.counts.has_every))
         if self.report.sightings is not None:
-            lines.append(self.report.sightings.sentence([state.number for state in group.states]))
+            lines.append(
+                self.report.sightings.text_of_states([state.number for state in group.states])
+            )
         return lines
 
-    def shown_line(self, number: int) -> str:
+    def line_text(self, number: int) -> str:
         """A line of the trace in words, by its number; with empty brackets if the report doesn't
-        know it."""
+        have it."""
         line = self.head.lines.get(number, TraceLine(number, ''))
         return f'line {number} ({line.text})'
 
 
 def profiles_text(group: Group, are_all: bool) -> str:
-    """The profiles that allow states of an entry, with how many if they don't allow all, and those
+    """The profiles that allow states of an entry, with how many if one allows only some, and those
     that allow none; counts_by_profile() must not be empty. are_all says whether all sets that leave
-    the states were looked at; if not, the text says that too."""
+    the states were looked at; if not, the text says so."""
     counts = counts_by_profile(group)
-    is_same = all(count in (0, group.count) for count in counts.values())
-    allow = [
-        shown_profile(name) if is_same else f'{shown_profile(name)}: {count:,}'
+    has_no_part = all(count in (0, group.count) for count in counts.values())
+    allowing = [
+        profile_text(name) if has_no_part else f'{profile_text(name)}: {count:,}'
         for name, count in counts.items()
         if count
     ]
-    others = [shown_profile(name) for name, count in counts.items() if not count]
+    others = [profile_text(name) for name, count in counts.items() if not count]
     if not others:
-        return f'under {joined_by("and", allow)}'
+        return f'under {joined_by("and", allowing)}'
     how = '' if are_all else 'by the sets that were tried '
-    return f'under {joined_by("and", allow)}; {how}not under {joined_by("or", others)}'
+    return f'under {joined_by("and", allowing)}; {how}not under {joined_by("or", others)}'
 
 
-def shown_profile(name: str) -> str:
+def profile_text(name: str) -> str:
     """A profile's name, with the file systems that were seen to keep to it."""
     return f'{name} ({SEEN[name]})' if name in SEEN else name
 
 
-def folded(lines: Iterable[str], indent: str) -> List[str]:
-    """Lines with an indent, printable, and wrapped at WIDTH; the further parts of a line have a
-    larger indent. A word that is longer than WIDTH isn't broken."""
+def folded_lines(lines: Iterable[str], indent: str) -> List[str]:
+    """Lines with an indent, printable and wrapped at WIDTH; the further parts of a line have a
+    larger indent. A word that is longer than WIDTH isn't broken. An empty line is left out."""
     from textwrap import wrap
 
     return [
         part
         for line in lines
         for part in wrap(
-            printable(line),
+            escape_unprintable(line),
             WIDTH,
             initial_indent=indent,
             subsequent_indent=f'{indent}  ',
@@ -317,11 +327,22 @@ def folded(lines: Iterable[str], indent: str) -> List[str]:
     ]
 
 
+def acceptance_lines(group: Group) -> List[str]:
+    """A line that says why an entry is accepted, or was until a day that has passed; no line for
+    other entries."""
+    if group.expired_entry is not None:
+        return [f'accepted {accepted_text(group.expired_entry)} (this day has passed)']
+    return (
+        [] if group.accepted_entry is None else [f'accepted {accepted_text(group.accepted_entry)}']
+    )
+
+
 def accepted_text(entry: AcceptedFailure) -> str:
-    """Why a failure is accepted, after the last day on which it is, if it has one."""
+    """The reason why a failure is accepted, after the last day on which it is, if it has one."""
     return f'until {entry.until}: {entry.why}' if entry.until else entry.why
 
 
-def cut(text: str, width: int = WIDTH) -> str:
-    """A text of at most `width` letters: a longer one ends in two points."""
+def cut_text(text: str, width: int = WIDTH) -> str:
+    """Cuts a text to at most `width` characters, which must be at least 2: a longer text ends in
+    two points."""
     return text if len(text) <= width else text[: width - 2] + '..'

@@ -8,21 +8,28 @@ import os
 import re
 import shutil
 import tempfile
+from functools import partial
 from typing import Callable, Dict, Iterable, Iterator, List, Set, Tuple
 
 from crashfs_tools.common.command import Refused, version_text
 
-from .cache import read_checked, write_checked
+from .cache import read_values, write_values
 from .runner import NO_ANSWER, Outcome
 
-# A call that opens a file or starts a program, with the path.
-OPENED = re.compile(r'(?:open|openat|openat2|execve|execveat)\((?:[^"]*, )?"([^"]+)"')
+# A call that opens a file or starts a program, as strace shows it: the path, and before it the
+# directory that a relative path begins in.
+DIRECTORY = r'(?:(?:AT_FDCWD|\d+)(?:<((?:[^<>\\]|\\.)*)>)?, )?'
+OPENED = re.compile(rf'(?:open|openat|openat2|execve|execveat)\({DIRECTORY}"((?:[^"\\]|\\.)+)"')
 CALLS = 'trace=open,openat,openat2,execve,execveat'
 # What strace prints when a process, with this number, has ended by itself.
 EXITED = re.compile(r'(\d+) +\+\+\+ exited with \d+ \+\+\+')
 # What the kernel shows in these directories differs from run to run.
 LEFT_OUT = ('/proc/', '/sys/')
 
+# So many interpreters follow one another at most, and so much of a first line counts.
+MOST_INTERPRETERS, LINE_BYTES = 4, 256
+# A file is read so much at a time: COMMAND may open large ones.
+PIECE_BYTES = 1 << 20
 # The compiled form of a module of Python, by whose source it is known.
 COMPILED = re.compile(r'(.*)/__pycache__/([^/.]+)\.[^/]*pyc$')
 
@@ -31,69 +38,100 @@ COMPILED = re.compile(r'(.*)/__pycache__/([^/.]+)\.[^/]*pyc$')
 RunInState = Callable[[List[str], int], Tuple[Outcome, str]]
 
 
-def command_name(folder: str, words: List[str], states: List[int], run: RunInState) -> str:
-    """A name for a command: equal for commands with equal words that open equal files, under the
-    same version of these tools. The list of files is kept in a cache's folder: runs under strace in
-    some states, by their numbers, make it, again if one of the files has changed. Refused as
-    opened_files() is; OSError if the list can't be written."""
-    path = os.path.join(folder, f'command-{digest_of_text(json.dumps(words))}.json')
-    known: Dict[str, str] = read_checked(path)
-    if not known or any(digest_of_file(name) != digest for name, digest in known.items()):
-        none: Set[str] = set()
-        opened = none.union(*(opened_files(words, state, run) for state in states))
-        known = {name: digest_of_file(name) for name in sorted(opened)}
-        write_checked(path, known)
-    return digest_of_text(json.dumps([version_text(''), words, sorted(known.items())]))
+def command_name(folder: str, words: List[str], states: List[int], run_in_state: RunInState) -> str:
+    """A name for a command: equal for equal words that open equal files, under the same version of
+    these tools, in whatever environment. A file of the folder has the list of the opened files. If
+    there is none, or one of the files has changed, the command runs under strace in some states,
+    given by their numbers. Refused as opened_files(); OSError if the list can't be written."""
+    list_path = os.path.join(folder, f'command-{digest_of_text(json.dumps(words))}.json')
+    digests: Dict[str, str] = read_values(list_path)
+    if not digests or any(digest_of_file(name) != digest for name, digest in digests.items()):
+        opened = {name for state in states for name in opened_files(words, state, run_in_state)}
+        digests = {name: digest_of_file(name) for name in sorted(opened)}
+        write_values(list_path, digests)
+    return digest_of_text(json.dumps([version_text(''), words, sorted(digests.items())]))
 
 
-def opened_files(words: List[str], state: int, run: RunInState) -> Set[str]:
-    """The paths of the files that a command opens in a state, or finds missing, without those of
-    the state itself, of /proc and of /sys. Refused if there is no strace, if it shows no file, or
-    if the command was ended: what it would have opened later isn't known."""
+def opened_files(words: List[str], state: int, run_in_state: RunInState) -> Set[str]:
+    """The paths of the files that a command opens in a state, or looks for and doesn't find. Files
+    of the state itself, of /proc and of /sys, directories and devices are left out. Refused if
+    strace isn't installed or shows no file, or if the command was killed: what it would have opened
+    later isn't known. What run_in_state() raises passes."""
     strace = shutil.which('strace')
     if strace is None:
         raise Refused('--cache needs strace, which shows the files that COMMAND opens')
     with tempfile.NamedTemporaryFile('r', encoding='utf-8', errors='surrogateescape') as log:
-        line = [strace, '-f', '-q', '-e', CALLS, '-o', log.name, '--', *words]
-        outcome, directory = run(line, state)
+        line = [strace, '-f', '-q', '-y', '-e', CALLS, '-o', log.name, '--', *words]
+        outcome, directory = run_in_state(line, state)
         lines = list(log)
     if outcome.result == NO_ANSWER and not has_exited(lines):
         raise Refused(f'--cache: COMMAND gave no answer under strace: {outcome.cause}')
-    found = set(opened_paths(lines))
-    if not found:
+    paths = set(opened_paths(lines))
+    if not paths:
         raise Refused('--cache: strace shows no file that COMMAND opens; may it trace here?')
-    left_out = (f'{os.path.realpath(directory)}/', *LEFT_OUT)
-    files = {path for path in found if os.path.isfile(path) or not os.path.lexists(path)}
-    return {path for path in files if not path.startswith(left_out)}
+    excluded = (f'{os.path.realpath(directory)}/', *LEFT_OUT)
+    files = {path for path in paths if os.path.isfile(path) or not os.path.exists(path)}
+    files |= {program for path in files for program in interpreters(path)}
+    return {path for path in files if not os.path.realpath(path).startswith(excluded)}
 
 
 def has_exited(lines: List[str]) -> bool:
-    """Whether the first process in a log of strace ended by itself. strace itself runs on while
-    there are others, which the first one left."""
-    ended = {match[1] for match in map(EXITED.match, lines) if match}
-    return bool(lines) and lines[0].split(' ', 1)[0] in ended
+    """Whether the first process in a log of strace exited by itself; False for an empty log. strace
+    continues as long as there are processes that the first one left."""
+    exited = {match[1] for match in map(EXITED.match, lines) if match}
+    return bool(lines) and lines[0].split(' ', 1)[0] in exited
 
 
 def opened_paths(lines: Iterable[str]) -> Iterator[str]:
-    """The real paths of the files that a log of strace has opened, some several times. Relative
-    paths are left out, since they are of a state, and files that are only written. A compiled
-    module of Python counts as its source, if that is there."""
+    """The paths of the files that a log of strace shows as opened or looked for; some come several
+    times. Links aren't followed: they may lead to another file later. Files that are only written
+    are left out, and so are relative paths if the log lacks their directory, as for open and
+    execve. A compiled module of Python counts as its source, if that is there."""
     for line in lines:
         match = OPENED.search(line)
-        if match is not None and os.path.isabs(match[1]) and 'O_WRONLY' not in line:
-            path = os.path.realpath(match[1])
+        if match is None or 'O_WRONLY' in line:
+            continue
+        path = os.path.join(unescape(match[1] or ''), unescape(match[2]))
+        if os.path.isabs(path):
             compiled = COMPILED.match(path)
             source = f'{compiled[1]}/{compiled[2]}.py' if compiled else path
             yield source if os.path.exists(source) else path
 
 
+def interpreters(script: str) -> Iterator[str]:
+    """The program that the first line of a script names and, if that is a script too, the one that
+    it names, and so on: strace doesn't show that the system opens them. Ends at a relative path,
+    and at a file that is no script or can't be read. A pipe without a writer is waited for."""
+    for _ in range(MOST_INTERPRETERS):
+        try:
+            with open(script, 'rb') as file:
+                words = file.readline(LINE_BYTES).split()
+        except OSError:
+            return
+        if not words or not words[0].startswith(b'#!'):
+            return
+        script = os.fsdecode(words[0][2:] or b''.join(words[1:2]))
+        if not os.path.isabs(script) or '\0' in script:
+            return
+        yield script
+
+
+def unescape(escaped: str) -> str:
+    """The path that strace shows as a text in which quotes, backslashes and all but printable
+    ASCII are escapes of C, such as `\\303`."""
+    return os.fsdecode(os.fsencode(escaped).decode('unicode_escape').encode('latin-1'))
+
+
 def digest_of_file(path: str) -> str:
-    """The digest of a file's bytes; an empty text if it can't be read."""
+    """The digest of a file's bytes; an empty text if it isn't there or can't be read."""
+    digest = hashlib.sha256()
     try:
         with open(path, 'rb') as file:
-            return hashlib.sha256(file.read()).hexdigest()
+            for piece in iter(partial(file.read, PIECE_BYTES), b''):
+                digest.update(piece)
     except OSError:
         return ''
+    return digest.hexdigest()
 
 
 def digest_of_text(text: str) -> str:

@@ -6,8 +6,8 @@ from __future__ import annotations
 import os
 from typing import Dict, List, Optional
 
-from crashfs_tools.checker.states.plan import Planned, State
-from crashfs_tools.common.command import Refused, relative_arguments
+from crashfs_tools.checker.states.plan import PlannedTrace, State
+from crashfs_tools.common.command import Refused, relative_path_arguments
 
 from .results import Results
 from .runner import BAD, Outcome
@@ -15,26 +15,30 @@ from .trials import Trials
 
 
 class FirstTrials:
-    """Tries the tree at the session's end and the start tree. end is a plan of a trace that has
-    only the tree at the session's end, if the plan of the trials, which is that of a window,
-    doesn't have it."""
+    """Tries the tree at the session's end and the start tree. If the plan of the trials, which is
+    that of a window, doesn't have the tree at the end, end_plan does: the plan of a trace that has
+    only that tree."""
 
-    def __init__(self, trials: Trials, results: Results, end: Optional[Planned] = None) -> None:
+    def __init__(
+        self, trials: Trials, results: Results, end_plan: Optional[PlannedTrace] = None
+    ) -> None:
+        """The results must be of the plan of the trials. Nothing is tried yet."""
         self.trials = trials
         self.results = results
-        self.end = end
+        self.end_plan = end_plan
         # Whether a command is tried, not a function.
         self.is_command = trials.options.function is None
 
     def run(self) -> None:
-        """Tries the two trees, first that at the end. Refused if COMMAND fails in one of them. The
-        results get the outcomes of states that are tried anyway; that of `end` is dropped."""
+        """Tries the two trees, first that at the end. Refused if COMMAND fails in one of them;
+        other errors as in Trials.try_state(). The results get the outcomes of states that are among
+        those to try; that of end_plan's state is dropped."""
         prefixes = [state for state in self.trials.plan.states if state.family == 'prefix']
-        if self.end is None:
+        if self.end_plan is None:
             self.try_state(prefixes[-1], "the tree at the session's end")
         else:
-            state = self.end.plan.listed[0]
-            outcome = Trials(self.trials.workplace, self.end).try_one(state)
+            state = self.end_plan.plan.listed[0]
+            outcome = Trials(self.trials.workplace, self.end_plan).try_state(state)
             self.refuse_bad(
                 outcome,
                 f"the tree at the session's end, where nothing is lost (says {state.says})",
@@ -42,45 +46,53 @@ class FirstTrials:
             )
         self.try_state(prefixes[0], 'the start tree')
 
-    def try_state(self, state: State, tree: str) -> None:
-        """Tries a state, unless the results have its outcome, which they get if it is a state of
-        this shard. `tree` says in words what the state is. Refused if COMMAND fails in it."""
-        number = self.results.tried_for[state.trial]
+    def try_state(self, state: State, tree_name: str) -> None:
+        """Tries a state, unless the results have its outcome already. They get the outcome if the
+        state is one of this shard's. tree_name says in words which tree the state has. Refused if
+        COMMAND fails in it, or as in wanted_numbers()."""
+        number = self.results.tried_numbers[state.trial]
         outcomes: Dict[int, Outcome] = self.results.outcomes
-        first = self.trials.plan.state(number)
-        outcome = outcomes.get(number) or self.trials.try_one(first)
-        if number in self.trials.wanted_states(self.results):
+        tried_state = self.trials.plan.state(number)
+        outcome = outcomes.get(number) or self.trials.try_state(tried_state)
+        if number in self.trials.wanted_numbers(self.results):
             outcomes[number] = outcome
-        look = [f'inspect it with --state {number}'] if self.is_command else []
+        hints = [f'inspect it with --state {number}'] if self.is_command else []
         if outcome.result == BAD and state.numbers[0] == 0 and self.trials.tree(number):
-            look.insert(
+            hints.insert(
                 0, 'did the directory have files of an earlier session when it was recorded?'
             )
         self.refuse_bad(
-            outcome, f'{tree}, where nothing is lost (state {number}, says {state.says})', look
+            outcome,
+            f'{tree_name}, where nothing is lost (state {number}, says {state.says})',
+            hints,
         )
 
-    def refuse_bad(self, outcome: Outcome, tree: str, more: List[str]) -> None:
-        """Refused if an outcome is BAD; the text names `tree`, and has `more` as its last lines. A
-        state without an answer isn't refused."""
+    def refuse_bad(self, outcome: Outcome, tree_name: str, hints: List[str]) -> None:
+        """Refused if an outcome is BAD: the text has tree_name in its first line, and `hints` as
+        its last lines. A state without an answer isn't refused."""
         if outcome.result == BAD:
             name = 'COMMAND' if self.is_command else 'the recovery'
             raise Refused(
                 '\n'.join(
-                    [f'{name} fails in {tree}: {outcome.cause}', *self.hints(outcome.cause), *more]
+                    [
+                        f'{name} fails in {tree_name}: {outcome.cause}',
+                        *self.hints_for(outcome.cause),
+                        *hints,
+                    ]
                 )
             )
 
-    def hints(self, cause: str) -> List[str]:
-        """Lines that say what to look at if COMMAND fails with a cause; at least one."""
+    def hints_for(self, cause: str) -> List[str]:
+        """One or more lines that say what may be wrong with COMMAND, or with the recovery function,
+        if it fails with this cause."""
         if not self.is_command:
             return ['does it expect more than the session did, or files of another place?']
-        relative = relative_arguments(self.trials.options.command)
-        if relative:
+        relative_words = relative_path_arguments(self.trials.options.command)
+        if relative_words:
             return [
                 f'{word} is a relative path, but COMMAND runs in the directory of a state: '
                 f'use {os.path.abspath(word)}'
-                for word in relative
+                for word in relative_words
             ]
         if 'not found' in cause or 'No such file' in cause or cause == 'status 127':
             return ['does COMMAND run something that is neither on PATH nor an absolute path?']

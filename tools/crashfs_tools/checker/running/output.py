@@ -10,46 +10,47 @@ MOST_BYTES = 16 << 20
 
 
 class Output:
-    """A pipe for what one run prints. Pass `writing` to the command, and close it here; `reading`
-    can be polled. end has the last bytes, and count is how many there were."""
+    """A pipe for what one run prints. Pass write_end to the command, and then call close_writing();
+    read_end can be polled. byte_count is how many bytes were read, and tail has the last ones."""
 
     def __init__(self) -> None:
-        """Opens the pipe: call close() in any case."""
-        self.reading, self.writing = os.pipe2(os.O_CLOEXEC)
-        os.set_blocking(self.reading, False)
-        self.end = b''
-        self.count = 0
+        """Opens the pipe: call close() in any case. OSError if too many files are open."""
+        self.read_end, self.write_end = os.pipe2(os.O_CLOEXEC)
+        os.set_blocking(self.read_end, False)
+        self.tail = b''
+        self.byte_count = 0
 
-    def read(self) -> bool:
-        """Reads a piece of what is printed; `end` has the last bytes of it afterwards. Returns
-        False at the end of the pipe. BlockingIOError if nothing is there yet."""
-        piece = os.read(self.reading, TAIL_BYTES)
-        self.count += len(piece)
-        self.end = (self.end + piece)[-TAIL_BYTES:]
+    def read_piece(self) -> bool:
+        """Reads a piece of what was printed, and adds it to byte_count and tail. Returns False at
+        the end of the pipe. BlockingIOError if nothing is there yet."""
+        piece = os.read(self.read_end, TAIL_BYTES)
+        self.byte_count += len(piece)
+        self.tail = (self.tail + piece)[-TAIL_BYTES:]
         return bool(piece)
 
     def read_tail(self) -> bytes:
-        """Reads all that is printed by now, without waiting, but stops at a flood. Returns the last
-        TAIL_BYTES bytes."""
+        """Reads all that was printed by now, without waiting, until it is a flood. Returns the last
+        TAIL_BYTES of all bytes that were read."""
         try:
-            while self.count <= MOST_BYTES and self.read():
+            while self.byte_count <= MOST_BYTES and self.read_piece():
                 pass
         except BlockingIOError:
             pass
-        return self.end
+        return self.tail
 
     @property
     def is_flood(self) -> bool:
         """Whether more than MOST_BYTES were read."""
-        return self.count > MOST_BYTES
+        return self.byte_count > MOST_BYTES
 
     def close_writing(self) -> None:
-        """Closes this process's end for writing, if it is open: then reading ends."""
-        if self.writing >= 0:
-            os.close(self.writing)
-            self.writing = -1
+        """Closes write_end in this process, if it is open: while it is, the pipe has no end for a
+        reader."""
+        if self.write_end >= 0:
+            os.close(self.write_end)
+            self.write_end = -1
 
     def close(self) -> None:
-        """Closes the pipe, both ends if the one for writing is still open."""
+        """Closes both ends of the pipe. Call it once."""
         self.close_writing()
-        os.close(self.reading)
+        os.close(self.read_end)

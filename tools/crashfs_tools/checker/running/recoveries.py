@@ -8,10 +8,10 @@ import signal
 import sys
 import traceback
 from dataclasses import dataclass
-from typing import Dict, List, NamedTuple, NoReturn, Protocol
+from typing import Dict, List, NamedTuple, Protocol
 
 from crashfs_tools.checker.options import RecoveryFunction
-from crashfs_tools.common.command import TEXT, Refused
+from crashfs_tools.common.command import TEXT, Refused, end_process
 from crashfs_tools.common.descendants import die_with_parent
 from crashfs_tools.common.guard import STOPS, VARIABLE
 
@@ -21,23 +21,24 @@ FAILED = 1
 
 
 class StandardStreams(NamedTuple):
-    """What a recovery reads, a file of the acknowledged lines, and the descriptor that it prints
-    to."""
+    """The standard streams of a recovery: the path of the file that it reads, which has the
+    acknowledged lines, and the descriptor that it prints to."""
 
-    lines: str
+    lines_path: str
     output: int
 
 
 class StateRecovery(Protocol):
-    """What is run in a state: it starts in this process's directory, in a session of its own."""
+    """A recovery that is run in states. Each run starts in the directory of this process, in a
+    session of its own."""
 
     @property
     def words(self) -> List[str]:
-        """What reports call it."""
+        """The words by which reports name the recovery."""
 
     def start(self, environment: Dict[bytes, bytes], streams: StandardStreams) -> int:
-        """Starts it, and returns the number of its process. Refused if it can't be started, but an
-        OSError if there is no room for a process."""
+        """Starts the recovery, and returns the number of its process. OSError if the system has no
+        room for a process, Refused if it can't be started for another reason."""
 
 
 @dataclass
@@ -47,8 +48,9 @@ class CommandRecovery:
     words: List[str]
 
     def start(self, environment: Dict[bytes, bytes], streams: StandardStreams) -> int:
-        """Starts the program: words[0] is its path, which isn't looked for on PATH. Refused and
-        OSError as in StateRecovery."""
+        """Starts the program: words[0] is its path, which isn't looked for on PATH. Refused, with
+        the name of the missing file, also if the file of the lines is gone, which a recovery may
+        have removed. OSError if the system has no room for a process."""
         try:
             return os.posix_spawn(
                 self.words[0],
@@ -57,7 +59,7 @@ class CommandRecovery:
                 setsid=True,
                 setsigdef=IGNORED,
                 file_actions=[
-                    (os.POSIX_SPAWN_OPEN, 0, streams.lines, os.O_RDONLY, 0),
+                    (os.POSIX_SPAWN_OPEN, 0, streams.lines_path, os.O_RDONLY, 0),
                     (os.POSIX_SPAWN_DUP2, streams.output, 1),
                     (os.POSIX_SPAWN_DUP2, streams.output, 2),
                 ],
@@ -65,13 +67,15 @@ class CommandRecovery:
         except OSError as error:
             if error.errno in (errno.EAGAIN, errno.ENOMEM):
                 raise
-            raise Refused(f'{self.words[0]}: {error.strerror}') from error
+            is_there = os.path.exists(streams.lines_path)
+            name = self.words[0] if is_there else streams.lines_path
+            raise Refused(f'{name}: {error.strerror}') from error
 
 
 @dataclass
 class FunctionRecovery:
-    """A function. Each call is in a fork of this process: nothing that it does to this one's memory
-    is seen later, and it can be killed if it is slow."""
+    """A function. Each call is in a fork of this process: it can't change the memory of this one,
+    and it can be killed if it is slow."""
 
     function: RecoveryFunction
 
@@ -82,8 +86,8 @@ class FunctionRecovery:
 
     def start(self, environment: Dict[bytes, bytes], streams: StandardStreams) -> int:
         """Forks this process, calls the function in the fork, and returns the number of its
-        process. An OSError if there is no room for one. What goes wrong in the fork is printed
-        there, and its status is FAILED."""
+        process. OSError if the system has no room for it. Any exception in the fork, also before
+        the call, is printed there, and its status is FAILED."""
         process = os.fork()
         if process == 0:
             try:
@@ -96,14 +100,14 @@ class FunctionRecovery:
         return process
 
     def become_child(self, environment: Dict[bytes, bytes], streams: StandardStreams) -> None:
-        """Makes this fork what a command would be: in a session of its own, with the streams, usual
-        signals, and of the environment the three variables that differ from state to state. It is
-        killed if its parent ends."""
+        """Makes this fork what a command would be: it has a session and the streams of its own, is
+        ended by the signals of STOPS, and is killed if its parent ends. Of the environment it gets
+        CRASHFS_STATE, CRASHFS_SAYS and the guard's tokens. OSError if a stream can't be opened."""
         die_with_parent()
         os.setsid()
-        for stop in STOPS:
-            signal.signal(stop, signal.SIG_DFL)
-        os.dup2(os.open(streams.lines, os.O_RDONLY), 0)
+        for stop_signal in STOPS:
+            signal.signal(stop_signal, signal.SIG_DFL)
+        os.dup2(os.open(streams.lines_path, os.O_RDONLY), 0)
         os.dup2(streams.output, 1)
         os.dup2(streams.output, 2)
         # The caller may have replaced them, as pytest does.
@@ -114,37 +118,33 @@ class FunctionRecovery:
                 os.environb[name] = environment[name]
 
     def call(self) -> int:
-        """Calls the function, and returns the exit status: 0 whatever the function returns, FAILED
-        if it raises, and the number of a SystemExit. The last line that is printed is the cause,
-        such as that of cause_of()."""
+        """Calls the function with the path of this process's directory and the lines, and returns
+        the exit status: 0 whatever the function returns; for a SystemExit the last eight bits of
+        its number, 0 for None, and FAILED for a text, which is printed; FAILED for any other
+        exception, of which the traceback is printed, and cause_text() as the last line."""
         lines = [line.rstrip('\n') for line in sys.stdin]
         try:
             self.function(os.getcwd(), lines)
-        except SystemExit as end:
-            if end.code is None or isinstance(end.code, int):
-                return end.code or 0
-            print(end.code)
+        except SystemExit as system_exit:
+            if system_exit.code is None or isinstance(system_exit.code, int):
+                # As a process has it: os._exit() refuses a larger number.
+                return (system_exit.code or 0) & 0xFF
+            print(system_exit.code)
             return FAILED
         except BaseException as fault:
             traceback.print_exc()
-            print(f'\n{cause_of(fault)}')
+            print(f'\n{cause_text(fault)}')
             return FAILED
         return 0
 
 
-def cause_of(fault: BaseException) -> str:
-    """A fault as one line: the first line of an assertion's text; of any other exception its type
-    and the first line of its text. An assertion without a text is such an exception."""
+def cause_text(fault: BaseException) -> str:
+    """A fault as one line: the first line of an assertion's text; of any other fault, and of an
+    assertion without a text, its type and the first line of its text. What the fault's `__str__`
+    raises passes."""
     text = str(fault).strip()
     if not (isinstance(fault, AssertionError) and text):
-        text = traceback.format_exception_only(type(fault), fault)[-1].strip()
+        lines = traceback.format_exception_only(type(fault), fault)
+        # Before it are the lines of a SyntaxError, and after it the notes of an exception.
+        text = next(line for line in lines if not line.startswith(' '))
     return text.split('\n')[0]
-
-
-def end_process(status: int) -> NoReturn:
-    """Ends this fork with a status, after its output is written, without what the caller's program
-    does at its own end."""
-    try:
-        sys.stdout.flush()
-    finally:
-        os._exit(status)

@@ -20,11 +20,11 @@ FORMAT = 3
 
 @dataclass
 class Head:
-    """What is checked. lines are those of the trace's operations; stopped says what ended the check
-    early, if anything did; cut_off has the lines whose loss was not tried to the session's end,
-    each with how many later micro-operations it was tried for; has_rest says whether the session
-    goes on after the last window that was begun. refused_version is that of a trace which only the
-    second reading takes, or 0."""
+    """What a report is of. `lines` are those of the trace's operations; `stopped` says what ended
+    the check early, if anything did. cut_off has the lines whose loss was not tried to the
+    session's end, each with how many later micro-operations it was tried for; has_rest says whether
+    the session goes on after the last window that was begun. refused_version is that of a trace
+    which only the second reading takes, or 0."""
 
     trace: str
     digest: str
@@ -42,7 +42,7 @@ class Head:
         return self.digest, self.command, self.shard
 
     def fields(self) -> Dict[str, Any]:
-        """What a file of --json has of the head, by its keys: head_of() reads it."""
+        """What a file of --json has of the head, by its keys: parse_head() reads it."""
         return {
             'crashfs-check': FORMAT,
             'trace': self.trace,
@@ -60,86 +60,102 @@ class Head:
 
 @dataclass
 class Results:
-    """A window's plan, and the outcomes by the numbers of the states that were tried. known are the
-    states that the window before has too, with their numbers there: they are tried there. reruns
-    are outcomes of second runs. chosen are the states to try if all would take too long, and
-    seconds is how long each takes.
+    """A window's plan, and the outcomes by the numbers of the states that were tried. If the window
+    before has a state too, numbers_before has its number there: it is tried there. reruns are
+    outcomes of second runs. chosen_numbers are the states to try if all would take too long;
+    seconds_per_state is how long each takes.
 
-    Made from these: own are the states without known ones; tried_for has for each trial the number
-    of the state that is tried for it, here or in the window before; trials has those of them that
-    are tried here."""
+    Computed from these: own_states are those that the window before doesn't have. tried_numbers has
+    for each trial the number of the state that is tried for it, here or in the window before;
+    own_numbers has those of them that are tried here."""
 
     plan: Plan
     outcomes: Dict[int, Outcome] = field(default_factory=dict)
-    known: Dict[int, int] = field(default_factory=dict)
+    numbers_before: Dict[int, int] = field(default_factory=dict)
     reruns: Dict[int, Outcome] = field(default_factory=dict)
-    chosen: Optional[FrozenSet[int]] = None
-    seconds: float = 0.0
+    chosen_numbers: Optional[FrozenSet[int]] = None
+    seconds_per_state: float = 0.0
 
     def __post_init__(self) -> None:
-        """Finds, once, what is tried: plan and known mustn't change later. Of equal states a known
-        one comes first, so that nothing is tried again."""
-        first: Dict[Trial, int] = {}
-        for state in sorted(self.plan.states, key=lambda one: one.number not in self.known):
-            first.setdefault(state.trial, state.number)
-        self.tried_for = first
-        self.own = [state for state in self.plan.states if state.number not in self.known]
-        self.trials = {trial: number for trial, number in first.items() if number not in self.known}
+        """Computes, once, what is tried: plan and numbers_before must not change later. Of the
+        states of a trial the first one is tried, unless the window before has another one of
+        them."""
+        self.own_states = [one for one in self.plan.states if one.number not in self.numbers_before]
+        self.tried_numbers: Dict[Trial, int] = {}
+        for state in sorted(
+            self.plan.states, key=lambda one: one.number not in self.numbers_before
+        ):
+            self.tried_numbers.setdefault(state.trial, state.number)
+        self.own_numbers = {
+            trial: number
+            for trial, number in self.tried_numbers.items()
+            if number not in self.numbers_before
+        }
 
-    def outcomes_by_state(self, before: Dict[int, Outcome]) -> Dict[int, Outcome]:
-        """The outcomes of all states by their numbers: each has that of the equal state that was
-        tried here, or in the window before, whose outcomes are `before`. A state is left out if
-        that has none yet."""
-        found = {}
+    def outcomes_by_state(self, outcomes_before: Dict[int, Outcome]) -> Dict[int, Outcome]:
+        """The outcomes of the plan's states by their numbers: each has that of its trial, which was
+        tried here or in the window before. outcomes_before is what this method returned for that
+        window. States without an outcome yet are left out."""
+        outcomes = {}
         for state in self.plan.states:
-            number = self.tried_for[state.trial]
-            known = self.known.get(number)
-            outcome = self.outcomes.get(number) if known is None else before.get(known)
+            number = self.tried_numbers[state.trial]
+            number_before = self.numbers_before.get(number)
+            if number_before is None:
+                outcome = self.outcomes.get(number)
+            else:
+                outcome = outcomes_before.get(number_before)
             if outcome is not None:
-                found[state.number] = outcome
-        return found
+                outcomes[state.number] = outcome
+        return outcomes
 
     @cached_property
-    def numbers_of_sets(self) -> Dict[int, Set[int]]:
-        """For each set the numbers of the states that are tried for it. Sets of states that the
-        window before has tried are left out."""
-        found: Dict[int, Set[int]] = {}
+    def numbers_by_set(self) -> Dict[int, Set[int]]:
+        """For each set the numbers of the states that are tried for it. Sets whose states the
+        window before tries are left out."""
+        numbers_by_set: Dict[int, Set[int]] = {}
         for state in self.plan.states:
-            number = self.trials.get(state.trial)
+            number = self.own_numbers.get(state.trial)
             if number is not None:
-                found.setdefault(self.plan.kept[state.number], set()).add(number)
-        return found
+                numbers_by_set.setdefault(self.plan.kept[state.number], set()).add(number)
+        return numbers_by_set
 
     @property
     def is_part(self) -> bool:
         """Whether all crash states were asked for, but only some are tried."""
-        every = self.plan.all_states
-        return every is not None and (self.chosen is not None or not every.are_listed)
+        all_states = self.plan.all_states
+        return all_states is not None and (
+            self.chosen_numbers is not None or not all_states.are_listed
+        )
 
     @property
-    def wanted(self) -> List[int]:
-        """The numbers of the states to try, of equal states one: all that the window before doesn't
-        try, or the chosen ones among them. They may have outcomes already."""
-        numbers = self.trials.values()
-        return [one for one in numbers if self.chosen is None or one in self.chosen]
+    def wanted_numbers(self) -> List[int]:
+        """The numbers of the states to try here, in the plan's order: one for each trial, or the
+        chosen ones of these. They are those of all shards, and may have outcomes already."""
+        numbers, chosen = self.own_numbers.values(), self.chosen_numbers
+        return [number for number in numbers if chosen is None or number in chosen]
 
-    def choose(self, turns: Iterable[Set[int]]) -> None:
-        """Chooses the states of some turns, and those that have an outcome already: from here on no
-        others are tried."""
-        self.chosen = frozenset(self.outcomes).union(*turns)
+    def choose(self, batches: Iterable[Set[int]]) -> None:
+        """Chooses the states in some batches, and those that have an outcome already: no others are
+        tried any more. An earlier choice is dropped."""
+        self.chosen_numbers = frozenset(self.outcomes).union(*batches)
 
     def take_earlier(self, earlier: Results) -> None:
-        """Takes the outcomes and the choice of an earlier check, whose plan must be equal. States
-        without an answer are tried again, and second runs too."""
-        self.chosen, self.seconds = earlier.chosen, earlier.seconds
+        """Takes the choice and seconds_per_state of an earlier check, whose plan must be equal, and
+        adds its outcomes. States without an answer are tried again, and second runs too."""
+        self.chosen_numbers = earlier.chosen_numbers
+        self.seconds_per_state = earlier.seconds_per_state
         self.outcomes.update(
-            {state: one for state, one in earlier.outcomes.items() if one.result != NO_ANSWER}
+            {
+                state: outcome
+                for state, outcome in earlier.outcomes.items()
+                if outcome.result != NO_ANSWER
+            }
         )
 
     @property
     def is_whole(self) -> bool:
         """Whether each state to try has an outcome."""
-        return all(number in self.outcomes for number in self.wanted)
+        return all(number in self.outcomes for number in self.wanted_numbers)
 
     def identity(self) -> Tuple[object, ...]:
         """What is equal for two results of one window of a trace: its micro-operations, states and
@@ -148,18 +164,18 @@ class Results:
         return plan.operations, plan.listed, plan.needs.masks, plan.profiles.wanted
 
     def fields(self) -> Dict[str, Any]:
-        """What a file of --json has of a window, by its keys: results_of() reads it. The seconds of
-        a state are 0 unless only some of the crash states are tried: only then a report shows
+        """The window's part of a file of --json, by its keys: parse_window() reads it. The seconds
+        of a state are 0 unless only some of the crash states are tried: only then a report shows
         them."""
         return {
             'first': self.plan.first,
             'all_states': self.plan.all_states and list(self.plan.all_states),
             'profiles': list(self.plan.profiles),
-            'chosen': None if self.chosen is None else sorted(self.chosen),
-            'seconds': round(self.seconds, 4) if self.is_part else 0,
+            'chosen': None if self.chosen_numbers is None else sorted(self.chosen_numbers),
+            'seconds': round(self.seconds_per_state, 4) if self.is_part else 0,
             'outcomes': {str(state): list(one) for state, one in sorted(self.outcomes.items())},
             'reruns': {str(state): list(one) for state, one in sorted(self.reruns.items())},
-            'known': {str(state): other for state, other in self.known.items()},
+            'known': {str(state): other for state, other in self.numbers_before.items()},
             'needs': [f'{mask:x}' for mask in self.plan.needs.masks],
             'operations': [list(one) for one in self.plan.operations],
             'states': [list(one) for one in self.plan.listed],
@@ -168,80 +184,93 @@ class Results:
 
 @dataclass
 class AllResults:
-    """The results of a check that is over, window by window. further are those of the options
-    `--nested` and `--disks` of which the check's report has findings that no window has."""
+    """The results of a check that is over, window by window. options_with_findings are those of
+    `--nested` and `--disks` of which the check's report has findings; no window has them. not_done
+    has a line for each of the two that was given and not done to the end."""
 
     head: Head
     windows: List[Results]
-    further: Tuple[str, ...] = ()
+    options_with_findings: Tuple[str, ...] = ()
+    not_done: Tuple[str, ...] = ()
 
 
-def known_states(before: Plan, plan: Plan) -> Dict[int, int]:
-    """The states of a window that the window before it has too: their numbers, each with the number
-    there. A state of a window counts as having all that comes before the window."""
-    lead = plan.first_place - before.first_place
-    earlier = {before.kept[state.number]: state.number for state in reversed(before.states)}
-    shared = {}
+def known_states(plan_before: Plan, plan: Plan) -> Dict[int, int]:
+    """The numbers of the states of a plan that the plan of the window before has too, each with the
+    number of the first state there that has the same set. A set of a window counts as having all
+    that comes before the window."""
+    shift = plan.first_place - plan_before.first_place
+    numbers_before = {
+        plan_before.kept[state.number]: state.number for state in reversed(plan_before.states)
+    }
+    numbers = {}
     for state in plan.states:
-        number = earlier.get(plan.kept[state.number] << lead | (1 << lead) - 1)
+        number = numbers_before.get(plan.kept[state.number] << shift | (1 << shift) - 1)
         if number is not None:
-            shared[state.number] = number
-    return shared
+            numbers[state.number] = number
+    return numbers
 
 
-def refuse_other_parts(parts: List[int], count: int) -> None:
-    """Refused unless each of the shards 1 to `count` is given exactly once. parts has the numbers
-    of those given."""
+def refuse_wrong_shards(parts: List[int], count: int) -> None:
+    """Refused unless each of the shards 1 to `count` is given exactly once. `parts` has the numbers
+    of the given shards."""
     for part in range(1, count + 1):
-        given = parts.count(part)
-        if given != 1:
+        times = parts.count(part)
+        if times != 1:
             raise Refused(
-                f'shard {part}/{count} ' + (f'was given {given} times' if given else 'is missing')
+                f'shard {part}/{count} ' + (f'was given {times} times' if times else 'is missing')
             )
 
 
-def refuse_other_commands(commands: List[List[str]]) -> None:
+def refuse_different_commands(commands: List[List[str]]) -> None:
     """Refused unless all commands have equal words; only the directories of their programs may
     differ."""
-    first, *others = ([os.path.basename(one[0]), *one[1:]] if one else [] for one in commands)
+    first, *others = (
+        [os.path.basename(words[0]), *words[1:]] if words else [] for words in commands
+    )
     for other in others:
         if other != first:
             shown = ' and '.join(map(shlex.join, (first, other)))
             raise Refused(f'the reports are of different COMMANDs: {shown}')
 
 
-def merged_shards(parts: List[AllResults]) -> AllResults:
-    """The results of all shards of one check as one. Refused if a shard is missing or is there
-    twice, or if one is of another check. A shard that was stopped may have fewer windows. The
-    results that have the most windows get the outcomes of the others, and are changed by that."""
-    first = max(parts, key=lambda one: len(one.windows))
-    for one in parts:
-        refuse_other_check(first, one)
-    refuse_other_commands([one.head.command for one in parts])
-    refuse_other_parts([one.head.shard.part for one in parts], first.head.shard.parts)
-    for one in parts:
-        for whole, window in zip(first.windows, one.windows):
-            whole.outcomes.update(window.outcomes)
-            whole.reruns.update(window.reruns)
+def merge_shards(shards: List[AllResults]) -> AllResults:
+    """The results of all shards of one check as one. The windows are those of a shard with the
+    most, which are changed: they get the outcomes and second runs of all. not_done is that of all;
+    options_with_findings is dropped. The head is unproved if one shard's is; its `stopped` is that
+    of the first stopped shard, or says that a window lacks outcomes. A shard that was stopped may
+    have fewer windows. Refused if a shard is missing, given twice, or of another check."""
+    longest = max(shards, key=lambda shard: len(shard.windows))
+    for shard in shards:
+        refuse_different_checks(longest, shard)
+    refuse_different_commands([shard.head.command for shard in shards])
+    refuse_wrong_shards([shard.head.shard.part for shard in shards], longest.head.shard.parts)
+    for shard in shards:
+        for merged_window, window in zip(longest.windows, shard.windows):
+            merged_window.outcomes.update(window.outcomes)
+            merged_window.reruns.update(window.reruns)
     head = replace(
-        first.head,
+        longest.head,
         shard=Shard(),
-        unproved=any(one.head.unproved for one in parts),
-        refused_version=max(one.head.refused_version for one in parts),
-        has_rest=any(one.head.has_rest for one in parts),
-        stopped=next((one.head.stopped for one in parts if one.head.stopped), ''),
+        unproved=any(shard.head.unproved for shard in shards),
+        refused_version=max(shard.head.refused_version for shard in shards),
+        has_rest=any(
+            shard.head.has_rest for shard in shards if len(shard.windows) == len(longest.windows)
+        ),
+        stopped=next((shard.head.stopped for shard in shards if shard.head.stopped), ''),
     )
-    if not head.stopped and not all(window.is_whole for window in first.windows):
+    if not head.stopped and not all(window.is_whole for window in longest.windows):
         head.stopped = 'a part without all outcomes'
-    return AllResults(head, first.windows)
+    not_done = dict.fromkeys(line for shard in shards for line in shard.not_done)
+    return AllResults(head, longest.windows, not_done=tuple(not_done))
 
 
-def refuse_other_check(first: AllResults, other: AllResults) -> None:
-    """Refused unless two reports are shards of one check: equal traces, numbers of shards, and
-    plans and profiles of the windows that both have. `first` must have at least as many windows."""
+def refuse_different_checks(first: AllResults, other: AllResults) -> None:
+    """Refused unless two reports are shards of one check: their traces and numbers of shards are
+    equal, and so are plans and profiles of the windows that both have. `first` must have at least
+    as many windows as `other`."""
     plans = [
-        [window.identity() for window in one.windows[: len(other.windows)]]
-        for one in (first, other)
+        [window.identity() for window in results.windows[: len(other.windows)]]
+        for results in (first, other)
     ]
     if plans[0] != plans[1] or (other.head.digest, other.head.shard.parts) != (
         first.head.digest,

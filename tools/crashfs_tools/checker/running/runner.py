@@ -13,7 +13,7 @@ from itertools import accumulate
 from typing import Callable, Dict, List, NamedTuple, Optional, Set
 
 from crashfs_tools.common import descendants
-from crashfs_tools.common.command import ending_text
+from crashfs_tools.common.command import Refused, ending_text
 from crashfs_tools.common.mount_table import MountTable
 from crashfs_tools.common.program import last_line
 from crashfs_tools.common.trace_lines import without_numbers
@@ -22,9 +22,9 @@ from .output import MOST_BYTES, Output
 from .recoveries import StateRecovery, StandardStreams
 
 GOOD, BAD, NO_ANSWER = 'good', 'bad', 'no answer'
-CAUSE_LETTERS = 200
-OUTPUT_LETTERS = 2_000
-TURN_SECONDS = 0.5
+CAUSE_CHARACTERS = 200
+OUTPUT_CHARACTERS = 2_000
+POLL_SECONDS = 0.5
 # A command that takes longer lets others know what is known so far.
 SLOW_SECONDS = 0.01
 LOOK_SECONDS = 0.002
@@ -33,21 +33,22 @@ LINES_FILE = os.O_WRONLY | os.O_NOFOLLOW | os.O_CLOEXEC
 
 
 class Outcome(NamedTuple):
-    """What a command found in a state; the cause is its last line, or why there is none. output is
-    the end of what it printed, of a state that isn't good."""
+    """What a command found in a state. result is GOOD, BAD or NO_ANSWER. cause is the last line
+    that it printed, or its status, or why there is no answer. output is the end of what it printed.
+    Of a good state cause and output are empty."""
 
     result: str
     cause: str = ''
     output: str = ''
 
     @property
-    def word(self) -> str:
-        """The part of the cause before its first colon."""
+    def cause_kind(self) -> str:
+        """The part of the cause before its first colon, or all of it if it has none."""
         return self.cause.partition(':')[0]
 
     @property
     def cause_without_numbers(self) -> str:
-        """The whole cause, but for its numbers."""
+        """The whole cause, with its numbers left out."""
         return without_numbers(self.cause)
 
 
@@ -56,48 +57,54 @@ GOOD_OUTCOME = Outcome(GOOD)
 
 class AcknowledgedLines:
     """The session's acknowledged lines, as a file in a folder for the commands' standard input.
-    Each process has one file, which it cuts or extends: one for each state would be too much."""
+    Each process has one file, which it cuts or extends: a file for each state would be slow."""
 
     def __init__(self, texts: List[str], folder: str) -> None:
+        """texts are the lines without their ends. Nothing is written yet."""
         self.texts = texts
         self.folder = folder
-        self.file = ''
-        self.count = 0
-        self.sizes = [0, *accumulate(len(text.encode('utf-8')) + 1 for text in texts)]
+        self.file_path = ''
+        self.line_count = 0
+        self.file_sizes = [0, *accumulate(len(text.encode('utf-8')) + 1 for text in texts)]
 
-    def path(self, count: int) -> str:
-        """The path of this process's file, which has the first `count` lines until the next call.
-        OSError if it must be changed, but COMMAND has removed it or put a symbolic link in its
-        place."""
-        file = os.path.join(self.folder, f'says-{os.getpid()}')
-        if self.file != file:
-            self.file, self.count = file, 0
-            os.close(os.open(file, LINES_FILE | os.O_CREAT | os.O_TRUNC, 0o666))
-        if count != self.count:
-            with open(os.open(file, LINES_FILE), 'wb') as lines:
-                lines.truncate(self.sizes[min(count, self.count)])
+    def write_file(self, count: int) -> str:
+        """Gives this process's file the first `count` lines, which it has until the next call, and
+        returns its path. The first call makes the file. OSError if it must be changed, but COMMAND
+        has removed it or put a symbolic link in its place. If it needn't be changed, that isn't
+        noticed."""
+        own_path = os.path.join(self.folder, f'says-{os.getpid()}')
+        if self.file_path != own_path:
+            self.file_path, self.line_count = own_path, 0
+            os.close(os.open(own_path, LINES_FILE | os.O_CREAT | os.O_TRUNC, 0o666))
+        if count != self.line_count:
+            with open(os.open(own_path, LINES_FILE), 'wb') as lines:
+                lines.truncate(self.file_sizes[min(count, self.line_count)])
                 lines.seek(0, os.SEEK_END)
-                lines.write(self.text(count, self.count).encode())
-        self.count = count
-        return file
+                lines.write(self.text(count, self.line_count).encode())
+        self.line_count = count
+        return own_path
 
-    def text(self, count: int, first: int = 0) -> str:
-        """The lines from the place `first` to before `count` as one text, each with its end."""
-        return ''.join(f'{text}\n' for text in self.texts[first:count])
+    def text(self, end: int, begin: int = 0) -> str:
+        """The lines from place `begin` to before place `end` as one text, each with its line
+        feed."""
+        return ''.join(f'{text}\n' for text in self.texts[begin:end])
 
 
 class CheckEnded(Exception):
-    """The check is over: the command that ran was ended."""
+    """The check is over: the command that ran is killed."""
+
+
+class LeftRunning(Refused):
+    """Processes of COMMAND could not be ended. They may still change files: no further command may
+    run."""
 
 
 class End(Enum):
-    """Why a command runs no more: it exited, or it was killed since it was late, printed too much,
-    or the check ended."""
+    """Why a command isn't waited for any more: it exited, is late, or has printed too much."""
 
     EXITED = 'exited'
     LATE = 'late'
     FLOODED = 'flooded'
-    KILLED = 'killed'
 
 
 def do_nothing() -> None:
@@ -106,35 +113,35 @@ def do_nothing() -> None:
 
 @dataclass
 class Checker:
-    """One recovery, and what it is run with. life is this process's end of a pipe whose other end
-    is closed when the check is over; when_slow is called once for each command that takes long.
-    end_bearers ends what was started with the environment, if this process isn't the reaper of what
-    a command leaves."""
+    """Runs one recovery in states. `life` is this process's end of a pipe whose other end is closed
+    when the check is over. when_slow() is called once for each command that takes long.
+    end_processes_with_token() ends what was started with the environment: for a process that isn't
+    the reaper of what a command leaves."""
 
     recovery: StateRecovery
     timeout: float
     environment: Dict[str, str]
-    says: AcknowledgedLines
+    acknowledged_lines: AcknowledgedLines
     life: Optional[int] = None
     when_slow: Callable[[], None] = do_nothing
-    end_bearers: Callable[[], None] = do_nothing
+    end_processes_with_token: Callable[[], None] = do_nothing
     # What commands left that could not be ended, with the names of the programs.
-    left: Dict[int, str] = field(default_factory=dict)
+    left_processes: Dict[int, str] = field(default_factory=dict)
 
     @cached_property
-    def whole_environment(self) -> Dict[bytes, bytes]:
-        """The environment as bytes, which are passed on as they are."""
+    def environment_bytes(self) -> Dict[bytes, bytes]:
+        """The names and values of the environment as bytes, which may be no text."""
         return {os.fsencode(name): os.fsencode(value) for name, value in self.environment.items()}
 
     @cached_property
-    def own_directory(self) -> int:
+    def current_directory(self) -> int:
         """A descriptor of the directory that this process is in."""
         return os.open('.', os.O_PATH | os.O_DIRECTORY | os.O_CLOEXEC)
 
     @cached_property
     def poll(self) -> select.poll:
-        """A poll object that has the pipe `life`, if there is one. Each run adds what it waits for,
-        and takes it away again."""
+        """A poll object for the pipe `life`, if there is one. Each run registers what it waits for,
+        and unregisters it."""
         poll = select.poll()
         if self.life is not None:
             poll.register(self.life, select.POLLIN)
@@ -142,101 +149,112 @@ class Checker:
 
     @cached_property
     def mounts(self) -> MountTable:
-        """What is mounted."""
+        """The table of mounts, which is opened once."""
         return MountTable()
 
-    def run(self, state: int, says: int, directory: str) -> Outcome:
+    def run(self, number: int, says: int, directory: str) -> Outcome:
         """Runs the recovery in a state's directory with the first `says` acknowledged lines, ends
         what it leaves running, and unmounts what it leaves mounted. No answer if it is late, prints
-        too much or leaves a mount that stays; nor if it left a process that can't be ended, also in
-        later states while that runs. Refused or an OSError if it can't be started, CheckEnded if
-        the check ends meanwhile."""
-        if self.left and self.end_left(descendants.children() - set(self.left)):
-            return self.outcome_of_left()
-        before, mounted = descendants.children(), self.mounts.below(directory)
-        environment = {
-            **self.whole_environment,
-            b'CRASHFS_STATE': b'%d' % state,
-            b'CRASHFS_SAYS': b'%d' % says,
-        }
+        too much or leaves a mount that stays; nor, here and in later states, while left_processes
+        has any. In the output the directory is `.`. Refused or OSError if it can't be started,
+        CheckEnded if the check ends meanwhile."""
+        if self.left_processes:
+            self.end_left_processes(descendants.child_processes() - set(self.left_processes))
+        if self.left_processes:
+            return self.unended_outcome('a process that it left')
+        earlier_children = descendants.child_processes()
+        earlier_mounts = self.mounts.points_below(directory)
         output = Output()
         try:
-            process = self.start(directory, environment, self.says.path(says), output)
-            end = End.KILLED
+            process = self.start(number, says, directory, output)
+            has_exited = False
             try:
                 end = self.wait(process, output)
+                has_exited = end is End.EXITED
             finally:
                 # Until it is waited for, no other group has its number.
-                end_group(process)
-                status = os.waitstatus_to_exitcode(os.waitpid(process, 0)[1])
-                self.end_left(before, descendants.ENDING_SECONDS)
-                stays = self.unmount(directory, set(mounted))
-            if self.left:
-                return self.outcome_of_left()
-            if stays:
-                return Outcome(NO_ANSWER, f'a mount that it left can not be unmounted: {stays[0]}')
-            if end is End.EXITED and status == 0:
+                kill_group(process)
+                # Only what has ended is waited for without limit: a kill may be refused.
+                status = reap_child(process) if has_exited else 0
+                self.end_left_processes(earlier_children, descendants.ENDING_SECONDS)
+                staying = self.unmount(directory, set(earlier_mounts))
+            if self.left_processes:
+                return self.unended_outcome(
+                    'it' if process in self.left_processes else 'a process that it left'
+                )
+            if staying:
+                return Outcome(
+                    NO_ANSWER, f'a mount that it left can not be unmounted: {staying[0]}'
+                )
+            if has_exited and status == 0:
                 return GOOD_OUTCOME
             printed = output.read_tail().replace(os.fsencode(directory), b'.')
-            return self.outcome_of_end(end, status, printed.decode('utf-8', 'replace'))
+            return self.failed_outcome(end, status, printed.decode('utf-8', 'replace'))
         finally:
             output.close()
 
-    def end_left(self, before: Set[int], seconds: float = 0) -> Dict[int, str]:
-        """Kills the children that weren't there before, and waits at most `seconds` for them. Sets
-        `left` to those that still run, with the names of their programs, and returns it."""
-        self.end_bearers()
-        self.left = descendants.end_children(before, seconds)
-        return self.left
+    def end_left_processes(self, spared: Set[int], seconds: float = 0) -> Dict[int, str]:
+        """Calls end_processes_with_token(), kills all children but the spared ones, and waits at
+        most `seconds` for their end. Sets left_processes to those that still run, with the names of
+        their programs, and returns it."""
+        self.end_processes_with_token()
+        self.left_processes = descendants.end_children(spared, seconds)
+        return self.left_processes
 
-    def outcome_of_left(self) -> Outcome:
-        """The outcome of a state if a process that a command left can't be ended."""
-        return Outcome(
-            NO_ANSWER,
-            f'a process that it left could not be ended: {descendants.processes_text(self.left)}',
-        )
+    def unended_outcome(self, subject: str) -> Outcome:
+        """The outcome of a state if the processes of left_processes can't be ended. `subject` is
+        how the cause calls them, such as `it`."""
+        names = descendants.processes_text(self.left_processes)
+        return Outcome(NO_ANSWER, f'{subject} could not be ended: {names}')
 
-    def unmount(self, directory: str, before: Set[int]) -> List[str]:
-        """Unmounts what is mounted below a directory and wasn't before; `before` has the numbers of
-        those mounts. Returns what stays mounted, as paths in the directory."""
-        found = self.mounts.below(directory)
-        left = self.mounts.unmount({one: found[one] for one in found if one not in before})
-        return [os.path.relpath(point, directory) for point in left]
+    def unmount(self, directory: str, earlier_mounts: Set[int]) -> List[str]:
+        """Unmounts what is mounted at a directory or below it, except the mounts with the numbers
+        in earlier_mounts. Waits for the commands that unmount, without limit. Returns the paths in
+        the directory at which something stays mounted."""
+        mounts = self.mounts.points_below(directory)
+        later_mounts = {one: mounts[one] for one in mounts if one not in earlier_mounts}
+        staying = self.mounts.unmount(later_mounts)
+        return [os.path.relpath(point, directory) for point in staying]
 
-    def start(
-        self, directory: str, environment: Dict[bytes, bytes], lines: str, output: Output
-    ) -> int:
-        """Starts the recovery, with the file of a path as its input, and returns the number of its
-        process. Meanwhile this process is in the recovery's directory. `output` is closed for
-        writing here, also if the recovery can't be started (Refused or an OSError)."""
-        here = self.own_directory
+    def start(self, number: int, says: int, directory: str, output: Output) -> int:
+        """Starts the recovery in a state's directory, with a file of `says` acknowledged lines as
+        its input, and returns the number of its process. This process is in the directory
+        meanwhile. Closes write_end of `output`, also if it can't be started: Refused or OSError."""
+        environment = {
+            **self.environment_bytes,
+            b'CRASHFS_STATE': b'%d' % number,
+            b'CRASHFS_SAYS': b'%d' % says,
+        }
+        streams = StandardStreams(self.acknowledged_lines.write_file(says), output.write_end)
+        old_directory = self.current_directory
         os.chdir(directory)
         try:
-            return self.recovery.start(environment, StandardStreams(lines, output.writing))
+            return self.recovery.start(environment, streams)
         finally:
-            os.fchdir(here)
+            os.fchdir(old_directory)
             output.close_writing()
 
     def wait(self, process: int, output: Output) -> End:
         """Waits until the command exits, is late or has printed too much, and returns which of
-        these. It isn't reaped, and still runs unless it exited. CheckEnded if the check ends
-        before."""
-        waiting = Waiting(self.poll, process, output)
-        begun = time.monotonic()
+        these; too much counts even if it has exited. Reads what it prints meanwhile. The process
+        isn't reaped, and may still run unless it exited. CheckEnded if the check ends before."""
+        process_wait = ProcessWait(self.poll, process, output)
+        begin_time = time.monotonic()
         is_slow = False
         try:
             while True:
-                passed = time.monotonic() - begun
-                if passed >= self.timeout:
+                passed_seconds = time.monotonic() - begin_time
+                if passed_seconds >= self.timeout:
                     return End.LATE
-                if not is_slow and passed >= SLOW_SECONDS:
+                if not is_slow and passed_seconds >= SLOW_SECONDS:
                     is_slow = True
                     self.when_slow()
-                left = self.timeout - passed if is_slow else SLOW_SECONDS - passed
-                ready = waiting.wait(min(left, self.timeout - passed, TURN_SECONDS))
+                left_seconds = self.timeout - passed_seconds
+                slow_seconds = left_seconds if is_slow else SLOW_SECONDS - passed_seconds
+                ready = process_wait.wait(min(slow_seconds, left_seconds, POLL_SECONDS))
                 if self.life in ready:
                     raise CheckEnded
-                has_ended = waiting.has_ended(ready)
+                has_ended = process_wait.has_ended(ready)
                 if has_ended:
                     output.read_tail()
                 if output.is_flood:
@@ -244,80 +262,99 @@ class Checker:
                 if has_ended:
                     return End.EXITED
         finally:
-            waiting.close()
+            process_wait.close()
 
-    def outcome_of_end(self, end: End, status: int, printed: str) -> Outcome:
-        """The outcome of a command that isn't good, by its end, its status as subprocess has it,
-        and the end of what it printed. Its cause is the last line, or else its status; a signal's
-        name comes before the line."""
-        output = printed[-OUTPUT_LETTERS:]
+    def failed_outcome(self, end: End, status: int, printed: str) -> Outcome:
+        """The outcome of a command that isn't good, from its end, its status as subprocess has it,
+        and the end of what it printed. No answer if it was late or printed too much; else BAD, with
+        its last line as the cause, after a signal's name if one killed it, or with the status if it
+        printed none. Cause and output are cut to CAUSE_CHARACTERS and OUTPUT_CHARACTERS."""
+        output = printed[-OUTPUT_CHARACTERS:]
         if end is End.LATE:
             return Outcome(NO_ANSWER, f'it had not ended after {self.timeout:g} seconds', output)
         if end is End.FLOODED:
             return Outcome(NO_ANSWER, f'it printed more than {MOST_BYTES >> 20} MB', output)
-        how = f'status {status}' if status > 0 else ending_text(status).replace('was ', '')
-        line = last_line(printed)[:CAUSE_LETTERS]
+        status_text = f'status {status}' if status > 0 else ending_text(status).replace('was ', '')
+        cause = last_line(printed)[:CAUSE_CHARACTERS]
         if status < 0:
-            line = f'{how}: {line}' if line else how
-        return Outcome(BAD, line or how, output)
+            cause = f'{status_text}: {cause}' if cause else status_text
+        return Outcome(BAD, cause or status_text, output)
 
 
-class Waiting:
-    """Waits for a process, for what it prints, and for what a poll object has already. A system
-    without descriptors of processes (before Linux 5.3) is asked again and again."""
+class ProcessWait:
+    """A wait for a process, for what it prints, and for what a poll object has already. If the
+    system has no descriptors of processes (Linux before 5.3), the process is asked every
+    LOOK_SECONDS."""
 
     def __init__(self, poll: select.poll, process: int, output: Output) -> None:
         """Adds the process and its output to the poll object: call close() in any case."""
         self.poll, self.process, self.output = poll, process, output
-        self.descriptor = opened_process(process)
-        self.registered = {output.reading}
-        if self.descriptor is not None:
-            self.registered.add(self.descriptor)
-        for one in self.registered:
-            poll.register(one, select.POLLIN)
+        self.process_descriptor = open_process(process)
+        self.descriptors = {output.read_end}
+        if self.process_descriptor is not None:
+            self.descriptors.add(self.process_descriptor)
+        for descriptor in self.descriptors:
+            poll.register(descriptor, select.POLLIN)
 
     def wait(self, seconds: float) -> Set[Optional[int]]:
-        """Waits at most `seconds`. Returns the descriptors that are ready, also those that the poll
-        object had already; maybe none. What is printed is read meanwhile."""
-        if self.descriptor is None:
+        """Waits at most `seconds`. Returns the descriptors that are ready, also of those that the
+        poll object had already; maybe none. If something was printed, one piece of it is read. At
+        the end of the output's pipe that is unregistered."""
+        if self.process_descriptor is None:
             seconds = min(seconds, LOOK_SECONDS)
-        ready: Set[Optional[int]] = {one for one, _ in self.poll.poll(seconds * 1000)}
-        if self.output.reading in ready and not self.output.read():
-            self.unregister(self.output.reading)
+        ready: Set[Optional[int]] = {descriptor for descriptor, _ in self.poll.poll(seconds * 1000)}
+        if self.output.read_end in ready and not self.output.read_piece():
+            self.unregister(self.output.read_end)
         return ready
 
     def has_ended(self, ready: Set[Optional[int]]) -> bool:
-        """Whether the process has ended; `ready` is what wait() returned. The process isn't
-        reaped."""
-        if self.descriptor is not None:
-            return self.descriptor in ready
+        """Whether the process has ended; `ready` must be what wait() returned last. The process
+        isn't reaped here, and must not have been reaped before."""
+        if self.process_descriptor is not None:
+            return self.process_descriptor in ready
         return os.waitid(os.P_PID, self.process, os.WEXITED | os.WNOHANG | os.WNOWAIT) is not None
 
-    def unregister(self, one: int) -> None:
-        """Waits no longer for a descriptor."""
-        self.registered.remove(one)
-        self.poll.unregister(one)
+    def unregister(self, descriptor: int) -> None:
+        """Removes a descriptor from the poll object: it isn't waited for any more."""
+        self.descriptors.remove(descriptor)
+        self.poll.unregister(descriptor)
 
     def close(self) -> None:
-        """Takes from the poll object what was added, and closes the descriptor of the process."""
-        for one in list(self.registered):
-            self.unregister(one)
-        if self.descriptor is not None:
-            os.close(self.descriptor)
+        """Removes all that was registered here from the poll object, and closes the descriptor of
+        the process. Call it once."""
+        for descriptor in list(self.descriptors):
+            self.unregister(descriptor)
+        if self.process_descriptor is not None:
+            os.close(self.process_descriptor)
 
 
-def opened_process(process: int) -> Optional[int]:
-    """A descriptor of a process, which can be polled for its end; None if the system has none, or
-    the process is gone."""
+def open_process(process: int) -> Optional[int]:
+    """Opens a descriptor of a process, which can be polled for its end. None if the process is
+    gone, or if the system gives no descriptor, as before Linux 5.3 or if too many files are
+    open."""
     try:
         return os.pidfd_open(process)
     except (AttributeError, OSError):
         return None
 
 
-def keep_descriptors() -> None:
-    """Lets commands that are started later inherit the descriptors 0 to 2 only. Those of them that
-    are closed are opened, as /dev/null."""
+def reap_child(process: int) -> int:
+    """Waits for a child's end, without limit, and returns its status as subprocess has it."""
+    return os.waitstatus_to_exitcode(os.waitpid(process, 0)[1])
+
+
+def refuse_left_processes(left_processes: Dict[int, str]) -> None:
+    """Raises LeftRunning if left_processes isn't empty: it has the names of the programs of
+    processes that could not be ended, by the numbers of the processes."""
+    if left_processes:
+        names = descendants.processes_text(left_processes)
+        raise LeftRunning(f'a process that COMMAND left could not be ended: {names}')
+
+
+def limit_inherited_descriptors() -> None:
+    """Makes commands that are started later inherit only the descriptors 0 to 2. All others that
+    are open now become close-on-exec. Those of 0 to 2 that are closed are opened, as /dev/null.
+    OSError without /proc or /dev/null."""
     while True:
         descriptor = os.open(os.devnull, os.O_RDWR | os.O_CLOEXEC)
         if descriptor > 2:
@@ -332,8 +369,8 @@ def keep_descriptors() -> None:
     os.close(descriptor)
 
 
-def end_group(group: int) -> None:
-    """Kills the processes of a group, if there are any that may be killed."""
+def kill_group(group: int) -> None:
+    """Kills the processes of a process group, except those that this user may not kill."""
     try:
         os.killpg(group, signal.SIGKILL)
     except OSError:

@@ -7,8 +7,8 @@ from typing import Callable
 
 
 class Saver:
-    """Calls `write` if `seconds` have passed since the last call. An OSError of it is passed over:
-    it comes again at the end, when the file is written for good."""
+    """Calls `write` if `seconds` have passed since the last call. An OSError of `write` is ignored:
+    the file is written once more at the check's end, when an error counts."""
 
     def __init__(
         self,
@@ -16,19 +16,19 @@ class Saver:
         seconds: float,
         clock: Callable[[], float] = time.monotonic,
     ) -> None:
-        """Counts the first `seconds` from here on, by the clock."""
+        """The first `seconds` begin now, by the clock."""
         self.write = write
         self.seconds = seconds
         self.clock = clock
-        self.saved = clock()
+        self.save_time = clock()
 
     def save_if_due(self) -> None:
-        """Calls `write` if `seconds` have passed since the last call, or since the Saver was made.
-        A call that failed counts."""
-        if self.clock() - self.saved < self.seconds:
+        """Calls `write` if `seconds` have passed since the last call ended, or since the Saver was
+        made. An OSError is ignored, and counts as a call; any other exception passes."""
+        if self.clock() - self.save_time < self.seconds:
             return
         try:
             self.write()
         except OSError:
             pass
-        self.saved = self.clock()
+        self.save_time = self.clock()

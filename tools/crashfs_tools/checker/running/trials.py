@@ -2,7 +2,7 @@
 
 from __future__ import annotations
 
-from dataclasses import dataclass, replace
+from dataclasses import dataclass, field, replace
 from functools import cached_property, lru_cache
 from typing import TYPE_CHECKING, Callable, Dict, Iterable, List, Optional, Sequence, Set, Tuple
 
@@ -13,7 +13,7 @@ from crashfs_tools.checker.states.layout import (
     TreesByState,
     trees_of_small_plan,
 )
-from crashfs_tools.checker.states.plan import Planned, State
+from crashfs_tools.checker.states.plan import PlannedTrace, State
 from crashfs_tools.common.command import TEXT, Refused
 from crashfs_tools.common.guard import Guard
 from crashfs_tools.common.limits import RUNS
@@ -24,8 +24,8 @@ from .cache import OutcomeCache, StateKeys
 from .progress import Pace, Progress, TooSlow
 from .recoveries import CommandRecovery, FunctionRecovery, StateRecovery
 from .results import Results
-from .runner import BAD, AcknowledgedLines, Checker, Outcome, do_nothing
-from .turns import states_in_turns
+from .runner import BAD, AcknowledgedLines, Checker, Outcome, do_nothing, refuse_left_processes
+from .batches import states_in_batches
 from .workers import OnOutcome, StateWorkers
 
 if TYPE_CHECKING:
@@ -42,53 +42,63 @@ ATTEMPTS = 3
 @dataclass
 class Workplace:
     """What all trials of a check share: its options, the program, the place for its files, the
-    acknowledged lines, what shows the progress, and the outcomes of earlier checks."""
+    acknowledged lines, what shows the progress, and the outcomes of earlier checks.
+    left_processes has those of COMMAND that could not be ended: while there are any, nothing more
+    is run."""
 
     options: Options
     program: Crashfs
     guard: Guard
-    says: AcknowledgedLines
+    acknowledged_lines: AcknowledgedLines
     progress: Progress
     cache: Optional[OutcomeCache] = None
+    left_processes: Dict[int, str] = field(default_factory=dict)
 
 
 class Trials:
-    """Tries the states of one plan. With keeps_trees all trees of a small plan are kept in memory:
-    that is for trials that need most of them."""
+    """Tries the states of one plan. With keeps_trees all trees of a small plan are kept in memory,
+    which pays for trials that need most of them."""
 
-    def __init__(self, workplace: Workplace, planned: Planned, keeps_trees: bool = False) -> None:
+    def __init__(
+        self, workplace: Workplace, planned: PlannedTrace, keeps_trees: bool = False
+    ) -> None:
+        """Nothing is read or started before it is needed."""
         self.workplace = workplace
         self.keeps_trees = keeps_trees
         self.options = workplace.options
         self.program = workplace.program
         self.guard = workplace.guard
-        self.says = workplace.says
+        self.acknowledged_lines = workplace.acknowledged_lines
         self.planned = planned
         self.plan = planned.plan
 
-    def for_recovery(self, planned: Planned, program: Crashfs) -> Trials:
-        """Trials of the states of a recovery: with the same COMMAND and workplace, but of another
-        plan, and with trees that another program makes."""
+    def with_plan(self, planned: PlannedTrace, program: Crashfs) -> Trials:
+        """Trials of another plan, such as that of a recovery, with the same COMMAND and workplace,
+        but with trees that another program makes. They keep the trees."""
         return Trials(replace(self.workplace, program=program), planned, keeps_trees=True)
 
     def new_checker(self) -> Checker:
-        """A checker for COMMAND, or for the function that takes its place. Its `life` isn't set:
-        StateWorkers sets it in each process."""
+        """A checker for COMMAND, or for the function in its place, with the environment that this
+        process has now. Its `life` is None: StateWorkers sets it in each process."""
         recovery: StateRecovery = CommandRecovery(self.options.command)
         if self.options.function is not None:
             recovery = FunctionRecovery(self.options.function)
-        return Checker(recovery, self.options.timeout, self.guard.environment, self.says)
+        return Checker(
+            recovery, self.options.timeout, self.guard.environment, self.acknowledged_lines
+        )
 
     def archive_layout(self, folder: str) -> Archive:
-        """A layout of states below a folder, in which each keeps a directory of its own."""
+        """A layout that makes states below a folder, each in a directory of its own. Reads
+        kept_trees: ProgramFault as there."""
         return Archive(self.program, self.planned, folder, self.guard.environment, self.kept_trees)
 
-    def new_layout(self, many: bool = False) -> Layout:
-        """A new layout, below the guard's directory or on the server of --serve. With `many` it may
-        be one that changes large trees from state to state, which pays for many states only.
-        Refused for a --uname or host that can't be; ProgramFault if the program fails."""
+    def new_layout(self, is_for_many: bool = False) -> Layout:
+        """A new layout, below the guard's directory or on the server of --serve. If is_for_many is
+        set, it may be one that changes a large tree from state to state, which is slow to begin.
+        Refused for a user of --uname or a host that can't be mounted from; ProgramFault if the
+        program fails; OSError if the trace can't be read."""
         if self.options.serve is None:
-            if many and self.are_trees_large and self.program.has_changes:
+            if is_for_many and self.are_trees_large and self.program.has_tar_changes:
                 from crashfs_tools.checker.states.kept_layout import KeptLayout
 
                 return KeptLayout(
@@ -103,14 +113,14 @@ class Trials:
 
     @cached_property
     def are_trees_large(self) -> bool:
-        """Whether the trace has so many start lines or bytes that its trees aren't kept in memory,
-        but changed from state to state."""
+        """Whether the trace has so many start lines or bytes that its trees aren't kept in
+        memory."""
         return has_large_trees(self.planned.trace)
 
     @cached_property
     def kept_trees(self) -> Optional[TreesByState]:
-        """All trees of the plan in memory, read once; None if they aren't kept, since they are
-        large, too many, or not asked for. ProgramFault if the program lacks one."""
+        """All trees of the plan in memory, read once. None if they aren't kept: they are large, too
+        many, or keeps_trees is False. ProgramFault if the program lacks one."""
         if not self.keeps_trees or self.are_trees_large:
             return None
         return trees_of_small_plan(self.program, self.planned, self.guard.environment)
@@ -120,67 +130,75 @@ class Trials:
         return self.trees([number])[0]
 
     def trees(self, numbers: Sequence[int]) -> List[Entries]:
-        """The trees of the states of these numbers, in their order, without the roots. If the
-        program lacks one: ProgramFault, or KeyError for its number."""
+        """The trees of the states of these numbers, in their order, without the roots. Entries may
+        be shared, and must not be changed. If the program lacks a tree: ProgramFault, or KeyError
+        for its number."""
         kept = self.kept_trees
         if kept is not None:
-            firsts = [self.plan.state(number).same for number in numbers]
-            return [{f'/{path}': entry for path, entry in kept[one] if path} for one in firsts]
-        found = {}
+            first_numbers = [self.plan.state(number).same for number in numbers]
+            return [
+                {f'/{path}': entry for path, entry in kept[first_number] if path}
+                for first_number in first_numbers
+            ]
+        trees = {}
         for request in self.planned.requests(numbers):
-            for own, tree in self.program.trees(request.words, self.guard.environment):
+            for own_number, tree in self.program.trees(request.options, self.guard.environment):
                 tree.pop('/', None)
-                found[own + request.lead] = tree
-        return [found[number] for number in numbers]
+                trees[own_number + request.number_offset] = tree
+        return [trees[number] for number in numbers]
 
-    def try_one(self, state: State, attempt: int = 0) -> Outcome:
-        """The outcome of a state, by a run of COMMAND or from the cache. Attempts of different
-        numbers, below ATTEMPTS, are different runs, which have their own outcomes in the cache."""
-        found: Dict[int, Outcome] = {}
-        self.find_outcomes(self.new_layout, {state.number}, found.__setitem__, attempt)
-        return found[state.number]
+    def try_state(self, state: State, attempt: int = 0) -> Outcome:
+        """The outcome of a state, by a run of COMMAND or from the cache. Each attempt, a number
+        below ATTEMPTS, has an outcome of its own in the cache. Exceptions as in find_outcomes()."""
+        outcomes: Dict[int, Outcome] = {}
+        self.find_outcomes(self.new_layout, {state.number}, outcomes.__setitem__, attempt)
+        return outcomes[state.number]
 
     def run_words(self, words: List[str], number: int) -> Tuple[Outcome, str]:
         """Runs other words than COMMAND in a state, in this process and never from the cache.
-        Returns their outcome, and the path that the state's directory had: it is gone by then.
-        Refused if they can't be started."""
+        Returns their outcome and the path of the state's directory, which is gone by then. Refused
+        if they can't be started, LeftRunning if they leave a process that can't be ended;
+        ProgramFault or OSError if the state can't be laid out."""
         checker = replace(self.new_checker(), recovery=CommandRecovery(words))
         layout = self.new_layout()
-        ((own, directory),) = layout.states({number})
-        with layout.laid_out(own, directory):
-            outcome = checker.run(own, self.plan.state(own).says, directory)
+        ((own_number, directory),) = layout.states({number})
+        with layout.laid_out(own_number, directory):
+            outcome = checker.run(own_number, self.plan.state(own_number).says, directory)
+        refuse_left_processes(checker.left_processes)
         return outcome, directory
 
-    def try_states(self, turns: Sequence[Set[int]], on_outcome: OnOutcome) -> None:
-        """Tries states, turn by turn, with their progress shown, and calls on_outcome with each
-        number and outcome. With --fail-fast the first failure ends its turn, and no other turn is
-        begun. An exception, such as Stopped, TimeUp or TooSlow, may come in between: on_outcome was
-        called for what was tried before."""
+    def try_states(self, batches: Sequence[Set[int]], on_outcome: OnOutcome) -> None:
+        """Tries the states of some batches, one batch after the other, shows their progress, and
+        calls on_outcome with each number and outcome. With --fail-fast the first failure ends its
+        batch, and no other one is begun. An exception, as of find_outcomes() or on_outcome, a
+        Stopped or a TimeUp, may come in between: on_outcome was called for all that was tried
+        before."""
         progress = self.workplace.progress
-        progress.begin_part(sum(map(len, turns)), self.planned.part_text())
-        seen: Set[str] = set()
+        progress.begin_part(sum(map(len, batches)), self.planned.window_text())
+        seen_results: Set[str] = set()
 
-        def note(number: int, outcome: Outcome) -> None:
+        def report_outcome(number: int, outcome: Outcome) -> None:
+            """Passes an outcome on, and counts it then, unless on_outcome raises."""
             on_outcome(number, outcome)
             progress.add_outcome(outcome)
-            seen.add(outcome.result)
+            seen_results.add(outcome.result)
 
         @lru_cache(None)
         def layout() -> Layout:
-            return self.new_layout(many=True)
+            return self.new_layout(is_for_many=True)
 
         try:
-            for turn in turns:
-                self.find_outcomes(layout, turn, note)
-                if self.options.fail_fast and BAD in seen:
+            for batch in batches:
+                self.find_outcomes(layout, batch, report_outcome)
+                if self.options.fail_fast and BAD in seen_results:
                     break
         finally:
             progress.end_part()
 
     @cached_property
     def state_keys(self) -> StateKeys:
-        """The keys of this plan's states in the cache."""
-        return StateKeys(self.planned.trace, self.plan, self.says.texts)
+        """The keys by which the cache has the outcomes of this plan's states."""
+        return StateKeys(self.planned.trace, self.plan, self.acknowledged_lines.texts)
 
     def find_outcomes(
         self,
@@ -189,33 +207,36 @@ class Trials:
         on_outcome: OnOutcome,
         attempt: int = 0,
     ) -> None:
-        """Gives on_outcome the outcome of each wanted state: from the cache, if that has it, else
-        by a run of COMMAND, whose outcome the cache gets. With --fail-fast it ends at the first
-        failure, also one that the cache has. `layout` is called, once, only if COMMAND runs.
-        Exceptions as in run_workers()."""
-        cache, left = self.workplace.cache, set(wanted)
+        """Gives on_outcome the outcome of each wanted state: first those in the cache, ascending,
+        then those of runs of COMMAND, which the cache gets. With --fail-fast it ends at the first
+        failure, also one in the cache. `layout` is called once, if any state must be run.
+        Exceptions as in run_workers() and `layout`; with a cache ReadingFault if the second reading
+        refuses the trace."""
+        cache, uncached = self.workplace.cache, set(wanted)
         if cache is None:
-            self.run_workers(layout(), left, on_outcome)
+            if uncached:
+                self.run_workers(layout(), uncached, on_outcome)
             return
         for number in sorted(wanted):
-            known = cache.outcome(self.state_keys.key(number, attempt))
-            if known is not None:
-                left.remove(number)
-                on_outcome(number, known)
-                if self.options.fail_fast and known.result == BAD:
+            cached_outcome = cache.look_up(self.state_keys.key(number, attempt))
+            if cached_outcome is not None:
+                uncached.remove(number)
+                on_outcome(number, cached_outcome)
+                if self.options.fail_fast and cached_outcome.result == BAD:
                     return
 
-        def keep(number: int, outcome: Outcome) -> None:
+        def keep_outcome(number: int, outcome: Outcome) -> None:
+            """Adds an outcome to the cache, and passes it on."""
             assert cache is not None
             cache.add(self.state_keys.key(number, attempt), outcome)
             on_outcome(number, outcome)
 
-        if left:
-            self.run_workers(layout(), left, keep)
+        if uncached:
+            self.run_workers(layout(), uncached, keep_outcome)
 
     def drop_from_cache(self, numbers: Iterable[int]) -> None:
-        """Drops the outcomes of all attempts in these states from the cache, if there is one: they
-        may be others the next time."""
+        """Drops the outcomes of all attempts in these states from the cache, if there is one: the
+        next check must run COMMAND there."""
         cache = self.workplace.cache
         if cache is not None:
             for number in numbers:
@@ -223,10 +244,11 @@ class Trials:
                     cache.drop(self.state_keys.key(number, attempt))
 
     def run_workers(self, layout: Layout, wanted: Set[int], on_outcome: OnOutcome) -> None:
-        """Runs COMMAND in some states, by processes that end with this one, and gives on_outcome
-        each outcome. With --fail-fast it ends at the first failure. The fault of a process is
-        raised, such as Refused, ProgramFault or OSError. In any case nothing runs afterwards, but
-        for what can't be ended."""
+        """Runs COMMAND in some states, in processes that end with this one, and gives on_outcome
+        each outcome. With --fail-fast it ends at the first failure. A fault of a process is raised,
+        such as Refused, ProgramFault or OSError. All has ended afterwards; if something can't be
+        ended, LeftRunning is raised, after all outcomes, and at once in each later call."""
+        refuse_left_processes(self.workplace.left_processes)
         options = self.options
         workers = StateWorkers(
             self.new_checker(), layout, options.jobs, on_outcome, options.fail_fast
@@ -235,61 +257,74 @@ class Trials:
             workers.run(wanted, {state.number: state.says for state in self.plan.listed})
         finally:
             workers.end(self.guard.end_processes)
-            self.guard.end_processes()
+            self.workplace.left_processes.update(
+                {**workers.left_processes, **self.guard.end_processes()}
+            )
+        refuse_left_processes(self.workplace.left_processes)
 
-    def wanted_states(self, results: Results) -> Set[int]:
-        """The numbers of the states of this shard to try, also those that have an outcome; of equal
-        states one. Refused if they are more than the runs of a server."""
+    def wanted_numbers(self, results: Results) -> Set[int]:
+        """The numbers of this shard's states to try, one for each trial, also of those that have an
+        outcome. Refused if --serve is given and they are more than the runs of a server."""
         shard = self.options.shard
-        firsts = {state for place, state in enumerate(results.wanted) if shard.has_place(place)}
-        if self.options.serve is not None and len(firsts) > RUNS:
+        numbers = {
+            number for place, number in enumerate(results.wanted_numbers) if shard.has_place(place)
+        }
+        if self.options.serve is not None and len(numbers) > RUNS:
             raise Refused(
-                f'{len(firsts):,} states are more than the {RUNS:,} runs of one server: '
+                f'{len(numbers):,} states are more than the {RUNS:,} runs of one server: '
                 'try them by --shard, each part with a server of its own'
             )
-        return firsts
+        return numbers
 
     def try_all(self, results: Results, after_each: Callable[[], None] = do_nothing) -> bool:
-        """Tries the states of the shard that have no outcome yet, and adds the outcomes to the
-        results; after_each is called after each. If all would take too long, only those of the
-        families are chosen. Returns whether all chosen ones have an outcome: after a failure with
-        --fail-fast some may not. After an exception the results have what was tried before."""
-        every = results.plan.all_states
-        if every is not None and not every.are_listed:
-            results.choose(states_in_turns(results, are_all=False))
-        pace = Pace(self.options.most_seconds if results.chosen is None else float('inf'))
+        """Tries the states of the shard that have no outcome yet, adds each outcome to the results,
+        and then calls after_each. Sets seconds_per_state of the results. If all crash states are
+        asked for, but are too many or too slow, only the families and what was drawn are chosen
+        there. Returns whether each state to try has an outcome: with --fail-fast some may lack it.
+        Exceptions as in try_states() and wanted_numbers()."""
+        all_states = results.plan.all_states
+        if all_states is not None and not all_states.are_listed:
+            results.choose(states_in_batches(results, has_all=False))
+        # Families alone are tried however long they take.
+        is_bounded = all_states is not None and results.chosen_numbers is None
+        pace = Pace(self.options.most_seconds if is_bounded else float('inf'))
 
-        def keep(number: int, outcome: Outcome) -> None:
+        def keep_outcome(number: int, outcome: Outcome) -> None:
+            """Keeps an outcome, before after_each or the pace may raise."""
             results.outcomes[number] = outcome
             after_each()
             pace.note_tried()
 
         while True:
-            left = self.wanted_states(results) - set(results.outcomes)
-            pace.begin(len(left))
+            left_numbers = self.wanted_numbers(results) - set(results.outcomes)
+            pace.begin(len(left_numbers))
             try:
-                self.try_states(self.turns_of(results, left), keep)
-                return left <= set(results.outcomes)
+                self.try_states(self.divide_in_batches(results, left_numbers), keep_outcome)
+                return left_numbers <= set(results.outcomes)
             except TooSlow:
-                results.choose(states_in_turns(results, are_all=False))
+                results.choose(states_in_batches(results, has_all=False))
             finally:
-                results.seconds = pace.seconds or results.seconds
+                results.seconds_per_state = pace.seconds or results.seconds_per_state
 
-    def turns_of(self, results: Results, left: Set[int]) -> List[Set[int]]:
-        """The states that are left, turn by turn, those first that find most: an early end then
-        misses least. All in one turn if the check won't end early."""
-        every = results.plan.all_states
-        is_whole = every is not None and every.are_listed and results.chosen is None
+    def divide_in_batches(self, results: Results, numbers: Set[int]) -> List[Set[int]]:
+        """Divides the numbers of states into batches, those first that find most: an early end then
+        misses least. One batch, which may be empty, if only families are asked for, or if the check
+        won't end early."""
+        all_states = results.plan.all_states
+        is_whole = (
+            all_states is not None and all_states.are_listed and results.chosen_numbers is None
+        )
         is_limited = self.options.time_limit is not None or self.options.fail_fast
-        if every is None or is_whole and not is_limited:
-            return [left]
-        found = [turn & left for turn in states_in_turns(results, are_all=is_whole)]
-        others = left - set().union(*found)
-        return [turn for turn in [*found, others] if turn]
+        if all_states is None or is_whole and not is_limited:
+            return [numbers]
+        batches = [batch & numbers for batch in states_in_batches(results, has_all=is_whole)]
+        other_numbers = numbers - set().union(*batches)
+        return [batch for batch in [*batches, other_numbers] if batch]
 
 
-def has_large_trees(trace: str) -> bool:
-    """Whether the trace of a path has at least MUCH_ENTRIES start lines, or MUCH_BYTES bytes: its
-    trees take longer to lay out than a recovery takes to look at them."""
-    with open(trace, **TEXT) as lines:
+def has_large_trees(trace_path: str) -> bool:
+    """Whether a trace has at least MUCH_ENTRIES start lines, or MUCH_BYTES bytes in its lines and
+    in the sizes that truncates set: then its trees take longer to lay out than a recovery runs.
+    OSError if the file can't be read, TraceError if a line is no JSON."""
+    with open(trace_path, **TEXT) as lines:
         return is_large_trace(lines, MUCH_ENTRIES, MUCH_BYTES)

@@ -15,15 +15,20 @@ from typing import Any, Callable, Dict, List, NoReturn, Optional, Set
 from crashfs_tools.checker.states.layout import Layout
 from crashfs_tools.common.command import Refused, ending_text
 from crashfs_tools.common.descendants import become_reaper
-from crashfs_tools.common.guard import STOPS, end_bearers, stops_blocked, with_token
+from crashfs_tools.common.guard import (
+    STOPS,
+    end_processes_with_token,
+    stop_signals_blocked,
+    with_token,
+)
 from crashfs_tools.common.program import ProgramFault
 
-from .runner import BAD, GOOD, GOOD_OUTCOME, TURN_SECONDS, CheckEnded, Checker, Outcome
+from .runner import BAD, GOOD, GOOD_OUTCOME, POLL_SECONDS, CheckEnded, Checker, Outcome
 
 # How long processes have to undo what they laid out before they are killed.
 ENDING_SECONDS = 5
 PIECE_BYTES = 1 << 16
-# A process says what it knows after so long.
+# A process sends its outcomes after so long.
 SENT_SECONDS = 0.05
 
 # Called with a state's number and its outcome.
@@ -32,57 +37,62 @@ OnOutcome = Callable[[int, Outcome], None]
 
 @dataclass
 class Worker:
-    """One process by its number, this end of its pipe, and what it has written so far of a line
-    that isn't whole."""
+    """One process of a check: its number, this end of its pipe, and the line of which its end isn't
+    read yet."""
 
     process: int
     pipe: int
-    rest: bytes = b''
+    partial_line: bytes = b''
 
-    def new_lines(self) -> Optional[List[bytes]]:
-        """The whole lines that it has written since the last call, maybe none; None at the end of
-        its pipe. BlockingIOError if the pipe is set not to block, and nothing is there."""
+    def read_lines(self) -> Optional[List[bytes]]:
+        """Waits for a piece of what the process writes, and returns the lines that end in it, maybe
+        none. None at the end of the pipe: a line without an end is dropped there. BlockingIOError
+        if the pipe is set not to block, and nothing is there."""
         piece = os.read(self.pipe, PIECE_BYTES)
-        *lines, self.rest = (self.rest + piece).split(b'\n')
+        *lines, self.partial_line = (self.partial_line + piece).split(b'\n')
         return lines if piece else None
 
 
 class Outbox:
-    """What a process reports by its pipe, some of it at a time. A line is the number of a state
-    that is good, or the JSON of another outcome or of a fault."""
+    """Lines that a process sends by its pipe, several at once. A line is the number of a state that
+    is good, or the JSON of another outcome, of a fault, or of the processes that are left."""
 
     def __init__(self, pipe: int) -> None:
+        """`pipe` is the end for writing, which is never closed here. The first SENT_SECONDS begin
+        now."""
         self.pipe = pipe
         self.lines: List[str] = []
-        self.sent = time.monotonic()
+        self.send_time = time.monotonic()
 
     def add_outcome(self, number: int, outcome: Outcome) -> None:
-        """Adds the outcome of a state. Sends all lines if the last time was SENT_SECONDS ago or
-        more."""
+        """Adds the outcome of a state. Then sends all lines, as send() does, if the last time was
+        SENT_SECONDS ago or more."""
         if outcome.result == GOOD:
             self.lines.append(f'{number}\n')
         else:
             self.add_fields({'state': number, 'outcome': outcome})
-        if time.monotonic() - self.sent >= SENT_SECONDS:
+        if time.monotonic() - self.send_time >= SENT_SECONDS:
             self.send()
 
     def add_fields(self, fields: Dict[str, Any]) -> None:
-        """Adds a line of JSON."""
+        """Adds these fields as a line of JSON, which is sent later."""
         self.lines.append(json.dumps(fields) + '\n')
 
     def send(self) -> None:
-        """Writes all lines that were added to the pipe, and waits if that is full."""
-        text = ''.join(self.lines).encode()
+        """Writes all lines that were added to the pipe, and waits while it is full. BrokenPipeError
+        if nobody reads it: the lines are lost then."""
+        unsent = ''.join(self.lines).encode()
         self.lines = []
-        while text:
-            text = text[os.write(self.pipe, text) :]
-        self.sent = time.monotonic()
+        while unsent:
+            unsent = unsent[os.write(self.pipe, unsent) :]
+        self.send_time = time.monotonic()
 
 
 class StateWorkers:
-    """Processes that share the states: of n jobs the k-th process has each n-th state. on_outcome
-    is called in this process. Each process ends when this one's end of the pipe `life` is closed,
-    also because this one was killed. Call run() once, and end() in any case."""
+    """Processes that share the states: of n processes the k-th one tries each n-th state.
+    on_outcome is called in this process. Each process ends when the pipe life_pipe has no writer
+    any more, also because this one was killed. Call run() once, and end() in any case; then
+    left_processes has what commands left that could not be ended."""
 
     def __init__(
         self,
@@ -92,114 +102,132 @@ class StateWorkers:
         on_outcome: OnOutcome,
         fail_fast: bool = False,
     ) -> None:
-        """Opens the pipe `life`, which end() closes. No process is started yet."""
+        """Opens the pipe of life_pipe and life_writer, which end() closes. OSError if too many
+        files are open. No process is started yet."""
         self.checker = checker
         self.layout = layout
         self.jobs = jobs
         self.on_outcome = on_outcome
         self.fail_fast = fail_fast
         self.has_failed = False
-        self.ending = False
+        self.is_ending = False
         self.workers: List[Worker] = []
-        self.life, self.alive = os.pipe()
+        # Processes of commands that could not be ended, with the names of their programs.
+        self.left_processes: Dict[int, str] = {}
+        self.life_pipe, self.life_writer = os.pipe()
 
-    def run(self, wanted: Set[int], says_of: Dict[int, int]) -> None:
-        """Runs the recovery in each wanted state; says_of has the number of acknowledged lines of
-        each. Returns when all processes have ended or, with fail_fast, at the first failure. The
-        first fault that a process reports is raised, as fault_of_fields() makes it; Refused if a
-        process was killed. Others may still run then."""
-        ordered = sorted(wanted)
-        jobs = min(self.jobs, len(ordered))
+    def run(self, wanted: Set[int], line_counts: Dict[int, int]) -> None:
+        """Runs the recovery in each wanted state, with as many acknowledged lines as line_counts
+        has by the state's number. Returns when all processes have ended or, with fail_fast, at the
+        first failure. Raises the first fault that a process reports, and what on_outcome raises;
+        Refused if a process was killed, OSError if none can be started. Other processes may still
+        run then."""
+        numbers = sorted(wanted)
+        jobs = min(self.jobs, len(numbers))
         for place in range(jobs):
-            self.start_worker(ordered[place::jobs], says_of)
+            self.start_worker(numbers[place::jobs], line_counts)
         poll = select.poll()
-        left = {worker.pipe: worker for worker in self.workers}
-        for pipe in left:
+        workers = {worker.pipe: worker for worker in self.workers}
+        for pipe in workers:
             poll.register(pipe, select.POLLIN)
-        while left and not self.ending:
-            # By turns: Python sees a signal that comes just as it begins to wait when it is over.
-            for pipe, _ in poll.poll(TURN_SECONDS * 1000):
-                if not self.read_outcomes(left[pipe]):
+        while workers and not self.is_ending:
+            # A signal that comes as a wait begins is handled only after it: so each wait is short.
+            for pipe, _ in poll.poll(POLL_SECONDS * 1000):
+                if not self.read_outcomes(workers[pipe]):
                     poll.unregister(pipe)
-                    self.reap_worker(left.pop(pipe))
+                    self.reap_worker(workers.pop(pipe))
 
     def read_outcomes(self, worker: Worker) -> bool:
-        """Waits for lines of a process, and takes them; returns False at the end of its pipe. A
+        """Waits for lines of a process, and handles them. Returns False at the end of its pipe. A
         fault among them is raised, and the lines after it are lost. BlockingIOError as in
-        Worker.new_lines()."""
-        lines = worker.new_lines()
+        Worker.read_lines()."""
+        lines = worker.read_lines()
         for line in lines or []:
-            self.take_line(line)
+            self.handle_line(line)
         return lines is not None
 
-    def start_worker(self, share: List[int], says_of: Dict[int, int]) -> None:
-        """Forks a process for a share of the states. OSError if the system has no room for it."""
-        reading, writing = os.pipe()
+    def start_worker(self, share: List[int], line_counts: Dict[int, int]) -> None:
+        """Forks a process for a share of the states, and adds it to `workers`. The signals of STOPS
+        do nothing in it: only end() ends it early. OSError if the system has no room for it."""
+        reader, writer = os.pipe()
         # A signal waits meanwhile: the new process takes none as this one does.
-        with stops_blocked() as before:
+        with stop_signals_blocked() as old_mask:
             process = os.fork()
             if process == 0:
-                for number in STOPS:
-                    if signal.getsignal(number) is not signal.SIG_IGN:
-                        signal.signal(number, lambda *_: None)
-                signal.pthread_sigmask(signal.SIG_SETMASK, before)
-                os.close(self.alive)
-                self.work(share, says_of, writing)
-        os.close(writing)
-        self.workers.append(Worker(process, reading))
+                for stop_signal in STOPS:
+                    if signal.getsignal(stop_signal) is not signal.SIG_IGN:
+                        signal.signal(stop_signal, lambda *_: None)
+                signal.pthread_sigmask(signal.SIG_SETMASK, old_mask)
+                os.close(self.life_writer)
+                # So that it doesn't wait for room in a pipe that nobody reads.
+                os.close(reader)
+                self.run_worker(share, line_counts, writer)
+        os.close(writer)
+        self.workers.append(Worker(process, reader))
 
-    def work(self, share: List[int], says_of: Dict[int, int], pipe: int) -> NoReturn:
-        """What the new process does: it tries its states, in ascending order, reports by its pipe,
-        and never returns. Any fault is reported, and ends it."""
+    def run_worker(self, share: List[int], line_counts: Dict[int, int], pipe: int) -> NoReturn:
+        """What the new process does: tries its states, ascending, and sends the outcomes by its
+        pipe; it never returns. It ends early if there is a fault, which it sends; if the check
+        ends; if a state fails, with fail_fast; and if nobody reads the pipe."""
+        # The collector then leaves alone, and so doesn't copy, the memory shared with the parent.
         gc.freeze()
         outbox = Outbox(pipe)
-        checker = self.own_checker(outbox)
+        checker = self.checker_for_worker(outbox)
         try:
             for number, directory in self.layout.states(set(share)):
                 with self.layout.laid_out(number, directory):
-                    outcome = checker.run(number, says_of[number], directory)
+                    outcome = checker.run(number, line_counts[number], directory)
                 outbox.add_outcome(number, outcome)
                 if self.fail_fast and outcome.result == BAD:
                     break
         except CheckEnded:
             pass
         except BaseException as fault:
-            outbox.add_fields(fields_of_fault(fault))
+            outbox.add_fields(fault_fields(fault))
         finally:
-            outbox.send()
-            os._exit(0)
+            try:
+                if checker.left_processes:
+                    outbox.add_fields({'left': list(checker.left_processes.items())})
+                outbox.send()
+            finally:
+                os._exit(0)
 
-    def own_checker(self, outbox: Outbox) -> Checker:
-        """The checker of a new process, which becomes the reaper of what its commands leave. If the
-        system has no reapers, the commands' environment gets a token of its own, by which the
-        checker finds what is left."""
-        checker = replace(self.checker, life=self.life, when_slow=outbox.send)
+    def checker_for_worker(self, outbox: Outbox) -> Checker:
+        """The checker of a new process, which becomes the reaper of what its commands leave. It
+        ends at the end of life_pipe, and sends the outbox's lines if a command is slow. If the
+        system has no reapers, the commands get a token of their own in their environment, by which
+        the checker finds what they leave."""
+        checker = replace(self.checker, life=self.life_pipe, when_slow=outbox.send)
         if not become_reaper():
             token = os.urandom(16).hex()
             checker.environment = with_token(checker.environment, token)
-            checker.end_bearers = partial(end_bearers, token)
+            checker.end_processes_with_token = partial(end_processes_with_token, token)
         return checker
 
-    def take_line(self, line: bytes) -> None:
-        """Gives on_outcome the outcome that a line of an Outbox has, or raises the fault that it
-        has. With fail_fast the first failure ends the run; failures after it are dropped."""
+    def handle_line(self, line: bytes) -> None:
+        """Handles a line of an Outbox: passes an outcome to on_outcome, adds processes to
+        left_processes, or raises a fault. With fail_fast the first failure sets is_ending; failures
+        after it are dropped."""
         if line.isdigit():
             self.on_outcome(int(line), GOOD_OUTCOME)
             return
         fields = json.loads(line)
+        if 'left' in fields:
+            self.left_processes.update(fields['left'])
+            return
         if 'state' not in fields:
-            raise fault_of_fields(fields)
+            raise fault_from_fields(fields)
         outcome = Outcome(*fields['outcome'])
         is_last = self.fail_fast and outcome.result == BAD
-        # Others may find a failing state before they hear of the first one.
+        # Other processes may find a failing state before they are ended.
         if not (is_last and self.has_failed):
             self.on_outcome(fields['state'], outcome)
         self.has_failed = self.has_failed or is_last
-        self.ending = self.ending or is_last
+        self.is_ending = self.is_ending or is_last
 
     def reap_worker(self, worker: Worker) -> None:
-        """Waits for a process whose pipe is at its end, and drops it. Refused if it didn't end with
-        status 0, as after a kill."""
+        """Waits for a process whose pipe is at its end, and drops it from `workers`. Refused if its
+        status isn't 0, as after a kill."""
         status = os.waitstatus_to_exitcode(os.waitpid(worker.process, 0)[1])
         self.workers.remove(worker)
         os.close(worker.pipe)
@@ -207,60 +235,63 @@ class StateWorkers:
             raise Refused(f'a process of this check {ending_text(status)}')
 
     def end(self, end_processes: Callable[[Set[int]], object]) -> None:
-        """Ends all processes. First end_processes() ends their commands: it must spare the
-        processes whose numbers it is given. Then it waits for ENDING_SECONDS, since processes must
-        undo what they laid out, and kills those that are left. on_outcome gets what they still
-        report."""
-        self.ending = True
-        os.close(self.alive)
+        """Ends all processes, and closes the pipe of life_pipe; call it once. Calls end_processes()
+        again and again to end their commands: it must spare the processes with the numbers that it
+        gets. After ENDING_SECONDS those that still run are killed. on_outcome gets what they still
+        send. After an exception some may be left, which end by themselves."""
+        self.is_ending = True
+        os.close(self.life_writer)
         deadline = time.monotonic() + ENDING_SECONDS
         while self.workers:
             end_processes({worker.process for worker in self.workers})
             for worker in list(self.workers):
-                self.end_one(worker, time.monotonic() > deadline)
+                self.end_worker(worker, time.monotonic() > deadline)
             if self.workers:
                 time.sleep(0.01)
-        os.close(self.life)
+        os.close(self.life_pipe)
 
-    def end_one(self, worker: Worker, is_late: bool) -> None:
-        """Reads what a process has reported, and drops the process if it has ended; one that is
-        late is killed first."""
+    def end_worker(self, worker: Worker, is_late: bool) -> None:
+        """Handles what a process has sent, and drops the process from `workers` if it has ended. If
+        is_late is set, it is killed and waited for first."""
         if is_late:
             os.kill(worker.process, signal.SIGKILL)
         has_ended = os.waitpid(worker.process, 0 if is_late else os.WNOHANG)[0]
-        self.read_last(worker)
+        self.read_last_lines(worker)
         if has_ended:
             os.close(worker.pipe)
             self.workers.remove(worker)
 
-    def read_last(self, worker: Worker) -> None:
-        """Takes the outcomes that a process has written by now, without waiting. Faults are passed
-        over: one is known already, or the end itself is the cause."""
+    def read_last_lines(self, worker: Worker) -> None:
+        """Handles the lines that a process has sent by now, without waiting. Stops without an error
+        at the first fault among them: a fault is known already, or the end is its cause."""
         os.set_blocking(worker.pipe, False)
         try:
             while self.read_outcomes(worker):
                 pass
-        except (BlockingIOError, OSError, Refused, ProgramFault, RuntimeError):
+        except (OSError, Refused, ProgramFault, RuntimeError):
             return
 
 
-def fields_of_fault(fault: BaseException) -> Dict[str, Any]:
-    """A fault as JSON, for fault_of_fields() in another process. Of types other than OSError,
-    ProgramFault and Refused only the text is kept."""
+def fault_fields(fault: BaseException) -> Dict[str, Any]:
+    """A fault as JSON, for fault_from_fields() in another process. An OSError with a number, a
+    ProgramFault and a Refused keep their type; a subclass of Refused becomes a Refused. Of any
+    other fault only the text is kept."""
     if isinstance(fault, OSError) and fault.errno is not None:
-        return {'fault': 'os', 'what': [fault.errno, fault.strerror, fault.filename]}
+        file_name = fault.filename
+        path = os.fsdecode(file_name) if isinstance(file_name, bytes) else file_name
+        return {'fault': 'os', 'what': [fault.errno, fault.strerror, path]}
     if isinstance(fault, ProgramFault):
         return {'fault': 'program', 'what': [fault.status, str(fault)]}
     kind = 'refused' if isinstance(fault, Refused) else 'other'
     return {'fault': kind, 'what': [str(fault) if kind == 'refused' else repr(fault)]}
 
 
-def fault_of_fields(fields: Dict[str, Any]) -> Exception:
-    """The fault that another process reported, of the same type if that is OSError, ProgramFault or
-    Refused; else a RuntimeError."""
-    what = fields['what']
+def fault_from_fields(fields: Dict[str, Any]) -> Exception:
+    """The fault that fault_fields() made these fields of: an OSError, a ProgramFault, a Refused, or
+    a RuntimeError for any other type."""
+    arguments = fields['what']
     if fields['fault'] == 'os':
-        return OSError(*what)
+        return OSError(*arguments)
     if fields['fault'] == 'program':
-        return ProgramFault(what[0], what[1].encode())
-    return Refused(what[0]) if fields['fault'] == 'refused' else RuntimeError(what[0])
+        return ProgramFault(arguments[0], arguments[1].encode())
+    return Refused(arguments[0]) if fields['fault'] == 'refused' else RuntimeError(arguments[0])

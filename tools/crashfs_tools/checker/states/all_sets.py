@@ -6,7 +6,7 @@ from __future__ import annotations
 import json
 from functools import cached_property
 from itertools import islice
-from typing import TYPE_CHECKING, Dict, Iterable, List, Optional, Protocol
+from typing import TYPE_CHECKING, Dict, Iterable, List, Optional, Protocol, Tuple
 
 from crashfs_tools.common.program import Crashfs, ProgramFault
 
@@ -15,7 +15,7 @@ from .plan import Needs, PlanError
 
 if TYPE_CHECKING:
     from crashfs_tools.reading import Reading, StateList
-    from crashfs_tools.reading.order import Order
+    from crashfs_tools.reading.order import Order, Profiles
 
 # What the program says if there are too many sets.
 TOO_MANY = ('more than ', 'too many sets')
@@ -30,95 +30,110 @@ class AllSets(Protocol):
 
     @property
     def are_read(self) -> bool:
-        """Whether the second reading found them. This is known after different_sets()."""
+        """Whether the second reading found them, or some of them. This is known after
+        different_sets(), and drawn_sets() if sets are drawn."""
 
     def count_sets(self) -> Optional[int]:
         """How many they are; None if they are too many to count. Call it after different_sets()."""
 
-    def different_sets(self, most: int) -> Optional[List[int]]:
-        """A set for each different state, the first of those that leave it; None if there are more
-        than `most` states."""
+    def different_sets(self, most: int, profile: str = '') -> Optional[List[int]]:
+        """A set for each different state that the profile of a name allows, by default the trace's
+        own: the first of those that leave it. None if there are more than `most` states."""
 
     def drawn_sets(self, count: int, seed: int) -> Optional[List[int]]:
         """`count` sets, drawn at random, each time from all: a set may come several times. The same
         seed draws the same ones. None if the sets are too many to count."""
 
 
-def all_sets(program: Crashfs, environment: Dict[str, str], read: ReadSets) -> AllSets:
-    """The sets of a trace: by the program if it lists them, and in time; else by the second reading
-    of the trace, which is `read`."""
-    if program.unproved or not is_for_program(read.reading):
-        return read
-    return ProgramSets(program, environment, read)
+def all_sets(program: Crashfs, environment: Dict[str, str], reading_sets: ReadingSets) -> AllSets:
+    """The sets of a trace: by the program, if it is proved and can_program_find_sets(); else by the
+    second reading. Nothing is computed yet."""
+    if program.is_unproved or not can_program_find_sets(reading_sets.reading):
+        return reading_sets
+    return ProgramSets(program, environment, reading_sets)
 
 
-def is_for_program(reading: Reading) -> bool:
-    """Whether the program finds the sets that a check tries, and in time: the start tree's files
-    have at most START_BYTES together, and the version is at least ACKNOWLEDGED_FIRST."""
-    is_small = sum(data.length for data in reading.made_data.values()) <= START_BYTES
+def can_program_find_sets(reading: Reading) -> bool:
+    """Whether the program can find the sets that a check tries, in reasonable time: the start
+    tree's files have at most START_BYTES together, and the version is at least
+    ACKNOWLEDGED_FIRST."""
+    is_small = sum(data.length for data in reading.initial_data.values()) <= START_BYTES
     return is_small and reading.version >= ACKNOWLEDGED_FIRST
 
 
 class ProgramSets:
     """The sets by the program's `picks`. If the program doesn't know an option of it, the second
-    reading answers: to ask first which options it has would be one more start of it. A ProgramFault
-    of another kind is raised."""
+    reading answers; to ask for the known options first would be one more start of the program. Any
+    other ProgramFault is raised, and a PlanError if it prints what is no set."""
 
-    def __init__(self, program: Crashfs, environment: Dict[str, str], read: ReadSets) -> None:
+    def __init__(
+        self, program: Crashfs, environment: Dict[str, str], reading_sets: ReadingSets
+    ) -> None:
+        """The environment is the program's. reading_sets has the trace, and its sets by the second
+        reading."""
         self.program = program
         self.environment = environment
-        self.read = read
+        self.reading_sets = reading_sets
         self.are_read = False
 
     def count_sets(self) -> Optional[int]:
-        """How many sets the rules allow, by the program, or by the second reading if
-        different_sets() needed it. None if they are too many to count."""
+        """How many sets the rules allow: by the second reading if that has found sets already, else
+        by the program. None if they are too many to count, or if the program prints no number.
+        ProgramFault also if it doesn't know the option."""
         if self.are_read:
-            return self.read.count_sets()
+            return self.reading_sets.count_sets()
         lines = self.printed_lines(['--every', '--count'])
         return int(lines[0]) if lines and lines[0].strip().isdigit() else None
 
-    def different_sets(self, most: int) -> Optional[List[int]]:
-        """Asks `picks --every --different`. If the program doesn't know these options, the second
-        reading answers, and are_read is True from then on."""
+    def different_sets(self, most: int, profile: str = '') -> Optional[List[int]]:
+        """Asks `picks --every --different`. The second reading answers if the program doesn't know
+        an option, or reports that a profile has too many sets: the second reading may have an
+        answer then. If it answers, are_read is True from then on."""
+        profile_options = ['--profile', profile] if profile else []
         try:
-            return self.printed_sets(['--every', '--different', '--most', str(most)])
+            sets = self.printed_sets(
+                ['--every', '--different', '--most', str(most), *profile_options]
+            )
         except ProgramFault as fault:
             if not fault.is_unknown_option:
                 raise
+        else:
+            if sets is not None or not profile:
+                return sets
         self.are_read = True
-        return self.read.different_sets(most)
+        return self.reading_sets.different_sets(most, profile)
 
     def drawn_sets(self, count: int, seed: int) -> Optional[List[int]]:
-        """Asks `picks --sample`, or the second reading if the program doesn't know that option:
-        are_read doesn't show this."""
+        """Asks `picks --sample`. The second reading answers if the program doesn't know that
+        option: are_read is True from then on."""
         try:
             return self.printed_sets(['--sample', str(count), '--seed', str(seed)])
         except ProgramFault as fault:
             if not fault.is_unknown_option:
                 raise
-        return self.read.drawn_sets(count, seed)
+        self.are_read = True
+        return self.reading_sets.drawn_sets(count, seed)
 
     def printed_sets(self, options: List[str]) -> Optional[List[int]]:
         """The sets that `picks` prints for some options; None if it reports that they are too many.
-        PlanError for a line that is no set, and a ProgramFault as printed_lines() raises it."""
+        PlanError for a line that is no set, ProgramFault as in printed_lines()."""
         lines = self.printed_lines(options)
-        return None if lines is None else [set_of_line(line) for line in lines]
+        return None if lines is None else [parse_set(line) for line in lines]
 
     def printed_lines(self, options: List[str]) -> Optional[List[str]]:
         """The lines that `picks` prints for some options; None if it reports that the sets are too
-        many. ProgramFault for any other fault, also an option that the program doesn't know."""
-        words = ['picks', '--trace', self.read.trace, *options]
+        many. ProgramFault for any other fault, also for an option that the program doesn't know."""
+        words = ['picks', '--trace', self.reading_sets.trace, *options]
         try:
             return self.program.output_of(words, self.environment).splitlines()
         except ProgramFault as fault:
-            if any(one in fault.text for one in TOO_MANY):
+            if any(text in fault.text for text in TOO_MANY):
                 return None
             raise
 
 
-def set_of_line(line: str) -> int:
-    """The set of a line of a picks file, which is an array of places; PlanError for any other
+def parse_set(line: str) -> int:
+    """The set in a line of a picks file, which is an array of places. PlanError for any other
     line."""
     try:
         return set_of(json.loads(line))
@@ -126,7 +141,7 @@ def set_of_line(line: str) -> int:
         raise PlanError(f'crashfs picks printed: {line}') from error
 
 
-class ReadSets:
+class ReadingSets:
     """The sets by the second reading, in this process. In older traces too it finds no set that
     lacks an acknowledged line and has something after it: a program prints a line before it
     continues."""
@@ -134,27 +149,28 @@ class ReadSets:
     are_read = True
 
     def __init__(self, trace: str) -> None:
-        """Reads the file of a trace; ReadingFault if it has a fault."""
-        from crashfs_tools.reading import read
+        """Reads the file of a trace. OSError if it can't be read, ReadingFault if the trace has a
+        fault."""
+        from crashfs_tools.reading import parse_trace
 
         self.trace = trace
         with open(trace, 'rb') as file:
-            self.reading = read(file.read())
+            self.reading = parse_trace(file.read())
 
     @cached_property
     def orders(self) -> Dict[str, Order]:
-        """The order that a file system of each profile keeps, by the profile's name. In it
-        acknowledged lines come first, also in older traces."""
-        from crashfs_tools.reading.order import orders_in
+        """The order that a file system of each profile keeps, by the profile's name. Acknowledged
+        lines come first in it, also in older traces."""
+        from crashfs_tools.reading.order import orders_by_profile
 
-        orders = orders_in(self.reading)
+        orders = orders_by_profile(self.reading)
         if self.reading.version >= ACKNOWLEDGED_FIRST:
             return orders
-        return {name: one.acknowledged_first(self.reading) for name, one in orders.items()}
+        return {name: order.with_earlier_lines(self.reading) for name, order in orders.items()}
 
     @cached_property
-    def plan(self) -> StateList:
-        """The order and the trees of the trace, in a list without states. Its order is the trace's
+    def state_list(self) -> StateList:
+        """The order and the trees of the trace, in a list without states. The order is the trace's
         own: in older traces acknowledged lines don't come first in it."""
         from crashfs_tools.reading import StateList
 
@@ -163,24 +179,36 @@ class ReadSets:
     @cached_property
     def needs(self) -> Needs:
         """What each micro-operation needs, itself included, as `list --json` prints it."""
-        return Needs([mask | 1 << place for place, mask in enumerate(self.plan.order.needs)])
+        return Needs([mask | 1 << place for place, mask in enumerate(self.state_list.order.needs)])
 
-    def has_pending(self, count: int) -> bool:
-        """Whether one of the first `count` micro-operations isn't durable yet when the next one
+    def has_pending(self, end: int) -> bool:
+        """Whether a micro-operation before place `end` isn't durable yet when the one at `end`
         comes. Acknowledged lines don't count."""
-        return self.plan.order.pending(count) & ~self.plan.trees.says != 0
+        return self.state_list.order.pending_set(end) & ~self.state_list.trees.says != 0
 
-    def profile_bits_of(self, sets: Iterable[int]) -> List[int]:
-        """For each set, in their order, the profiles that allow it, as bits: bit k is the k-th name
-        of `orders`."""
+    @cached_property
+    def profile_names(self) -> Tuple[str, ...]:
+        """The names of the trace's profiles, as in `orders`; no order is computed for them."""
+        from crashfs_tools.reading.order import profile_names
+
+        return tuple(profile_names(self.reading))
+
+    @cached_property
+    def profiles(self) -> Profiles:
+        """The second reading's answer to which profiles allow a set."""
         from crashfs_tools.reading.order import Profiles
 
-        profiles, names = Profiles(self.reading), list(self.orders)
-        return [set_of(map(names.index, profiles.names(kept))) for kept in sets]
+        return Profiles(self.reading)
+
+    def profile_bits(self, sets: Iterable[int]) -> List[int]:
+        """For each set, in their order, the profiles that allow it, as bits: bit k is that of the
+        k-th of profile_names."""
+        place_of = self.profile_names.index
+        return [set_of(map(place_of, self.profiles.names_allowing(members))) for members in sets]
 
     def order(self, profile: str = '') -> Order:
-        """The order of the profile of a name, or of the trace's own profile if that is empty;
-        KeyError for a profile that the trace doesn't have."""
+        """The order of the profile with this name, or of the trace's own profile if the name is
+        empty. KeyError for a profile that the trace doesn't have."""
         return self.orders[profile or self.reading.profile]
 
     def count_sets(self) -> Optional[int]:
@@ -196,11 +224,11 @@ class ReadSets:
     def different_sets(self, most: int, profile: str = '') -> Optional[List[int]]:
         """As AllSets says, of the sets that the profile of a name allows, by default the trace's
         own. KeyError for a profile that the trace doesn't have."""
-        from crashfs_tools.reading.classes import Classes
+        from crashfs_tools.reading.classes import SetClasses
 
-        members = Classes(self.reading, self.order(profile)).different()
-        found = list(islice(members, most + 1))
-        return found if len(found) <= most else None
+        all_different = SetClasses(self.reading, self.order(profile)).different_sets()
+        sets = list(islice(all_different, most + 1))
+        return sets if len(sets) <= most else None
 
     def drawn_sets(self, count: int, seed: int) -> Optional[List[int]]:
         """Sets as AllSets says, drawn from those that the trace's own profile allows."""

@@ -4,7 +4,7 @@ from __future__ import annotations
 
 from typing import Iterator, List, NamedTuple, Optional
 
-from crashfs_tools.common.archive import ArchiveFault, Member, number_of_state
+from crashfs_tools.common.archive import ArchiveFault, Member, parse_state_number
 from crashfs_tools.common.entry import Entries
 
 ENDING = '.missing'
@@ -19,9 +19,9 @@ class Changes(NamedTuple):
     missing: List[str]
     entries: Entries
 
-    def applied(self, start: Entries) -> Entries:
-        """The state's tree, as a new map whose entries are shared: the start tree with the changes.
-        KeyError if the start tree lacks a path that the state lacks."""
+    def apply_to(self, start: Entries) -> Entries:
+        """The state's tree, as a new map which shares the entries: the start tree with these
+        changes. KeyError if the start tree lacks one of the missing paths."""
         tree = dict(start)
         for path in self.missing:
             del tree[path]
@@ -29,20 +29,21 @@ class Changes(NamedTuple):
 
 
 def read_changes(members: Iterator[Member]) -> Iterator[Changes]:
-    """Yields the changes of each state, in the order of the archive. A state's list of missing
-    paths, a file NUMBER.missing at the archive's top, comes first, and then its entries.
-    ArchiveFault if an entry comes before its list, or if a NUMBER is no number."""
+    """Yields the changes of each state, in the order of the archive, once the next state begins or
+    the archive ends. A state begins with its list of missing paths: a file NUMBER.missing with a
+    NUL after each path. Its entries follow. ArchiveFault if an entry comes before its list, if a
+    NUMBER is no number, or as `members` raises it."""
     changes: Optional[Changes] = None
-    for whole, entry in members:
-        top, _, path = whole.partition('/')
-        if not path and top.endswith(ENDING):
+    for member_path, entry in members:
+        first_name, _, path = member_path.partition('/')
+        if not path and first_name.endswith(ENDING):
             if changes is not None:
                 yield changes
-            shown = bytes(entry.data or b'').decode('utf-8', 'surrogateescape').split('\0')
-            number = number_of_state(top[: -len(ENDING)])
-            changes = Changes(number, [name.rstrip('/') for name in shown[:-1]], {})
-        elif changes is None or number_of_state(top) != changes.number:
-            raise ArchiveFault(f'{whole} comes before a list of what is missing')
+            paths = bytes(entry.data or b'').decode('utf-8', 'surrogateescape').split('\0')
+            number = parse_state_number(first_name[: -len(ENDING)])
+            changes = Changes(number, [name.rstrip('/') for name in paths[:-1]], {})
+        elif changes is None or parse_state_number(first_name) != changes.number:
+            raise ArchiveFault(f'{member_path} comes before a list of what is missing')
         else:
             changes.entries[path] = entry
     if changes is not None:

@@ -7,19 +7,19 @@ from typing import Dict, List
 from .plan import Plan, State
 
 
-def joined_states(trace: str, plan: Plan) -> List[State]:
-    """The listed states of a plan, each with `same` as the first state with an equal tree in any
-    part. The second reading of the trace at a path compares the trees; ReadingFault if it refuses
-    the trace."""
-    from crashfs_tools.reading import read
+def joined_states(trace_path: str, plan: Plan) -> List[State]:
+    """The listed states of a plan, each with `same` as the first state in any part with an equal
+    tree. The second reading of the trace at trace_path compares the trees: ReadingFault if it
+    refuses the trace, OSError if the file can't be read. The plan stays as it is."""
+    from crashfs_tools.reading import parse_trace
     from crashfs_tools.reading.states import Digest, States
 
-    with open(trace, 'rb') as file:
-        trees = States(read(file.read()))
-    numbers: Dict[Digest, int] = {}
-    first_of: Dict[int, int] = {}
+    with open(trace_path, 'rb') as file:
+        trees = States(parse_trace(file.read()))
+    first_numbers: Dict[Digest, int] = {}
+    first_equal_numbers: Dict[int, int] = {}
     for state in plan.listed:
         if state.same == state.number:
             digest = trees.digest(plan.kept[state.number])
-            first_of[state.number] = numbers.setdefault(digest, state.number)
-    return [state._replace(same=first_of[state.same]) for state in plan.listed]
+            first_equal_numbers[state.number] = first_numbers.setdefault(digest, state.number)
+    return [state._replace(same=first_equal_numbers[state.same]) for state in plan.listed]

@@ -15,9 +15,9 @@ import time
 from typing import Dict, Iterator, List, Mapping, NamedTuple, Optional, Set, Tuple, Union
 
 from crashfs_tools.common.entry import Entry
-from crashfs_tools.common.file_bytes import file_bytes
+from crashfs_tools.common.file_bytes import read_file_bytes
 from crashfs_tools.common.mount_table import MountTable
-from crashfs_tools.common.removal import FOLDER, LEFT, remove_tree, set_folder_mode
+from crashfs_tools.common.removal import FOLDER, TRASH_ENDING, remove_tree, set_folder_mode
 
 from .layout import FILLED_MODE, NEW_FILE, make_links, unused_path, write_all
 from .rewriting import Bytes, rewrite
@@ -38,7 +38,7 @@ Signature = Tuple[int, ...]
 RIGHTS = 5
 
 
-class Laid(NamedTuple):
+class LaidFile(NamedTuple):
     """A file as it was written. attributes are the names of its extended attributes; of a small
     file, which is never changed in place, they aren't read."""
 
@@ -48,8 +48,8 @@ class Laid(NamedTuple):
 
 
 class Unchangeable(Exception):
-    """A directory can't be changed to a tree: it has extended attributes, a mount, or something
-    that can't be removed."""
+    """A directory can't be changed to a tree: one in it has another owner or other extended
+    attributes than a new one, or it has a mount, or something that can't be removed."""
 
 
 class KeptTree:
@@ -64,21 +64,23 @@ class KeptTree:
         # Whether the directory has the last tree, but for what COMMAND changed.
         self.is_whole = False
         # The files as they were written, by path.
-        self.files: Dict[str, Laid] = {}
+        self.files: Dict[str, LaidFile] = {}
         # Of the change that is made: the paths that are there, and the modes of directories.
-        self.there: Set[str] = set()
+        self.remaining_paths: Set[str] = set()
         self.modes: Dict[str, int] = {}
         # When COMMAND started, in nanoseconds of the clock of files.
-        self.started = 0
-        # Whether the file system's times show each store, and which extended attributes a new
-        # directory has.
+        self.command_start = 0
+        # Whether the file system's times show each store, and which extended attributes and which
+        # users and groups a new directory may have.
         self.has_times = False
         self.attributes: List[str] = []
+        self.owners: Set[Tuple[int, int]] = set()
 
     def change_to(self, tree: Mapping[str, Entry]) -> None:
         """Gives the directory a tree, whose paths are relative, the root's empty: by changes or, if
-        something can't be changed, from scratch in a new directory. OSError if that can't be made
-        or filled; the next call begins from scratch then."""
+        something can't be changed, from scratch in a new directory, after which it sleeps
+        TICK_SECONDS. OSError if that can't be made or filled; the next call begins from scratch
+        then."""
         if self.is_whole:
             try:
                 self.change(tree)
@@ -87,8 +89,11 @@ class KeptTree:
                 pass
         self.remove()
         os.mkdir(self.directory, FILLED_MODE)
-        self.has_times = file_system_of(self.directory) in WITH_TIMES
-        self.attributes = attributes_of(self.directory)
+        self.has_times = file_system_type(self.directory) in WITH_TIMES
+        self.attributes = attribute_names(self.directory)
+        status = os.lstat(self.directory)
+        # The group may be that of the directory around it.
+        self.owners = {(status.st_uid, status.st_gid), (os.geteuid(), os.getegid())}
         self.change(tree)
         self.is_whole = True
         # Files that are as old as COMMAND count as changed by it.
@@ -97,160 +102,183 @@ class KeptTree:
     def note_start(self) -> None:
         """Notes the time at which COMMAND starts. What is written in this tick of the clock of
         files, or later, counts as changed by it."""
-        self.started = time.clock_gettime_ns(REALTIME_COARSE)
+        self.command_start = time.clock_gettime_ns(REALTIME_COARSE)
 
     def remove(self) -> None:
         """Removes the directory. If some of it can't be removed, the next tree gets a directory
-        with another path."""
+        with another path. OSError as remove_tree()."""
         if not remove_tree(self.directory):
             self.directory = unused_path(self.directory)
         self.is_whole, self.files = False, {}
 
     def change(self, tree: Mapping[str, Entry]) -> None:
-        """Changes in the directory what differs from the tree. Unchangeable, or an OSError, if
-        something can't be changed: the directory then has neither the old tree nor the new one."""
-        if self.mounts.below(self.directory):
+        """Changes in the directory what differs from the tree; the umask is 0 meanwhile.
+        Unchangeable, or an OSError, if something can't be changed: the directory may then have
+        neither the old tree nor the new one."""
+        if self.mounts.points_below(self.directory):
             raise Unchangeable
-        self.there, self.modes = {''}, {}
-        umask = os.umask(0)
+        self.remaining_paths, self.modes = {''}, {}
+        old_umask = os.umask(0)
         try:
             self.open_up('', self.directory, None, os.lstat(self.directory))
-            at = os.open(self.directory, FOLDER)
+            root = os.open(self.directory, FOLDER)
             try:
-                self.clear(at, '', tree)
-                self.files = {path: self.files[path] for path in self.there if path in self.files}
-                for path, one in tree.items():
-                    if path not in self.there:
-                        self.make_entry(at, path, one)
+                self.clear(root, '', tree)
+                self.files = {
+                    path: self.files[path] for path in self.remaining_paths if path in self.files
+                }
+                for path, entry in tree.items():
+                    if path not in self.remaining_paths:
+                        self.make_entry(root, path, entry)
                 # Until now no symbolic link is there: nothing was made or changed through one.
-                make_links(links_of(tree), at)
-                self.set_modes(at, tree)
+                make_links(symbolic_links(tree), root)
+                self.set_modes(root, tree)
             finally:
-                os.close(at)
+                os.close(root)
         finally:
-            os.umask(umask)
+            os.umask(old_umask)
 
-    def clear(self, at: int, path: str, tree: Mapping[str, Entry]) -> None:
-        """Removes below a path, whose directory is open as `at`, what the tree doesn't have or must
-        have made again, and all symbolic links. A large file may get its new bytes in place. What
-        stays is added to `there`. Unchangeable if something can't be removed, or if a directory has
-        other extended attributes than a new one."""
-        if attributes_of(at) != self.attributes:
+    def clear(self, folder: int, path: str, tree: Mapping[str, Entry]) -> None:
+        """Removes below a path, whose directory is open as `folder`, what the tree doesn't have or
+        must have made again, and all symbolic links. A large file may get its new bytes in place.
+        What stays is added to remaining_paths. Unchangeable if a directory can't be removed, or
+        hasn't the owner and attributes of a new one; OSError if anything else can't be removed or
+        changed."""
+        if attribute_names(folder) != self.attributes:
             raise Unchangeable
-        with os.scandir(at) as entries:
-            found = list(entries)
-        for entry in found:
-            name = f'{path}/{entry.name}' if path else entry.name
-            wanted = tree.get(name)
+        with os.scandir(folder) as entries:
+            found_entries = list(entries)
+        for entry in found_entries:
+            entry_path = f'{path}/{entry.name}' if path else entry.name
+            wanted_entry = tree.get(entry_path)
             status = entry.stat(follow_symlinks=False)
             if not stat.S_ISDIR(status.st_mode):
-                if wanted is not None and (
-                    self.has_file(at, name, wanted, status)
-                    or self.change_bytes(at, name, wanted, status)
+                if wanted_entry is not None and (
+                    self.has_file(folder, entry_path, wanted_entry, status)
+                    or self.change_bytes(folder, entry_path, wanted_entry, status)
                 ):
-                    self.there.add(name)
+                    self.remaining_paths.add(entry_path)
                 else:
-                    os.unlink(entry.name, dir_fd=at)
-            elif wanted is None or not wanted.is_directory:
-                if not remove_tree(entry.name, at, self.directory + LEFT):
+                    os.unlink(entry.name, dir_fd=folder)
+            elif wanted_entry is None or not wanted_entry.is_directory:
+                if not remove_tree(entry.name, folder, self.directory + TRASH_ENDING):
                     raise Unchangeable
             else:
-                self.clear_directory(at, entry.name, name, status, tree)
+                self.clear_directory(folder, entry.name, entry_path, status, tree)
 
     def clear_directory(
-        self, at: int, name: str, path: str, status: os.stat_result, tree: Mapping[str, Entry]
+        self, folder: int, name: str, path: str, status: os.stat_result, tree: Mapping[str, Entry]
     ) -> None:
-        """Clears a directory that the tree has too, and adds it to `there`. name is its name below
-        the open directory `at`, path its whole path."""
-        self.open_up(path, name, at, status)
-        below = os.open(name, FOLDER, dir_fd=at)
+        """Clears a directory that the tree has too, and adds it to remaining_paths. `name` is its
+        name in the open directory `folder`, `path` its whole path in the tree. Unchangeable and
+        OSError as in clear()."""
+        self.open_up(path, name, folder, status)
+        directory = os.open(name, FOLDER, dir_fd=folder)
         try:
-            self.clear(below, path, tree)
+            self.clear(directory, path, tree)
         finally:
-            os.close(below)
-        self.there.add(path)
+            os.close(directory)
+        self.remaining_paths.add(path)
 
-    def open_up(self, path: str, name: str, at: Optional[int], status: os.stat_result) -> None:
+    def open_up(self, path: str, name: str, folder: Optional[int], status: os.stat_result) -> None:
         """Gives a directory the rights that changes need, if it lacks them, and notes the mode that
-        it has then by its path. name is its name below the open directory `at`, or its path if that
-        is None."""
+        it has then in `modes`, by its path in the tree. `name` is its name in the open directory
+        `folder`, or its absolute path if that is None. OSError if the mode can't be set,
+        Unchangeable if owner and group aren't those of a new directory."""
+        if (status.st_uid, status.st_gid) not in self.owners:
+            raise Unchangeable
         mode = stat.S_IMODE(status.st_mode)
         if mode & FILLED_MODE != FILLED_MODE:
-            set_folder_mode(name, FILLED_MODE, at)
+            set_folder_mode(name, FILLED_MODE, folder)
             mode = FILLED_MODE
         self.modes[path] = mode
 
-    def has_file(self, at: int, path: str, wanted: Entry, status: os.stat_result) -> bool:
-        """Whether the file of a path is still as it was written, and as it is wanted. `at` is its
-        open directory, and status its own, by lstat. Its bytes are read only if the file system's
-        times don't show each store."""
-        laid = self.files.get(path)
-        if laid is None or laid.entry != wanted or not self.is_as_laid(laid, status):
+    def has_file(self, folder: int, path: str, wanted_entry: Entry, status: os.stat_result) -> bool:
+        """Whether the file at a path still is as it was written, and is as it is wanted. `folder`
+        is its open directory, `status` its own, by lstat. Its bytes are read only if the file
+        system's times don't show each store; OSError if they can't be read."""
+        laid_file = self.files.get(path)
+        if (
+            laid_file is None
+            or laid_file.entry != wanted_entry
+            or not self.is_as_laid(laid_file, status)
+        ):
             return False
-        return self.has_times or bytes_of(at, path.rpartition('/')[2]) == wanted.data
+        return self.has_times or read_bytes(folder, path.rpartition('/')[2]) == wanted_entry.data
 
-    def is_as_laid(self, laid: Laid, status: os.stat_result) -> bool:
-        """Whether a file has the status with which it was written, in a tick of the clock before
-        COMMAND started. On some file systems its bytes may differ nevertheless."""
-        return laid.signature == signature_of(status) and status.st_ctime_ns < self.started
+    def is_as_laid(self, laid_file: LaidFile, status: os.stat_result) -> bool:
+        """Whether a file has the status with which it was written, before the tick of the clock in
+        which COMMAND started. On some file systems its bytes may differ nevertheless."""
+        return (
+            laid_file.signature == signature_of(status) and status.st_ctime_ns < self.command_start
+        )
 
-    def change_bytes(self, at: int, path: str, wanted: Entry, status: os.stat_result) -> bool:
-        """Gives a large file its wanted bytes in place; `at` is its open directory. Returns False,
-        and changes nothing, if the file must be made again: COMMAND replaced it or changed more
-        than its bytes, its mode must change, it is small, or the file system's times don't show
-        each store."""
-        laid = self.files.get(path)
+    def change_bytes(
+        self, folder: int, path: str, wanted_entry: Entry, status: os.stat_result
+    ) -> bool:
+        """Gives a large file its wanted bytes in place; `folder` is its open directory. Returns
+        False, and changes nothing, if the file must be made again: COMMAND replaced it or changed
+        more than its bytes, its mode must change, it is small or can't be opened, or the file
+        system's times don't show each store. After an OSError it may have some of the bytes."""
+        laid_file = self.files.get(path)
         if (
             not self.has_times
-            or laid is None
-            or laid.entry.mode != wanted.mode
-            or not is_large(wanted)
-            or laid.signature[:RIGHTS] != signature_of(status)[:RIGHTS]
+            or laid_file is None
+            or laid_file.entry.mode != wanted_entry.mode
+            or not is_large(wanted_entry)
+            or laid_file.signature[:RIGHTS] != signature_of(status)[:RIGHTS]
         ):
             return False
         try:
-            file = os.open(path.rpartition('/')[2], CHANGED_FILE, dir_fd=at)
+            file = os.open(path.rpartition('/')[2], CHANGED_FILE, dir_fd=folder)
         except OSError:
             return False
         try:
-            if attributes_of(file) != laid.attributes:
+            if attribute_names(file) != laid_file.attributes:
                 return False
-            before = laid.entry.data if self.is_as_laid(laid, status) else file_bytes(file)
-            rewrite(file, before or b'', wanted.data or b'')
-            self.files[path] = Laid(wanted, signature_of(os.fstat(file)), laid.attributes)
+            old_bytes = (
+                laid_file.entry.data
+                if self.is_as_laid(laid_file, status)
+                else read_file_bytes(file)
+            )
+            rewrite(file, old_bytes or b'', wanted_entry.data or b'')
+            self.files[path] = LaidFile(
+                wanted_entry, signature_of(os.fstat(file)), laid_file.attributes
+            )
         finally:
             os.close(file)
         return True
 
-    def make_entry(self, at: int, path: str, one: Entry) -> None:
-        """Makes the file or directory of a path below the open root, and notes what it made.
-        Nothing is made for a symbolic link. FileExistsError if something is there."""
-        if one.data is None:
-            if one.is_directory:
-                os.mkdir(path, FILLED_MODE, dir_fd=at)
+    def make_entry(self, root: int, path: str, entry: Entry) -> None:
+        """Makes the file or directory of a path below the open directory `root`, and notes it in
+        `files` or `modes`. Nothing is made for a symbolic link. FileExistsError if something is
+        there."""
+        if entry.data is None:
+            if entry.is_directory:
+                os.mkdir(path, FILLED_MODE, dir_fd=root)
                 self.modes[path] = FILLED_MODE
             return
-        file = os.open(path, NEW_FILE, one.mode, dir_fd=at)
+        file = os.open(path, NEW_FILE, entry.mode, dir_fd=root)
         try:
-            write_all(file, one.data)
-            attributes = attributes_of(file) if is_large(one) else []
-            self.files[path] = Laid(one, signature_of(os.fstat(file)), attributes)
+            write_all(file, entry.data)
+            attributes = attribute_names(file) if is_large(entry) else []
+            self.files[path] = LaidFile(entry, signature_of(os.fstat(file)), attributes)
         finally:
             os.close(file)
 
-    def set_modes(self, at: int, tree: Mapping[str, Entry]) -> None:
-        """Gives the directories the modes of the tree: inner ones before outer ones, since a mode
-        may forbid changes below."""
-        changed = [path for path, mode in self.modes.items() if tree[path].mode != mode]
-        for path in sorted(changed, reverse=True):
-            set_folder_mode(path or '.', tree[path].mode, at)
+    def set_modes(self, root: int, tree: Mapping[str, Entry]) -> None:
+        """Sets the mode of each directory in `modes` to that of the tree, if it differs: inner ones
+        before outer ones, since a mode may forbid changes below. OSError if it can't be set."""
+        changed_paths = [path for path, mode in self.modes.items() if tree[path].mode != mode]
+        for path in sorted(changed_paths, reverse=True):
+            set_folder_mode(path or '.', tree[path].mode, root)
 
 
-def links_of(tree: Mapping[str, Entry]) -> Iterator[Tuple[str, str]]:
-    """The path and the target of each symbolic link of a tree."""
-    for path, one in tree.items():
-        if one.link is not None:
-            yield path, one.link
+def symbolic_links(tree: Mapping[str, Entry]) -> Iterator[Tuple[str, str]]:
+    """Yields the path and the target of each symbolic link of a tree."""
+    for path, entry in tree.items():
+        if entry.link is not None:
+            yield path, entry.link
 
 
 def is_large(entry: Entry) -> bool:
@@ -274,17 +302,17 @@ def signature_of(status: os.stat_result) -> Signature:
     )
 
 
-def bytes_of(at: int, name: str) -> Bytes:
-    """The bytes of a file by its name in an open directory; OSError if it can't be read, or is a
-    symbolic link."""
-    file = os.open(name, os.O_RDONLY | os.O_NOFOLLOW | os.O_CLOEXEC, dir_fd=at)
+def read_bytes(folder: int, name: str) -> Bytes:
+    """The bytes of the file with this name in an open directory. OSError if it can't be read, or is
+    a symbolic link."""
+    file = os.open(name, os.O_RDONLY | os.O_NOFOLLOW | os.O_CLOEXEC, dir_fd=folder)
     try:
-        return file_bytes(file)
+        return read_file_bytes(file)
     finally:
         os.close(file)
 
 
-def attributes_of(file: Union[str, int]) -> List[str]:
+def attribute_names(file: Union[str, int]) -> List[str]:
     """The names of the extended attributes of a file or directory, by its path or descriptor; none
     if they can't be read, as on a file system that has none."""
     try:
@@ -293,16 +321,18 @@ def attributes_of(file: Union[str, int]) -> List[str]:
         return []
 
 
-def file_system_of(path: str) -> str:
-    """The type of the file system that has a path, as mountinfo names it; an empty text if it names
-    none. OSError if nothing is there."""
+def file_system_type(path: str) -> str:
+    """The type of the file system that has a path, as mountinfo names it; an empty text if that
+    names none or can't be read. OSError if nothing is at the path."""
     device = os.stat(path).st_dev
-    wanted = f'{os.major(device)}:{os.minor(device)}'
+    device_text = f'{os.major(device)}:{os.minor(device)}'
     try:
         with open('/proc/self/mountinfo', encoding='utf-8', errors='replace') as lines:
-            found = [
-                line.split(' - ')[1].split(' ')[0] for line in lines if line.split(' ')[2] == wanted
+            types = [
+                line.split(' - ')[1].split(' ')[0]
+                for line in lines
+                if line.split(' ')[2] == device_text
             ]
     except (OSError, IndexError):
         return ''
-    return found[-1] if found else ''
+    return types[-1] if types else ''

@@ -20,13 +20,13 @@ from typing import (
     TypeVar,
 )
 
-from crashfs_tools.common.archive import Member, number_of_state
+from crashfs_tools.common.archive import Member, parse_state_number
 from crashfs_tools.common.entry import Entry
 from crashfs_tools.common.removal import FOLDER, remove_tree, set_folder_mode
-from crashfs_tools.common.program import Crashfs, ProgramFault, first_name
+from crashfs_tools.common.program import Crashfs, ProgramFault, first_name_of_path
 from crashfs_tools.common.sparse import SparseBytes
 
-from .plan import Plan, Planned
+from .plan import Plan, PlannedTrace
 from .rewriting import PIECE_BYTES, Bytes, has_bytes, write_at
 
 NEW_FILE = os.O_WRONLY | os.O_CREAT | os.O_EXCL | os.O_NOFOLLOW | os.O_CLOEXEC
@@ -63,11 +63,13 @@ class Archive(Layout):
     def __init__(
         self,
         program: Crashfs,
-        planned: Planned,
+        planned: PlannedTrace,
         folder: str,
         environment: Dict[str, str],
         kept: Optional[TreesByState] = None,
     ) -> None:
+        """The folder must be there. The environment is that of the program. Nothing is made or
+        started yet."""
         self.program = program
         self.planned = planned
         self.folder = folder
@@ -76,14 +78,17 @@ class Archive(Layout):
 
     @contextmanager
     def laid_out(self, number: int, directory: str) -> Iterator[None]:
-        """Within this the directory, which has its tree already, stays as it is. Then it is
-        removed, but for what can't be; after an exception it stays."""
+        """The directory has its tree before and within the `with`. Afterwards it is removed,
+        through another directory in the folder, which stays, with what can't be removed. After an
+        exception it isn't removed. OSError as remove_tree()."""
         yield
-        remove_tree(directory)
+        # One for all states of this process: to make and remove a directory is slow on some disks.
+        remove_tree(directory, trash=os.path.join(self.folder, f'removed-{os.getpid()}'))
 
     def states(self, wanted: Set[int]) -> Iterator[Tuple[int, str]]:
-        """Yields directories that have their trees already, each made when it is asked for.
-        ProgramFault, after the others, if the program lacks a state."""
+        """Yields directories that have their trees already, each made when it is asked for: OSError
+        if it can't be, and what was made of it stays. ProgramFault, after the others, if the
+        program lacks a state."""
         if self.kept is None:
             yield from read_trees(
                 self.program, self.planned, wanted, self.environment, self.make_directory
@@ -94,8 +99,8 @@ class Archive(Layout):
             yield number, self.make_directory(number, tree)
 
     def make_directory(self, number: int, tree: Iterable[Member]) -> str:
-        """Makes the directory of a state, with its tree, and returns its path: the number, with a
-        `+` at its end if something is there that wasn't removed."""
+        """Makes the directory of a state, with its tree, and returns its path: its name is the
+        state's number, or as unused_path() says."""
         directory = unused_path(os.path.join(self.folder, str(number)))
         lay_out(directory, tree)
         return directory
@@ -103,26 +108,26 @@ class Archive(Layout):
 
 def read_trees(
     program: Crashfs,
-    planned: Planned,
+    planned: PlannedTrace,
     wanted: Set[int],
     environment: Dict[str, str],
-    take: Callable[[int, Iterable[Member]], Taken],
+    use_tree: Callable[[int, Iterable[Member]], Taken],
 ) -> Iterator[Tuple[int, Taken]]:
-    """Yields each wanted state of a plan, ascending, with what `take` returns for its number and
-    tree. `take` must read the tree to its end; the paths are relative, the root's is empty.
-    ProgramFault for an entry that is in no state, and, at the end of an archive, if the program
-    failed or lacks a state."""
-    left = set(wanted)
+    """Yields each wanted state of a plan, ascending, with what use_tree() returns for its number
+    and tree. use_tree() must read the tree to its end; paths are relative, the root's is empty.
+    ProgramFault for an entry that is in no state, and at the end of an archive if the program
+    failed or lacks a state. The program is killed if the caller or use_tree() stops early."""
+    missing_numbers = set(wanted)
     for request in planned.requests(wanted):
-        with program.archive(request.words, environment) as members:
-            for top, tree in groupby(members, first_name):
-                number = number_of_state(top) + request.lead
-                if number in left:
-                    left.remove(number)
-                    below = ((path[len(top) + 1 :], entry) for path, entry in tree)
-                    yield number, take(number, below)
-    if left:
-        raise ProgramFault(0, f'crashfs tar wrote no state {min(left)}'.encode())
+        with program.open_archive(request.options, environment) as members:
+            for top, tree in groupby(members, first_name_of_path):
+                number = parse_state_number(top) + request.number_offset
+                if number in missing_numbers:
+                    missing_numbers.remove(number)
+                    members_below = ((path[len(top) + 1 :], entry) for path, entry in tree)
+                    yield number, use_tree(number, members_below)
+    if missing_numbers:
+        raise ProgramFault(0, f'crashfs tar wrote no state {min(missing_numbers)}'.encode())
 
 
 def is_small(plan: Plan) -> bool:
@@ -131,39 +136,41 @@ def is_small(plan: Plan) -> bool:
 
 
 def trees_of_small_plan(
-    program: Crashfs, planned: Planned, environment: Dict[str, str]
+    program: Crashfs, planned: PlannedTrace, environment: Dict[str, str]
 ) -> Optional[TreesByState]:
-    """All trees of a plan, each by the first state that has it. None if they are too many, or have
-    too many bytes, to be kept. ProgramFault if the program lacks one."""
+    """All trees of a plan, each by the number of the first state that has it. None if they are too
+    many, or have too many bytes, to be kept in memory. ProgramFault if the program lacks one."""
     if not is_small(planned.plan):
         return None
     trees: TreesByState = {}
-    size = 0
-    firsts = {state.same for state in planned.plan.listed}
-    read = read_trees(program, planned, firsts, environment, lambda _, tree: list(tree))
-    for number, tree in read:
+    byte_count = 0
+    first_numbers = {state.same for state in planned.plan.listed}
+    numbered_trees = read_trees(
+        program, planned, first_numbers, environment, lambda _, tree: list(tree)
+    )
+    for number, tree in numbered_trees:
         trees[number] = tree
-        size += sum(len(entry.data or b'') for _, entry in trees[number])
-        if size > MOST_BYTES:
+        byte_count += sum(len(entry.data or b'') for _, entry in trees[number])
+        if byte_count > MOST_BYTES:
             return None
     return trees
 
 
 def unused_path(path: str) -> str:
-    """The given path, with a `+` at its end for each path that is taken: what COMMAND left there
-    may be something that can't be removed."""
+    """The path itself, or with as many `+` at its end as are needed for a path at which nothing is:
+    COMMAND may leave something that can't be removed."""
     return unused_path(f'{path}+') if os.path.lexists(path) else path
 
 
 def lay_out(directory: str, tree: Iterable[Member]) -> None:
-    """Makes a directory with a tree. Paths are relative, the root's is empty, and a directory comes
+    """Makes a directory with a tree: paths are relative, the root's is empty, and a directory comes
     before what is in it. Symbolic links are made after all else, so that nothing is made through
-    one; directories get their modes last, inner ones first, since modes may forbid changes below.
-    After an error what was made stays, and directories may have FILLED_MODE."""
+    one. Directories get their modes last, since a mode may forbid changes below. The umask is 0
+    meanwhile. After an OSError, or an error of `tree`, what was made stays."""
     os.mkdir(directory, FILLED_MODE)
-    umask = os.umask(0)
+    old_umask = os.umask(0)
     try:
-        at = os.open(directory, FOLDER)
+        root = os.open(directory, FOLDER)
         try:
             modes: List[Tuple[str, int]] = []
             links: List[Tuple[str, str]] = []
@@ -172,36 +179,38 @@ def lay_out(directory: str, tree: Iterable[Member]) -> None:
                     links.append((path, entry.link))
                 elif entry.is_directory:
                     modes.append((path, entry.mode))
-                make_entry(path, entry, at)
-            make_links(links, at)
+                make_entry(path, entry, root)
+            make_links(links, root)
             for path, mode in reversed(modes):
-                set_folder_mode(path or '.', mode, at)
+                set_folder_mode(path or '.', mode, root)
         finally:
-            os.close(at)
+            os.close(root)
     finally:
-        os.umask(umask)
+        os.umask(old_umask)
 
 
-def make_entry(path: str, entry: Entry, at: int) -> None:
-    """Makes a file or directory below an open directory, a directory with FILLED_MODE for now.
-    Nothing is made for the root or a symbolic link."""
+def make_entry(path: str, entry: Entry, root: int) -> None:
+    """Makes a file or directory at a path below the open directory `root`; a directory gets
+    FILLED_MODE for now. Nothing is made for the root itself or a symbolic link. FileExistsError if
+    something is there."""
     if entry.data is not None:
-        write_file(path, entry.mode, entry.data, at)
+        write_file(path, entry.mode, entry.data, root)
     elif path and entry.is_directory:
-        os.mkdir(path, FILLED_MODE, dir_fd=at)
+        os.mkdir(path, FILLED_MODE, dir_fd=root)
 
 
-def make_links(links: Iterable[Tuple[str, str]], at: int) -> None:
-    """Makes symbolic links below an open directory, each path with its target: inner paths first,
-    since none may be made through another."""
-    for path, link in sorted(links, reverse=True):
-        os.symlink(os.fsencode(link), path, dir_fd=at)
+def make_links(links: Iterable[Tuple[str, str]], root: int) -> None:
+    """Makes symbolic links, given as paths with their targets, below the open directory `root`:
+    inner paths first, so that none is made through another. FileExistsError if something is there.
+    The first OSError ends it."""
+    for path, target in sorted(links, reverse=True):
+        os.symlink(os.fsencode(target), path, dir_fd=root)
 
 
-def write_file(path: str, mode: int, data: Bytes, at: int) -> None:
-    """Makes a file of a path below an open directory, with its bytes, and its mode but for the bits
-    of the umask. FileExistsError if something is there, also a link."""
-    file = os.open(path, NEW_FILE, mode, dir_fd=at)
+def write_file(path: str, mode: int, data: Bytes, root: int) -> None:
+    """Makes a file at a path below the open directory `root`, with its bytes, and with its mode
+    without the bits of the umask. FileExistsError if something is there, also a link."""
+    file = os.open(path, NEW_FILE, mode, dir_fd=root)
     try:
         write_all(file, data)
     finally:
@@ -209,11 +218,11 @@ def write_file(path: str, mode: int, data: Bytes, at: int) -> None:
 
 
 def write_all(file: int, data: Bytes) -> None:
-    """Writes the bytes of a new, empty file. Large runs of zeros become holes, as in a file that
-    was grown."""
+    """Writes the bytes of a new, empty file. Zeros become holes if they are a page of SparseBytes,
+    or else a whole one of several pieces of PIECE_BYTES. After an OSError a part is written."""
     if isinstance(data, SparseBytes):
-        for place, run in data.page_runs():
-            write_at(file, place, run)
+        for place, run_bytes in data.page_runs():
+            write_at(file, place, run_bytes)
     elif len(data) <= PIECE_BYTES:
         write_at(file, 0, data)
         return

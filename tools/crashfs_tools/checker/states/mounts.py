@@ -28,24 +28,26 @@ class Mounts(Layout):
         if ',' in uname:
             raise Refused(f'--uname {uname}: no mount can have a name with a comma')
         self.address = address
-        self.host = address.numeric()
+        self.host = address.ip_address()
         self.uname = uname
         self.folder = os.path.join(folder, 'mounts')
         self.environment = environment
         self.run = f'check-{os.urandom(8).hex()}'
 
     def states(self, wanted: Set[int]) -> Iterator[Tuple[int, str]]:
-        """Yields a path below the folder for each wanted state, ascending: laid_out() makes it. The
-        server isn't asked here: if it lacks a state, laid_out() raises Refused."""
+        """Yields each wanted state, ascending, with a path below the folder, at which laid_out()
+        makes its directory. The server isn't asked here: if it lacks a state, laid_out() raises
+        Refused."""
         os.makedirs(self.folder, exist_ok=True)
         for number in sorted(wanted):
             yield number, os.path.join(self.folder, str(number))
 
     @contextmanager
     def laid_out(self, number: int, directory: str) -> Iterator[None]:
-        """Within this a state's run is mounted at the directory, which is made for it and removed
-        afterwards. Refused if it can't be mounted, or stays mounted; the directory stays then, as
-        after any exception."""
+        """Mounts a state's run at the directory, which is made for it, and within the `with` stays
+        mounted; then both are removed. OSError if the directory can't be made or removed; Refused
+        if the run can't be mounted or unmounted. The directory stays then, as after any
+        exception."""
         os.mkdir(directory)
         self.mount(f'{number}/{self.run}', directory)
         try:
@@ -55,8 +57,9 @@ class Mounts(Layout):
         os.rmdir(directory)
 
     def mount_words(self, name: str, directory: str) -> List[str]:
-        """The command that mounts a state's run, by its name at the server. Linux shows all files
-        as those of the user who runs this; the rights that count are those of uname."""
+        """The words of the command that mounts a state's run, by its name at the server. Linux
+        shows all files as those of the user who runs this; the rights that count are those of
+        uname."""
         options = [
             'trans=tcp',
             f'port={self.address.port}',
@@ -71,7 +74,7 @@ class Mounts(Layout):
 
     def mount(self, name: str, directory: str) -> None:
         """Mounts the run of a name at an empty directory; Refused if that fails."""
-        fault = fault_of(self.mount_words(name, directory), directory, self.environment)
+        fault = run_on_directory(self.mount_words(name, directory), directory, self.environment)
         if fault:
             raise Refused(f'no mount of {name} from {self.address}: {fault} ({NEEDS})')
 
@@ -80,17 +83,18 @@ class Mounts(Layout):
         it stays mounted. The command must run to its end also if the check is stopped: it doesn't
         have the check's environment, by which the guard finds processes to end."""
         environment = dict(os.environ)
-        fault = fault_of(['umount', directory], directory, environment)
-        if fault and fault_of(['umount', '-l', directory], directory, environment):
+        fault = run_on_directory(['umount', directory], directory, environment)
+        if fault and run_on_directory(['umount', '-l', directory], directory, environment):
             raise Refused(f'{directory} stays mounted: {fault}')
 
 
-def fault_of(words: List[str], directory: str, environment: Dict[str, str]) -> str:
-    """Runs a command about a directory, in a session of its own, so that Ctrl-C doesn't end it
-    half-way. Returns an empty text if it succeeds, else a line that says why not, without the
-    directory's name: also if there is no such command, or after SECONDS, when it is killed."""
+def run_on_directory(words: List[str], directory: str, environment: Dict[str, str]) -> str:
+    """Runs a command about a directory, in a session of its own, so that Ctrl-C doesn't end it.
+    Returns an empty text if it succeeds, else a line that says why not, without the directory's
+    name; so too if there is no such command, or after SECONDS, when it is killed. OSError if it
+    can't be started for another reason."""
     try:
-        ran = subprocess.run(
+        finished = subprocess.run(
             words,
             stdin=subprocess.DEVNULL,
             stdout=subprocess.DEVNULL,
@@ -104,8 +108,8 @@ def fault_of(words: List[str], directory: str, environment: Dict[str, str]) -> s
         return f'there is no {words[0]}'
     except subprocess.TimeoutExpired:
         return f'{words[0]} had not ended after {SECONDS} seconds'
-    if ran.returncode == 0:
+    if finished.returncode == 0:
         return ''
-    lines = ran.stderr.decode('utf-8', 'replace').strip().splitlines()
-    line = lines[0] if lines else f'status {ran.returncode}'
-    return line.replace(f'{words[0]}: ', '', 1).replace(f'{directory}: ', '', 1).rstrip('.')
+    lines = finished.stderr.decode('utf-8', 'replace').strip().splitlines()
+    fault = lines[0] if lines else f'status {finished.returncode}'
+    return fault.replace(f'{words[0]}: ', '', 1).replace(f'{directory}: ', '', 1).rstrip('.')

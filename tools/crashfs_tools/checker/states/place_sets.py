@@ -10,11 +10,11 @@ from typing import Iterable, Iterator
 
 
 def set_of(places: Iterable[int]) -> int:
-    """The set that has these places; one may come twice."""
-    found = 0
+    """The set that has these places; a place may come twice. ValueError if one is below 0."""
+    members = 0
     for place in places:
-        found |= 1 << place
-    return found
+        members |= 1 << place
+    return members
 
 
 def places_of(members: int) -> Iterator[int]:
@@ -30,6 +30,6 @@ def size_of(members: int) -> int:
     return bin(members).count('1')
 
 
-def lacking_of(members: int) -> int:
-    """The set of the places before a set's last member that aren't members."""
+def missing_set(members: int) -> int:
+    """The set of the places that a set lacks before its last member."""
     return (1 << members.bit_length()) - 1 & ~members

@@ -5,27 +5,27 @@ from __future__ import annotations
 from dataclasses import dataclass
 from typing import Dict, Iterable, Iterator, List, NamedTuple, Optional, Sequence, Tuple
 
-from .place_sets import lacking_of, places_of, set_of, size_of
+from .place_sets import missing_set, places_of, set_of, size_of
 
 
 class PlanError(Exception):
     """Output of `crashfs list` or `crashfs picks` that this tool doesn't know."""
 
 
-class MicroOperation(NamedTuple):
+class PlannedMicroOperation(NamedTuple):
     """A micro-operation by its place in the session. path is that of its file or entry, empty if it
-    has none; rest has its details as text, and line is that of the session's trace."""
+    has none; line is that of the session's trace."""
 
     place: int
     kind: str
     path: str
-    rest: str
+    details: str
     line: int
 
     @property
     def text(self) -> str:
         """The micro-operation as reports and pages show it."""
-        words = [f'op {self.place}', self.kind, self.path, self.rest]
+        words = [f'op {self.place}', self.kind, self.path, self.details]
         return ' '.join(word for word in words if word)
 
 
@@ -64,18 +64,18 @@ class Offsets(NamedTuple):
     lines: Tuple[int, ...] = ()
 
     def session_line(self, number: int) -> int:
-        """The number of the session's line that a line of the plan's trace, by its number from 1,
-        comes from."""
+        """The number of the session's line from which a line of the plan's trace, numbered from 1,
+        comes."""
         return self.lines[number - 1] if self.lines else number
 
-    def by_own_lines(self, values: Dict[int, str]) -> Dict[int, str]:
-        """Values that are by lines of the session, by lines of the plan's trace: of several that
-        come from one line of the session, by the last. Lines that the plan's trace doesn't have are
-        left out."""
+    def values_by_own_lines(self, values: Dict[int, str]) -> Dict[int, str]:
+        """Takes values by the numbers of the session's lines, and returns them by those of the
+        lines of the plan's trace. Of several lines that come from one line of the session only the
+        last one gets its value. Values of other lines are left out."""
         if not self.lines:
             return values
-        own = {line: number for number, line in enumerate(self.lines, 1)}
-        return {own[line]: value for line, value in values.items() if line in own}
+        own_numbers = {line: number for number, line in enumerate(self.lines, 1)}
+        return {own_numbers[line]: value for line, value in values.items() if line in own_numbers}
 
 
 class AllStates(NamedTuple):
@@ -102,12 +102,13 @@ class Needs:
         self._needing: Dict[int, int] = {}
 
     def is_needed(self, earlier: int, by: int) -> bool:
-        """Whether the micro-operation at `by` needs an earlier one; False for a `by` past the
-        end."""
+        """Whether the micro-operation at the place `by` needs an earlier one; False if `by` is past
+        the last place."""
         return by < len(self.masks) and bool(self.masks[by] >> earlier & 1)
 
     def set_needing(self, place: int) -> int:
-        """The set of the micro-operations that need the one at a place, itself among them."""
+        """The set of the micro-operations that need the one at this place, with itself. It is kept
+        for later calls."""
         if place not in self._needing:
             later = range(place + 1, len(self.masks))
             self._needing[place] = set_of(
@@ -123,10 +124,10 @@ class Needs:
     def sets_without_lines(self, lines: Iterable[int]) -> List[int]:
         """For each line the largest allowed set that has no micro-operation of it, in the order in
         which the lines begin. `lines` has the line of each place."""
-        lost: Dict[int, int] = {}
+        lost_sets: Dict[int, int] = {}
         for place, line in enumerate(lines):
-            lost[line] = lost.get(line, 0) | self.set_needing(place)
-        return [self.full & ~one for one in lost.values()]
+            lost_sets[line] = lost_sets.get(line, 0) | self.set_needing(place)
+        return [self.full & ~lost_set for lost_set in lost_sets.values()]
 
     @property
     def hole_count(self) -> int:
@@ -134,15 +135,18 @@ class Needs:
         doesn't need."""
         return sum(place + 1 - size_of(mask) for place, mask in enumerate(self.masks))
 
-    def is_prefix_or_hole(self, kept: int) -> bool:
-        """Whether an allowed set is what a prefix keeps, or what a hole of a plan does."""
-        lacking = lacking_of(kept)
-        first = next(places_of(lacking), None)
-        return first is None or lacking == self.set_needing(first) & (1 << kept.bit_length()) - 1
+    def is_prefix_or_hole(self, members: int) -> bool:
+        """Whether an allowed set is that of a prefix or of a hole of the plan."""
+        missing = missing_set(members)
+        first_missing = next(places_of(missing), None)
+        return (
+            first_missing is None
+            or missing == self.set_needing(first_missing) & (1 << members.bit_length()) - 1
+        )
 
-    def is_allowed(self, kept: int) -> bool:
+    def is_allowed(self, members: int) -> bool:
         """Whether a set has all that its members need, so that a crash may leave it."""
-        return all(self.masks[place] & ~kept == 0 for place in places_of(kept))
+        return all(self.masks[place] & ~members == 0 for place in places_of(members))
 
 
 class SetProfiles(NamedTuple):
@@ -163,15 +167,15 @@ class Plan:
 
     def __init__(
         self,
-        operations: List[MicroOperation],
+        operations: List[PlannedMicroOperation],
         listed: List[State],
         needs: Needs,
         first: int = 0,
         all_states: Optional[AllStates] = None,
         profiles: SetProfiles = SetProfiles(),
     ) -> None:
-        """The profiles are those of each listed state, or of none: then profile_names_of() names
-        none, and no profile may be wanted."""
+        """`profiles` has those of each listed state, or of none: then profile_names_of() returns no
+        names, and no profile may be wanted."""
         assert len(profiles.of_sets) in (0, len(listed))
         self.all_states = all_states
         self.profiles = profiles
@@ -185,30 +189,30 @@ class Plan:
         self.states = [
             state
             for state in listed
-            if self.may_be_left(self.kept[state.number])
+            if self.can_crash_leave(self.kept[state.number])
             and profiles.wanted in ('', *self.profile_names_of(state))
         ]
 
     def profiles_of_trials(self) -> Dict[Trial, int]:
-        """For each trial the profiles that allow it, as bits: it is enough if they allow one of the
-        listed sets that leave it. Empty if the profiles of the sets aren't known."""
-        found: Dict[Trial, int] = {}
-        for state, profiles in zip(self.listed, self.profiles.of_sets):
-            found[state.trial] = found.get(state.trial, 0) | profiles
-        return found
+        """For each trial the profiles that allow one of the listed sets that leave it, as bits.
+        Empty if the profiles of the sets aren't known."""
+        bits_by_trial: Dict[Trial, int] = {}
+        for state, profile_bits in zip(self.listed, self.profiles.of_sets):
+            bits_by_trial[state.trial] = bits_by_trial.get(state.trial, 0) | profile_bits
+        return bits_by_trial
 
     def profile_names_of(self, state: State) -> List[str]:
         """The names of the profiles under which a crash may leave the tree and the acknowledged
-        lines of a state, by its own set or by that of an equal listed state. No names if the
-        profiles aren't known."""
+        lines of a state, by the set of this or of an equal listed state. Empty if the profiles
+        aren't known."""
         bits = self._profiles.get(state.trial, 0)
         return [name for place, name in enumerate(self.profiles.names) if bits >> place & 1]
 
     def with_states(
         self, listed: List[State], all_states: Optional[AllStates], profiles: SetProfiles
     ) -> Plan:
-        """A plan with the same micro-operations and the same first number, but these listed states,
-        the profiles of each of them in this order, and this knowledge of all crash states."""
+        """A plan with the same micro-operations and first number as this one, but with these listed
+        states, their profiles in the same order, and this all_states."""
         return Plan(self.operations, listed, self.needs, self.first, all_states, profiles)
 
     @property
@@ -232,52 +236,52 @@ class Plan:
 
     def state_text(self, state: State) -> str:
         """A state in words, such as `hole 1 5`: its family, and its numbers as places in the
-        session. Of a pick, which may have hundreds, no number is shown."""
-        shown = ' '.join(str(self.first_place + number) for number in state.numbers)
-        return 'a pick' if state.family == 'pick' else f'{state.family} {shown}'
+        session. A pick is shown without numbers, since it may have hundreds."""
+        numbers = ' '.join(str(self.first_place + place) for place in state.numbers)
+        return 'a pick' if state.family == 'pick' else f'{state.family} {numbers}'
 
     def set_kept_by(self, state: State) -> int:
-        """The set of the places of the plan that a state has, by its family and numbers."""
+        """The set of the places that a state has, by its family and numbers."""
         if state.family == 'pick':
             return set_of(state.numbers)
         if state.family == 'prefix':
             return (1 << state.numbers[0]) - 1
-        lost, end = state.numbers
-        return (1 << end) - 1 & ~self.needs.set_needing(lost)
+        lost_place, end = state.numbers
+        return (1 << end) - 1 & ~self.needs.set_needing(lost_place)
 
-    def may_be_left(self, kept: int) -> bool:
-        """Whether no member of a set comes after an acknowledged line that it lacks: a program
-        prints a line before it continues. In traces of version 3 on no allowed set has such a
-        member."""
-        lost_says = self.say_places & ~kept
-        first_lost = lost_says & -lost_says
-        return first_lost == 0 or kept < first_lost
+    def can_crash_leave(self, members: int) -> bool:
+        """Whether no member of an allowed set comes after an acknowledged line that the set lacks:
+        a program prints a line before it continues. In traces of version 3 or later this is true of
+        each allowed set."""
+        missing_lines = self.say_places & ~members
+        first_missing = missing_lines & -missing_lines
+        return first_missing == 0 or members < first_missing
 
     def set_lost_by(self, state: State) -> int:
-        """The set of what a state lacks before its last micro-operation."""
-        return lacking_of(self.kept[state.number])
+        """The set of the places that a state lacks before its last one."""
+        return missing_set(self.kept[state.number])
 
 
 class Part(NamedTuple):
     """The states of a plan from the number `first` to before `end`: the options that name their
-    plan for the program, which gives the first of them the number `own`."""
+    plan for the program, which gives the first of them the number first_in_program."""
 
-    words: List[str]
+    options: List[str]
     first: int
     end: int
-    own: int
+    first_in_program: int
 
 
 class Request(NamedTuple):
     """States that the program gives at once: the options that name them. A state's number in the
-    plan is the program's number of it and `lead`."""
+    plan is the program's number plus number_offset."""
 
-    words: List[str]
-    lead: int
+    options: List[str]
+    number_offset: int
 
 
 @dataclass
-class Planned:
+class PlannedTrace:
     """A trace that the program takes: the options that name its plan, in one part or several, and
     the plan. Each part has the prefixes. offsets has what of the session comes before it, and
     is_last whether nothing comes after it."""
@@ -288,35 +292,37 @@ class Planned:
     offsets: Offsets = Offsets()
     is_last: bool = True
 
-    def part_text(self) -> str:
-        """Which micro-operations of the session it has, as the beginning of a line, with a colon;
-        an empty text if it has the whole session."""
-        begin = self.offsets.operations
-        if self.is_last and begin == 0:
+    def window_text(self) -> str:
+        """The range of the window's micro-operations in the session, as the beginning of a line,
+        with a colon and a blank. An empty text if the window has the whole session."""
+        first_place = self.offsets.operations
+        if self.is_last and first_place == 0:
             return ''
-        return f'micro-operations {begin:,} to {begin + len(self.plan.operations) - 1:,}: '
+        return (
+            f'micro-operations {first_place:,} to {first_place + len(self.plan.operations) - 1:,}: '
+        )
 
     def files(self) -> List[str]:
-        """The paths of the files that it is made from: the trace, which is the user's own if the
-        session isn't in windows, and the picks of its parts."""
-        pairs = (pair for part in self.parts for pair in zip(part.words, part.words[1:]))
-        return [self.trace, *(path for option, path in pairs if option == '--picks')]
+        """The paths of the files that it is made from: the trace, which is the user's own file
+        unless the session is in windows, and the picks of its parts."""
+        option_pairs = (pair for part in self.parts for pair in zip(part.options, part.options[1:]))
+        return [self.trace, *(path for option, path in option_pairs if option == '--picks')]
 
     def requests(self, numbers: Iterable[int]) -> Iterator[Request]:
-        """For each part that has some of the states of these numbers, the options with which `tar`
-        gives these. Numbers that the plan doesn't have are passed over."""
+        """For each part that has some of the states of these numbers, one part after the other, the
+        request for these states. Numbers that the plan doesn't have are ignored."""
         wanted = set(numbers)
         for part in self.parts:
-            own = {one for one in wanted if part.first <= one < part.end}
-            if own:
-                lead = part.first - part.own
-                shown = ranges_text(one - lead for one in own)
-                yield Request([*part.words, '--states', shown], lead)
+            numbers_of_part = {number for number in wanted if part.first <= number < part.end}
+            if numbers_of_part:
+                number_offset = part.first - part.first_in_program
+                ranges = ranges_text(number - number_offset for number in numbers_of_part)
+                yield Request([*part.options, '--states', ranges], number_offset)
 
 
 def ranges_text(numbers: Iterable[int]) -> str:
-    """Different numbers as `tar --states` takes them: one by one and in ranges, ascending, such as
-    `1,4-6`. An empty text for none."""
+    """Numbers, all different, as `tar --states` takes them: one by one and in ranges, ascending,
+    such as `1,4-6`. An empty text for none."""
     ranges: List[List[int]] = []
     for number in sorted(numbers):
         if ranges and ranges[-1][1] == number - 1:

@@ -3,94 +3,104 @@
 from __future__ import annotations
 
 import json
-from typing import Any, Dict, List, Sequence
+from typing import Any, Dict, List, Sequence, Tuple
 
 from .place_sets import set_of
-from .plan import MicroOperation, Needs, Offsets, Plan, PlanError, SetProfiles, State
+from .plan import PlannedMicroOperation, Needs, Offsets, Plan, PlanError, SetProfiles, State
 
 # The fields of a micro-operation that its text has after its kind and path, in this order.
 DETAILS = ('to', 'block', 'at', 'count', 'length', 'node', 'target', 'mode', 'owner', 'group')
 
 
-def read_plan(listed: str, offsets: Offsets = Offsets(), more: Sequence[str] = ()) -> Plan:
-    """The plan that `list --json` printed, in numbers, places and lines of the session. more has
-    what it printed for further parts, of which only the picks are added; their `same` is known only
-    within their part. PlanError for a line of another form."""
-    read = Listed(offsets)
-    for part in (listed, *more):
-        read.begin_part()
-        for line in part.rstrip('\n').split('\n'):
+def read_plan(
+    listing: str, offsets: Offsets = Offsets(), more_listings: Sequence[str] = ()
+) -> Plan:
+    """The plan that `list --json` printed, in numbers, places and lines of the session.
+    more_listings is what it printed for further parts, of which only the picks are added; their
+    `same` is known only within their part. PlanError for a line of another form."""
+    reader = PlanReader(offsets)
+    for part_listing in (listing, *more_listings):
+        reader.begin_part()
+        for line in part_listing.rstrip('\n').split('\n'):
             try:
-                read.add_line(json.loads(line))
+                reader.add_line(json.loads(line))
             except (ValueError, KeyError, TypeError, AttributeError) as error:
                 raise PlanError(f'crashfs list printed: {line}') from error
-    needs = Needs(read.masks)
-    return Plan(read.operations, read.states, needs, offsets.states, profiles=read.profiles())
+    needs = Needs(reader.needs)
+    return Plan(reader.operations, reader.states, needs, offsets.states, profiles=reader.profiles())
 
 
-class Listed:
-    """What `crashfs list` printed of the parts of a plan, taken line by line. Call begin_part()
+class PlanReader:
+    """Reads what `crashfs list` printed of the parts of a plan, line by line. Call begin_part()
     before the lines of each part."""
 
     def __init__(self, offsets: Offsets) -> None:
+        """The offsets are those of the plan in its session."""
         self.offsets = offsets
-        self.operations: List[MicroOperation] = []
+        self.operations: List[PlannedMicroOperation] = []
         self.states: List[State] = []
-        self.masks: List[int] = []
-        self.allowed: List[List[str]] = []
+        self.needs: List[int] = []
+        # The names of the profiles, and those of each state as bits.
+        self.profile_names: Tuple[str, ...] = ()
+        self.profile_bits: List[int] = []
 
     def profiles(self) -> SetProfiles:
-        """The profiles of each state that was added, in order; none if the program prints no
-        profiles. Their names are those of the first state: it keeps nothing, which all profiles
-        allow."""
-        names = tuple(self.allowed[0]) if self.allowed else ()
-        return SetProfiles(names, tuple(set_of(map(names.index, one)) for one in self.allowed))
+        """The profiles of each state that was added, in their order; none if the program prints no
+        profiles. The names are those of the first state, whose set is empty, so that all profiles
+        allow it."""
+        return SetProfiles(self.profile_names, tuple(self.profile_bits))
 
     def begin_part(self) -> None:
-        """Begins the next part. The picks of each part have the same first number in the program;
-        those of a further part are numbered on from the states so far."""
+        """Begins the next part: sets is_first and number_offset. In the program the picks of all
+        parts begin with the same number; here those of a further part are numbered on from the
+        states so far."""
         self.is_first = not self.states
-        self.lead = 0 if self.is_first else len(self.states) - len(self.operations) - 1
+        self.number_offset = 0 if self.is_first else len(self.states) - len(self.operations) - 1
 
     def add_line(self, fields: Dict[str, Any]) -> None:
-        """Adds the operation or the state of a line. Each part has the same operations: those of
-        the first part are taken. KeyError or another error for fields of another form."""
+        """Adds the operation or the state of a line. All parts have the same operations, so only
+        those of the first part are added. KeyError or another error for fields of another form."""
         if 'op' not in fields:
             self.add_state(fields)
         elif self.is_first:
-            self.operations.append(operation_of(fields, self.offsets))
-            self.masks.append(set_of(fields['needs']))
+            self.operations.append(parse_operation(fields, self.offsets))
+            self.needs.append(set_of(fields['needs']))
 
     def add_state(self, fields: Dict[str, Any]) -> None:
-        """Adds the state of a line, with a number that is unique among all parts, which `fields`
-        gets too. Of a further part only picks are added: it has the same prefixes."""
+        """Adds the state of a line, with a number that is unique among all parts. Of a further part
+        only picks are added: it has the same prefixes. `fields` are changed to the numbers here.
+        KeyError or another error as in add_line(); ValueError also if a profile isn't among those
+        of the states before."""
         if not self.is_first:
             if fields['kind'] != 'pick':
                 return
-            fields['state'] += self.lead
+            fields['state'] += self.number_offset
             # A prefix has the same number in each part.
-            fields['same'] += self.lead if fields['same'] > len(self.operations) else 0
-        self.states.append(state_of(fields, self.offsets))
+            fields['same'] += self.number_offset if fields['same'] > len(self.operations) else 0
+        self.states.append(parse_state(fields, self.offsets))
         if 'profiles' in fields:
-            self.allowed.append(fields['profiles'])
+            self.profile_names = self.profile_names or tuple(fields['profiles'])
+            self.profile_bits.append(set_of(map(self.profile_names.index, fields['profiles'])))
+        if len(self.profile_bits) not in (0, len(self.states)):
+            raise ValueError('profiles of some states only')
 
 
-def operation_of(fields: Dict[str, Any], offsets: Offsets) -> MicroOperation:
-    """The micro-operation of a line of `list --json`, in places and lines of the session; KeyError
+def parse_operation(fields: Dict[str, Any], offsets: Offsets) -> PlannedMicroOperation:
+    """The micro-operation of a line of `list --json`, in places and lines of the session. KeyError
     if a field is missing."""
-    rest = ' '.join(str(fields[key]) for key in DETAILS if key in fields)
-    return MicroOperation(
+    details = ' '.join(str(fields[key]) for key in DETAILS if key in fields)
+    return PlannedMicroOperation(
         fields['op'] + offsets.operations,
         fields['kind'],
         fields.get('path') or '',
-        rest,
+        details,
         offsets.session_line(fields['line']),
     )
 
 
-def state_of(fields: Dict[str, Any], offsets: Offsets) -> State:
-    """The state of a line of `list --json`, in numbers of the session; its own numbers, such as its
-    end, stay places of the plan. KeyError for another kind or a missing field."""
+def parse_state(fields: Dict[str, Any], offsets: Offsets) -> State:
+    """The state of a line of `list --json`, with its number in the session; the numbers of its set,
+    such as its end, stay places of the plan. KeyError for another kind or a missing field."""
     kind = fields['kind']
     if kind == 'pick':
         numbers = tuple(fields['places'])

@@ -11,26 +11,28 @@ PIECE_BYTES = 1 << 14
 Bytes = Union[bytes, bytearray, SparseBytes]
 
 
-def rewrite(file: int, before: Bytes, wanted: Bytes) -> None:
-    """Changes an open file, which has the bytes `before`, to the wanted bytes: it writes only
-    pieces that differ. Zeros past the old end aren't written, so they become a hole. After an
+def rewrite(file: int, old_bytes: Bytes, wanted_bytes: Bytes) -> None:
+    """Changes an open file from old_bytes, which it must have, to wanted_bytes: writes only pieces
+    of PIECE_BYTES that differ. A piece of zeros at the old end or past it becomes a hole. After an
     OSError some pieces may be changed."""
-    for at in piece_offsets(before, wanted):
-        piece = wanted[at : at + PIECE_BYTES]
-        if before[at : at + PIECE_BYTES] != piece and (at < len(before) or has_bytes(piece)):
-            write_at(file, at, piece)
-    if len(before) != len(wanted):
-        os.ftruncate(file, len(wanted))
+    for offset in piece_offsets(old_bytes, wanted_bytes):
+        piece = wanted_bytes[offset : offset + PIECE_BYTES]
+        if old_bytes[offset : offset + PIECE_BYTES] != piece and (
+            offset < len(old_bytes) or has_bytes(piece)
+        ):
+            write_at(file, offset, piece)
+    if len(old_bytes) != len(wanted_bytes):
+        os.ftruncate(file, len(wanted_bytes))
 
 
-def piece_offsets(before: Bytes, wanted: Bytes) -> Iterable[int]:
-    """The offsets, ascending, of the pieces of `wanted` that may differ from `before`: of all
-    pieces, or, if both are sparse, of those in which one of them has a page."""
-    if isinstance(before, SparseBytes) and isinstance(wanted, SparseBytes):
-        pages = before.pages.keys() | wanted.pages.keys()
-        starts = {page * PAGE_BYTES // PIECE_BYTES * PIECE_BYTES for page in pages}
-        return sorted(start for start in starts if start < len(wanted))
-    return range(0, len(wanted), PIECE_BYTES)
+def piece_offsets(old_bytes: Bytes, wanted_bytes: Bytes) -> Iterable[int]:
+    """The offsets, ascending, of the pieces of wanted_bytes that may differ from old_bytes: of all
+    pieces or, if both are sparse, of those in which one of them has a page."""
+    if isinstance(old_bytes, SparseBytes) and isinstance(wanted_bytes, SparseBytes):
+        pages = old_bytes.pages.keys() | wanted_bytes.pages.keys()
+        offsets = {page * PAGE_BYTES // PIECE_BYTES * PIECE_BYTES for page in pages}
+        return sorted(offset for offset in offsets if offset < len(wanted_bytes))
+    return range(0, len(wanted_bytes), PIECE_BYTES)
 
 
 def has_bytes(piece: Union[bytes, bytearray]) -> bool:
@@ -38,9 +40,9 @@ def has_bytes(piece: Union[bytes, bytearray]) -> bool:
     return piece.count(0) != len(piece)
 
 
-def write_at(file: int, at: int, data: Union[bytes, bytearray]) -> None:
+def write_at(file: int, offset: int, data: Union[bytes, bytearray]) -> None:
     """Writes all bytes at an offset of an open file, in several writes if the system takes only
-    some at once."""
+    some at once. After an OSError some may be written."""
     while data:
-        count = os.pwrite(file, data, at)
-        at, data = at + count, data[count:]
+        count = os.pwrite(file, data, offset)
+        offset, data = offset + count, data[count:]

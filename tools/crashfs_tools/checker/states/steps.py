@@ -9,8 +9,8 @@ from typing import Iterator, List, Tuple
 from crashfs_tools.common.command import Refused
 from crashfs_tools.common.entry import Entries
 from crashfs_tools.common.trace import Operation, Say, Trace, Truncate, Write
-from crashfs_tools.common.trace_read import read_numbered, tree_of
-from crashfs_tools.common.tree import Tree, grows_past_page, page_end, start_lines
+from crashfs_tools.common.trace_read import read_trace_with_numbers, tree_without_start
+from crashfs_tools.common.tree import Tree, is_growth_past_page, page_end, start_lines
 
 # A longer write is several steps, so that a window can end in it.
 PIECE_BLOCKS = 64
@@ -29,13 +29,13 @@ class Step:
 
 class Session:
     """A trace, and its operations as steps. places[k] is how many micro-operations come before step
-    k; its last number is that of all. end is the tree after all steps."""
+    k; its last item counts all. end is the tree after all steps."""
 
     def __init__(self, name: str, text: str) -> None:
-        """Reads the text of a trace. Refused, with `name` and the line, for the first operation
-        that the tree doesn't allow; TraceError, which is a Refused too, for a line that makes no
-        sense."""
-        self.trace, numbers = read_numbered(text)
+        """Reads the text of a trace. TraceError, which is a Refused, if any line makes no sense;
+        then Refused, with `name` and the line, for the first operation that the tree doesn't allow.
+        Start lines aren't checked, as in start_tree()."""
+        self.trace, numbers = read_trace_with_numbers(text)
         self.steps: List[Step] = []
         self.places = [0]
         tree = start_tree(self.trace)
@@ -43,11 +43,11 @@ class Session:
             fault = tree.fault(operation)
             if fault:
                 raise Refused(f'{name}: line {line}: {fault}')
-            for piece in parts_of_operation(operation, tree):
-                before = tree.micro_operations
-                tree.apply(piece)
-                size = tree.micro_operations - before
-                self.steps.append(Step(line, piece, self.trace.notes.get(place, ''), size))
+            for part in parts_of_operation(operation, tree):
+                count_before = tree.micro_operations
+                tree.apply(part)
+                size = tree.micro_operations - count_before
+                self.steps.append(Step(line, part, self.trace.notes.get(place, ''), size))
                 self.places.append(tree.micro_operations)
         self.end = tree
 
@@ -66,17 +66,18 @@ class Session:
 
 
 def start_tree(trace: Trace) -> Tree:
-    """The tree in which a trace begins, after its start lines. It has copies of their bytes:
-    operations can be applied to it."""
-    tree = tree_of(trace)
+    """The tree in which a trace begins, after its start lines. It has copies of their bytes, so
+    operations can be applied to it. Whether the lines fit each other isn't checked; KeyError if the
+    source of a link is missing."""
+    tree = tree_without_start(trace)
     for entry in trace.start:
         tree.add_start(entry)
     return tree
 
 
 def parts_of_operation(operation: Operation, tree: Tree) -> Iterator[Operation]:
-    """Yields an operation itself, or the parts of a write of more than PIECE_BLOCKS blocks:
-    truncates to its new sizes, then writes of up to so many blocks. They are the same
+    """Yields the operation itself or, for a write of more than PIECE_BLOCKS blocks, its parts:
+    truncates to its new sizes, then writes of up to so many blocks. They have the same
     micro-operations. `tree` is the one before the operation; the caller may apply each part to it
     as it comes."""
     if not isinstance(operation, Write) or len(operation.data) <= PIECE_BLOCKS * tree.block:
@@ -85,20 +86,20 @@ def parts_of_operation(operation: Operation, tree: Tree) -> Iterator[Operation]:
     end = operation.offset + len(operation.data)
     for length in lengths_before_write(tree, operation.path, end):
         yield Truncate(operation.path, length)
-    at = operation.offset
-    while at < end:
-        stop = min(end, (at // tree.block + PIECE_BLOCKS) * tree.block)
-        part = operation.data[at - operation.offset : stop - operation.offset]
-        yield Write(operation.path, at, part)
-        at = stop
+    begin = operation.offset
+    while begin < end:
+        part_end = min(end, (begin // tree.block + PIECE_BLOCKS) * tree.block)
+        data = operation.data[begin - operation.offset : part_end - operation.offset]
+        yield Write(operation.path, begin, data)
+        begin = part_end
 
 
 def lengths_before_write(tree: Tree, path: str, end: int) -> Iterator[int]:
-    """The sizes, in order, that a write up to the offset `end` gives a file before it changes
+    """The sizes, in order, that a file gets before a write up to the offset `end` changes its
     blocks: in version 4 first the end of its last page, if the write grows it past that; then
-    `end`. No sizes if the file doesn't grow."""
+    `end`. None if the file doesn't grow."""
     size = len(tree.entries[path].data or b'')
-    if tree.version >= 4 and grows_past_page(size, end):
+    if tree.version >= 4 and is_growth_past_page(size, end):
         yield page_end(size)
     if end > size:
         yield end
@@ -117,45 +118,45 @@ class Steps:
         self.tree = start_tree(session.trace)
         self.start = self.tree.entries.copy()
 
-    def end_within(self, size: int) -> int:
-        """The last step that a part from `begin` on may end before, with at most `size`
-        micro-operations. The part has at least one step, even if that is larger, and the syncs
-        after its last micro-operation."""
+    def end_within(self, most_operations: int) -> int:
+        """The step before which the longest part from `begin` on ends that has at most
+        most_operations micro-operations; syncs after its last one are in it. It has at least one
+        step, even a larger one."""
         places = self.session.places
-        end = bisect.bisect_right(places, places[self.begin] + size) - 1
+        end = bisect.bisect_right(places, places[self.begin] + most_operations) - 1
         return min(max(end, self.begin + 1), len(self.session.steps))
 
     def size_until(self, end: int) -> int:
-        """How many micro-operations the part from `begin` up to a step has, without that step."""
+        """How many micro-operations come from `begin` up to the step `end`, without that step."""
         return self.session.places[end] - self.session.places[self.begin]
 
     def go_to(self, step: int, start: Entries) -> None:
-        """Moves on to a later step, by applying the operations before it to `tree`. `start` is the
-        tree there as the program gives it; it isn't compared with `tree`."""
-        for one in self.session.steps[self.begin : step]:
-            self.says += isinstance(one.operation, Say)
-            self.tree.apply(one.operation)
+        """Moves `begin` on to a later step, by applying the operations before it to `tree`. `start`
+        must be the tree there as the program gives it; it isn't compared with `tree`."""
+        for passed_step in self.session.steps[self.begin : step]:
+            self.says += isinstance(passed_step.operation, Say)
+            self.tree.apply(passed_step.operation)
         self.begin = step
         self.start = start
 
     def trace_until(self, end: int) -> Tuple[str, Tuple[int, ...]]:
-        """The text of the trace of the part from `begin` up to a step, without that step. Then, for
-        each line of this text, the number of its line in the session: 0 for the header and the
-        start lines. The parts of a long write have the same number."""
-        part = self.session.steps[self.begin : end]
-        whole = self.session.trace
+        """The text of the trace from `begin` up to the step `end`, without that step; and for each
+        of its lines the number of its line in the session, which is 0 for the header and the start
+        lines. The parts of a long write have the same number."""
+        steps = self.session.steps[self.begin : end]
+        session_trace = self.session.trace
         header, start = start_lines(self.start, self.tree.files)
-        notes = {place: one.note for place, one in enumerate(part) if one.note}
+        notes = {place: step.note for place, step in enumerate(steps) if step.note}
         trace = Trace(
             header,
             start,
-            [one.operation for one in part],
-            whole.version,
-            whole.profile,
-            whole.block,
+            [step.operation for step in steps],
+            session_trace.version,
+            session_trace.profile,
+            session_trace.block,
             notes,
         )
-        return trace_text(trace), (0,) * (1 + len(start)) + tuple(one.line for one in part)
+        return trace_text(trace), (0,) * (1 + len(start)) + tuple(step.line for step in steps)
 
 
 def trace_text(trace: Trace) -> str:

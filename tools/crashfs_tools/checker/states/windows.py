@@ -17,9 +17,9 @@ from crashfs_tools.checker.options import Options
 from crashfs_tools.common import limits
 from crashfs_tools.common.command import TEXT, Refused
 
-from .all_sets import ReadSets
+from .all_sets import ReadingSets
 from .place_sets import size_of
-from .plan import Offsets, Planned
+from .plan import Offsets, PlannedTrace
 from .planning import Planner, TooLarge
 from .steps import Session, Steps
 
@@ -46,7 +46,7 @@ class PlannedWindow:
     no sync has made durable at the end; acknowledged lines aren't among them. needs has the set
     that each micro-operation needs, also of those after the end that the first try had."""
 
-    planned: Planned
+    planned: PlannedTrace
     end: int
     pending: List[int]
     needs: Sequence[int]
@@ -57,6 +57,7 @@ class Windows:
     than LARGEST, or of one step that has more. cut_off grows while the windows are made."""
 
     def __init__(self, planner: Planner, session: Session, largest: int = LARGEST) -> None:
+        """Nothing is planned yet. The files of windows will be in the directory of the guard."""
         self.planner = planner
         self.session = session
         self.largest = min(largest, LARGEST)
@@ -64,87 +65,90 @@ class Windows:
 
     def write_end(self) -> str:
         """Writes a trace that has only the tree at the session's end to the guard's directory, and
-        returns its path. An earlier one is replaced."""
+        returns its path. An earlier one is replaced. OSError if it can't be written."""
         path = os.path.join(self.planner.guard.directory, 'end.trace')
         write_text(path, self.session.end_trace())
         return path
 
-    def all_planned(self) -> Iterator[Planned]:
-        """Yields the plan of each window. States are numbered on from window to window;
-        micro-operations have their places in the session. The files of a window are removed when
-        the next plan is asked for; those of the last one stay. Refused for a trace with a fault, or
-        if go_to() refuses."""
-        steps, states = Steps(self.session), 0
-        window = self.longest_window(steps, states)
+    def all_planned(self) -> Iterator[PlannedTrace]:
+        """Yields the plan of each window, and sets is_last, which is only true of the last one.
+        States are numbered on from window to window; micro-operations have their places in the
+        session. A window's files are removed when the next plan is asked for; those of the last one
+        stay. cut_off grows meanwhile: call this once. Refused for a trace with a fault; others as
+        in Planner.plan() and go_to()."""
+        steps, state_count = Steps(self.session), 0
+        window = self.longest_window(steps, state_count)
         while window.end < len(self.session.steps):
             window.planned.is_last = False
             yield window.planned
-            states += len(window.planned.plan.listed)
-            last, window = window, self.next_window(steps, window, states)
-            remove_files(last.planned)
+            state_count += len(window.planned.plan.listed)
+            previous, window = window, self.next_window(steps, window, state_count)
+            remove_files(previous.planned)
         yield window.planned
 
-    def next_window(self, steps: Steps, last: PlannedWindow, states: int) -> PlannedWindow:
-        """The window after `last`; its first state gets the number `states`. It begins at
-        next_begin() or, if it wouldn't end later than `last` then, at the end of `last`. Moves
-        `steps` to its begin, and adds to cut_off what is pending at the end of `last` and not in
-        it."""
-        begin = self.next_begin(last)
-        self.go_to(steps, last, begin)
-        window = self.longest_window(steps, states)
-        if window.end <= last.end:
-            begin = last.end
-            self.go_to(steps, last, begin)
-            window = self.longest_window(steps, states)
-        self.note_cut_off(last, self.session.places[begin])
+    def next_window(
+        self, steps: Steps, previous: PlannedWindow, first_number: int
+    ) -> PlannedWindow:
+        """The window after `previous`, whose first state gets first_number. It begins at
+        next_begin() or, if it wouldn't end later than `previous` then, at the end of `previous`.
+        Moves `steps` to its begin, and adds to cut_off what was pending at the end of `previous`
+        and isn't in it."""
+        begin = self.next_begin(previous)
+        self.go_to(steps, previous, begin)
+        window = self.longest_window(steps, first_number)
+        if window.end <= previous.end:
+            begin = previous.end
+            self.go_to(steps, previous, begin)
+            window = self.longest_window(steps, first_number)
+        self.note_cut_off(previous, self.session.places[begin])
         return window
 
-    def longest_window(self, steps: Steps, states: int) -> PlannedWindow:
-        """The longest window that begins where `steps` is and keeps to the limits of this module's
-        text; its first state gets the number `states`. Its trace and picks are written, over those
-        of longer tries. Refused for a trace with a fault; the files stay then."""
-        path = os.path.join(self.planner.guard.directory, f'window-{states}.trace')
+    def longest_window(self, steps: Steps, first_number: int) -> PlannedWindow:
+        """The longest window that begins where `steps` is and keeps to the limits in this module's
+        text. Its first state gets first_number. Writes its trace and picks, over those of longer
+        tries. Refused for a trace with a fault: the files stay then."""
+        path = os.path.join(self.planner.guard.directory, f'window-{first_number}.trace')
         end = steps.end_within(self.largest)
-        longest: Sequence[int] = ()
+        longest_needs: Sequence[int] = ()
         while True:
             text, lines = steps.trace_until(end)
             needs = self.needs_with_probe(path + '.probe', text)
-            longest = longest or needs[:-1]
-            fitting = self.fitting_count(needs[:-1])
-            if fitting < len(needs) - 1:
-                end = steps.end_within(fitting)
+            longest_needs = longest_needs or needs[:-1]
+            count = self.fitting_count(needs[:-1])
+            if count < len(needs) - 1:
+                end = steps.end_within(count)
                 continue
             write_text(path, text)
-            place = Offsets(states, self.session.places[steps.begin], steps.says, lines)
+            offsets = Offsets(first_number, self.session.places[steps.begin], steps.says, lines)
             try:
-                planned = self.planner.plan(path, place)
+                planned = self.planner.plan(path, offsets)
             except TooLarge:
-                end = steps.end_within(fitting - max(1, fitting // FEWER))
+                end = steps.end_within(count - max(1, count // FEWER))
                 continue
-            shorter = self.end_with_few_states(steps, end, planned)
-            if shorter < end:
-                end = shorter
+            shorter_end = self.end_with_few_states(steps, end, planned)
+            if shorter_end < end:
+                end = shorter_end
                 continue
             operations = planned.plan.operations
             return PlannedWindow(
                 planned,
                 end,
                 [
-                    at
-                    for at, one in enumerate(operations)
-                    if one.kind != 'say' and not needs[-1] >> at & 1
+                    place
+                    for place, operation in enumerate(operations)
+                    if operation.kind != 'say' and not needs[-1] >> place & 1
                 ],
-                longest,
+                longest_needs,
             )
 
-    def end_with_few_states(self, steps: Steps, end: int, planned: Planned) -> int:
-        """The last step before `end`, where a plan ends, at which nothing is pending and few enough
-        crash states come before to try them all. `end` itself if the plan has all of its states, if
-        they aren't asked for, or if there is no such step."""
-        every = planned.plan.all_states
-        if every is None or every.are_listed:
+    def end_with_few_states(self, steps: Steps, end: int, planned: PlannedTrace) -> int:
+        """The last step before `end` at which nothing is pending, and before which so few crash
+        states come that all can be tried. `end`, at which `planned` ends, if its plan has all
+        states, if they aren't asked for, or if there is no such step."""
+        all_states = planned.plan.all_states
+        if all_states is None or all_states.are_listed:
             return end
-        ends = self.ends_without_pending(steps, end, ReadSets(planned.trace))
+        ends = self.ends_without_pending(steps, end, ReadingSets(planned.trace))
         low, high = 0, len(ends)
         while low < high:
             middle = (low + high) // 2
@@ -154,17 +158,22 @@ class Windows:
                 high = middle
         return ends[low - 1] if low else end
 
-    def ends_without_pending(self, steps: Steps, end: int, read: ReadSets) -> List[int]:
-        """The steps before `end`, ascending, at which nothing is pending and that have more than a
-        quarter of the part's micro-operations before them. Of several with the same
-        micro-operations before them only the last: it comes after their syncs."""
-        sizes = {steps.size_until(one): one for one in range(steps.begin + 1, end)}
-        least = steps.size_until(end) // LEAST_PART
-        return [one for size, one in sizes.items() if size > least and not read.has_pending(size)]
+    def ends_without_pending(self, steps: Steps, end: int, reading_sets: ReadingSets) -> List[int]:
+        """The steps before `end`, ascending, at which nothing is pending, and before which more
+        than a quarter of the part's micro-operations come. Of several steps with the same
+        micro-operations before them only the last one, which comes after their syncs."""
+        steps_by_size = {steps.size_until(step): step for step in range(steps.begin + 1, end)}
+        least_size = steps.size_until(end) // LEAST_PART
+        return [
+            step
+            for size, step in steps_by_size.items()
+            if size > least_size and not reading_sets.has_pending(size)
+        ]
 
     def has_few_states(self, steps: Steps, end: int) -> bool:
-        """Whether the part up to a step has few enough different crash states for all of them to be
-        tried. The trace that is written for the question is removed, also if it is refused."""
+        """Whether the part up to a step has so few different crash states that all can be tried.
+        Writes its trace, and removes it again, also if it is refused. Errors as in
+        Planner.has_few_states()."""
         path = os.path.join(self.planner.guard.directory, 'shorter.trace')
         write_text(path, steps.trace_until(end)[0])
         try:
@@ -173,76 +182,78 @@ class Windows:
             os.unlink(path)
 
     def needs_with_probe(self, path: str, text: str) -> Sequence[int]:
-        """The set that each micro-operation of a trace needs, by the program, and last that of one
-        more at the end, which changes a file of its own: it needs what is durable then, and no
-        other change. The trace with it is written to `path`, and removed. Refused or TooLarge if
-        the program refuses it; it is removed then too."""
+        """The set that each micro-operation of a trace needs, by the program; last that of one more
+        at the end, which changes a file of its own, and so needs exactly what is durable then.
+        Writes the longer trace to `path`, and removes it again. Refused or TooLarge if the program
+        refuses it."""
         write_text(path, with_probe(text))
         try:
-            return self.planner.prefix_plan(path).needs.masks
+            return self.planner.plan_prefixes(path).needs.masks
         finally:
             os.unlink(path)
 
     def fitting_count(self, needs: Sequence[int]) -> int:
-        """How many of the first micro-operations fit in one plan, with their prefixes, their holes,
-        and a set of --lost for each. needs has the set that each one needs. The sets of --files
+        """How many of the first micro-operations fit in one plan with their prefixes, their holes,
+        and a set of --lost for each. `needs` has the set that each one needs. Sets of --files
         aren't counted."""
-        options, states = self.planner.options, 1
-        for place, mask in enumerate(needs):
-            holes = 0 if options.prefixes else place + 1 - size_of(mask)
-            states += 1 + holes + options.has_lost
-            if states > limits.STATES:
+        options, state_count = self.planner.options, 1
+        for place, members in enumerate(needs):
+            hole_count = 0 if options.prefixes else place + 1 - size_of(members)
+            state_count += 1 + hole_count + options.has_lost
+            if state_count > limits.STATES:
                 return place
         return len(needs)
 
-    def next_begin(self, last: PlannedWindow) -> int:
-        """The step at which the next window begins: the one that has the first pending
-        micro-operation, but not before the middle of the last window. The end of the last window if
-        nothing is pending, or if a window from the step wouldn't end later."""
-        places, plan = self.session.places, last.planned.plan
-        begin = last.planned.offsets.operations
-        half = begin + (len(plan.operations) + 1) // 2
-        first = begin + min(last.pending, default=len(plan.operations))
-        step = next(one for one in range(last.end, -1, -1) if places[one] <= first)
-        while places[step] < half:
+    def next_begin(self, previous: PlannedWindow) -> int:
+        """The step at which the next window begins: that of the first pending micro-operation, but
+        not before the middle of the previous window. The end of the previous window if nothing is
+        pending, or if a window from that step wouldn't end later."""
+        places, plan = self.session.places, previous.planned.plan
+        first_place = previous.planned.offsets.operations
+        middle_place = first_place + (len(plan.operations) + 1) // 2
+        pending_place = first_place + min(previous.pending, default=len(plan.operations))
+        step = next(
+            number for number in range(previous.end, -1, -1) if places[number] <= pending_place
+        )
+        while places[step] < middle_place:
             step += 1
-        return step if self.would_end_later(last, step) else last.end
+        return step if self.would_end_later(previous, step) else previous.end
 
-    def would_end_later(self, last: PlannedWindow, step: int) -> bool:
-        """Whether a window that begins at `step` would end after the last one, as far as
-        fitting_count() says. Each micro-operation is taken to need what it needs in the last
-        window, without what comes before the step. False for the end of the last window."""
+    def would_end_later(self, previous: PlannedWindow, step: int) -> bool:
+        """Whether a window from `step` on would end after the previous one, by fitting_count().
+        Each micro-operation is assumed to need what it needs in the previous window, without what
+        comes before the step. False if `step` is the end of the previous window."""
         places = self.session.places
-        first = places[step] - last.planned.offsets.operations
-        needs = [mask >> first for mask in last.needs[first:]]
-        fitting = self.fitting_count(needs)
-        return step < last.end and (
-            fitting == len(needs) or places[step] + fitting >= places[last.end + 1]
+        begin = places[step] - previous.planned.offsets.operations
+        needs = [members >> begin for members in previous.needs[begin:]]
+        count = self.fitting_count(needs)
+        return step < previous.end and (
+            count == len(needs) or places[step] + count >= places[previous.end + 1]
         )
 
-    def go_to(self, steps: Steps, last: PlannedWindow, step: int) -> None:
+    def go_to(self, steps: Steps, previous: PlannedWindow, step: int) -> None:
         """Moves `steps` to a later step, with the tree that the program gives of that moment.
         Refused if these tools, which apply the operations themselves, have another tree there;
-        `steps` has moved then."""
-        prefix = self.session.places[step] - last.planned.offsets.operations
-        words = [*last.planned.parts[0].words, '--state', str(prefix)]
-        start = self.planner.program.whole_tree(words, self.planner.guard.environment)
-        steps.go_to(step, start)
-        if start != steps.tree.entries:
+        `steps` has moved then. ProgramFault, before it moves, if the program gives no tree."""
+        prefix = self.session.places[step] - previous.planned.offsets.operations
+        words = [*previous.planned.parts[0].options, '--state', str(prefix)]
+        start_tree = self.planner.program.tree_with_root(words, self.planner.guard.environment)
+        steps.go_to(step, start_tree)
+        if start_tree != steps.tree.entries:
             raise Refused(
                 f'the tree of the program before line {self.session.steps[step].line} '
                 'is not that of these tools, of which one is wrong'
             )
 
-    def note_cut_off(self, last: PlannedWindow, begin: int) -> None:
-        """Adds to cut_off the lines of the micro-operations that are pending at the end of `last`
-        and come before the place `begin`, at which the next window begins. A line may be added
+    def note_cut_off(self, previous: PlannedWindow, next_place: int) -> None:
+        """Adds to cut_off the lines of the micro-operations that are pending at the end of
+        `previous` and come before next_place, where the next window begins. A line may be added
         several times."""
-        operations = last.planned.plan.operations
-        for place in last.pending:
-            if operations[place].place < begin:
-                tried = len(operations) - place - 1
-                self.cut_off.append(CutOff(operations[place].line, tried))
+        operations = previous.planned.plan.operations
+        for place in previous.pending:
+            if operations[place].place < next_place:
+                tried_count = len(operations) - place - 1
+                self.cut_off.append(CutOff(operations[place].line, tried_count))
 
 
 def windows_of(planner: Planner, options: Options, text: str) -> Windows:
@@ -251,9 +262,9 @@ def windows_of(planner: Planner, options: Options, text: str) -> Windows:
     return Windows(planner, Session(options.trace or '', text), options.window or LARGEST)
 
 
-def remove_files(planned: Planned) -> None:
-    """Removes the trace and the picks of a window: its start tree may be large, and there may be
-    many windows. FileNotFoundError if one is gone."""
+def remove_files(planned: PlannedTrace) -> None:
+    """Removes the trace and the picks of a window: they may be large, and there may be many
+    windows. FileNotFoundError if one is gone; the later ones stay then."""
     for path in planned.files():
         os.unlink(path)
 
@@ -261,18 +272,19 @@ def remove_files(planned: Planned) -> None:
 def with_probe(text: str) -> str:
     """The text of a trace with one more file at the start, and a last line that changes its length.
     No path of the trace has the file's name."""
-    header, _, rest = text.partition('\n')
+    header, _, other_lines = text.partition('\n')
     name = '/probe'
-    while f'"{name}' in rest:
+    while f'"{name}' in other_lines:
         name += '-'
-    start = (
+    start_line = (
         f'{{"start":"file","path":"{name}","owner":"root","group":"root","mode":"600",'
         '"bytes":""}'
     )
-    return f'{header}\n{start}\n{rest}{{"op":"truncate","path":"{name}","length":1}}\n'
+    return f'{header}\n{start_line}\n{other_lines}{{"op":"truncate","path":"{name}","length":1}}\n'
 
 
 def write_text(path: str, text: str) -> None:
-    """Writes a text into a file of this path."""
+    """Writes a text into the file at a path, in place of what it has. OSError if it can't be
+    written."""
     with open(path, 'w', **TEXT) as file:
         file.write(text)

@@ -1,5 +1,5 @@
 """Calls that change what a process has: fork, exec, chdir, umask. Each `on_NAME` translates a call
-NAME that has returned."""
+NAME that has returned; LogError if an argument isn't as strace writes it."""
 
 from __future__ import annotations
 
@@ -13,44 +13,46 @@ from crashfs_tools.recorder.strace_log import Call
 
 
 def on_clone(files: LiveFiles, process: Process, call: Call) -> None:
-    """Adds the process or thread that a fork made, unless it has made a call already: then it is
-    known."""
+    """Adds the process or thread that a fork made, unless it is known already, because it made a
+    call before the fork returned."""
     if call.result > 0 and call.result not in files.processes:
         files.processes[call.result] = process.forked_child(call)
 
 
 def on_execve(files: LiveFiles, process: Process, call: Call) -> None:
-    """Starts another program in a process: some descriptors are closed, nothing is mapped any more,
-    and nothing is shared with threads any more."""
-    process.descriptors = process.descriptors.after_exec()
-    process.paths = process.paths.copy()
+    """Starts another program in a process. The descriptors that exec closes are closed, no file is
+    mapped any more, and nothing is shared with other threads."""
+    process.descriptors = process.descriptors.copy_after_exec()
+    process.path_context = process.path_context.copy()
     process.memory = Memory()
 
 
 def on_chdir(files: LiveFiles, process: Process, call: Call) -> None:
-    """Sets the working directory, for all threads that share it, by a path. A path that strace cut
-    leaves the old one."""
-    path = arguments.path_of_text(call.argument(0))
+    """Sets the working directory by a path, for all threads that share it. A path through too many
+    symbolic links is taken as it is written. A path that strace cut leaves the old directory."""
+    path = arguments.parse_path(call.argument(0))
     if path is not None:
-        place = process.paths
-        full = os.path.join(place.directory, path)
-        place.directory = files.resolver.resolve(full, True) or os.path.normpath(full)
+        context = process.path_context
+        full_path = os.path.join(context.directory, path)
+        resolved = files.resolver.resolve(full_path, follow_last_link=True)
+        context.directory = resolved or os.path.normpath(full_path)
 
 
 def on_fchdir(files: LiveFiles, process: Process, call: Call) -> None:
-    """Sets the working directory by a descriptor. It stays if strace shows no path of that."""
-    process.paths.directory = call.descriptor().path or process.paths.directory
+    """Sets the working directory by a descriptor. The old one stays if strace shows no path of the
+    descriptor."""
+    process.path_context.directory = call.descriptor().path or process.path_context.directory
 
 
 def on_umask(files: LiveFiles, process: Process, call: Call) -> None:
     """Sets the umask."""
-    process.paths.umask = arguments.octal(call.argument(0))
+    process.path_context.umask = arguments.parse_octal(call.argument(0))
 
 
 def on_chroot(files: LiveFiles, process: Process, call: Call) -> None:
-    """Reports that paths of a process mean other files from here on; they are followed as
-    before."""
-    path = arguments.path_of_text(call.argument(0)) or '/'
+    """Reports that the paths of a process mean other files from here on; they are followed as
+    before. The report is of the path in the call, or of `/` if strace cut that."""
+    path = arguments.parse_path(call.argument(0)) or '/'
     files.recording.report('chroot: paths of that process mean other files from here on', path)
 
 

@@ -1,30 +1,32 @@
 """Calls that sync, and that map files. Each `on_NAME` translates a call NAME that has returned; one
-on a file that isn't followed changes nothing."""
+on a file that isn't followed changes nothing, but LiveFiles.find_open_file() may report it.
+LogError if an argument isn't as strace writes it."""
 
 from __future__ import annotations
 
 from crashfs_tools.common.trace import Sync
-from crashfs_tools.recorder.arguments import integer
-from crashfs_tools.recorder.mappings import Mapping, in_whole_pages
+from crashfs_tools.recorder.arguments import parse_integer
+from crashfs_tools.recorder.mappings import Mapping, round_up_to_pages
 from crashfs_tools.recorder.processes import Process
 from crashfs_tools.recorder.live_files import LiveFiles
 from crashfs_tools.recorder.strace_log import Call
 
 NOT_FOLLOWED = (
-    'mapped for writing: what is stored through the mapping is left out ' '(--mapped follows it)'
+    'mapped for writing: what is stored through the mapping is left out (--mapped follows it)'
 )
 
 
 def on_fsync(files: LiveFiles, process: Process, call: Call) -> None:
     """Syncs an open file or directory, with its mode and owner."""
-    file = files.open_file(process, call)
+    file = files.find_open_file(process, call)
     if file is not None and file.node is not None:
         files.sync_file(file.node)
 
 
 def on_fdatasync(files: LiveFiles, process: Process, call: Call) -> None:
-    """Syncs the bytes and the size of an open file; an open directory as fsync does."""
-    file = files.open_file(process, call)
+    """Syncs the bytes and the size of an open file. An open directory is synced as by fsync, with a
+    report if its mode or owner was changed since its last sync."""
+    file = files.find_open_file(process, call)
     if file is not None and file.node is not None:
         files.sync_data(file.node)
 
@@ -35,27 +37,29 @@ def on_sync(files: LiveFiles, process: Process, call: Call) -> None:
 
 
 def on_syncfs(files: LiveFiles, process: Process, call: Call) -> None:
-    """Syncs a file system: a sync of everything, if the descriptor's file is in the directory and
-    not ignored; else it is left out and reported."""
+    """Syncs all files and directories if the descriptor's file is in the directory and not ignored;
+    any other call is left out and reported."""
     path = call.descriptor().path
-    if path is not None and files.relative_path(path) is not None:
+    if path is not None and files.resolve_path(path) is not None:
         sync_all(files)
     else:
         files.recording.report('syncfs by a file outside the directory is left out', '/')
 
 
 def sync_all(files: LiveFiles) -> None:
-    """Adds a sync of everything. Notes that files of O_TMPFILE were synced, since the trace has
-    them only once they get their names."""
-    for node in files.temporary:
+    """Adds a sync of everything. Sets was_synced of files of O_TMPFILE, since the trace has them
+    only once they get their names, and clears has_new_rights of all nodes."""
+    for node in files.temporary_files:
         node.was_synced = True
+    for node in files.tree.nodes.values():
+        node.has_new_rights = False
     files.recording.add_operation(Sync())
 
 
 def on_sync_file_range(files: LiveFiles, process: Process, call: Call) -> None:
-    """Notes sync_file_range of a file that the trace has; the trace gets no sync, as the call
-    promises nothing of a crash."""
-    file = files.open_file(process, call)
+    """Notes a sync_file_range, if the trace has the file. The trace gets no sync, as the call
+    promises nothing about a crash."""
+    file = files.find_open_file(process, call)
     if file is not None and file.node is not None and file.node.traced_path is not None:
         files.recording.report_note(
             'sync_file_range: it promises nothing of a crash, and is left out',
@@ -64,55 +68,60 @@ def on_sync_file_range(files: LiveFiles, process: Process, call: Call) -> None:
 
 
 def on_mmap(files: LiveFiles, process: Process, call: Call) -> None:
-    """Unmaps what was mapped at the addresses, and notes a shared mapping of a followed file; a
-    private one changes no file. One for writing is reported, unless copies show the stores."""
-    length = in_whole_pages(integer(call.argument(1)))
+    """Unmaps what was mapped at the addresses, and adds a shared mapping of a followed file; a
+    private one changes no file. A shared one for writing is reported, unless copies show what is
+    stored."""
+    length = round_up_to_pages(parse_integer(call.argument(1)))
     process.memory.unmap(call.result, length)
     file = process.descriptors.files.get(call.descriptor(4).number)
     if file is None or file.node is None or 'MAP_SHARED' not in call.argument(3):
         return
-    process.memory.map(Mapping(call.result, length, file.node, integer(call.argument(5, '0'))))
+    process.memory.map(
+        Mapping(call.result, length, file.node, parse_integer(call.argument(5, '0')))
+    )
     if 'PROT_WRITE' in call.argument(2):
         report_mapped(files, process, call.result, length)
 
 
 def on_munmap(files: LiveFiles, process: Process, call: Call) -> None:
     """Unmaps the whole pages of a range of addresses."""
-    process.memory.unmap(integer(call.argument(0)), integer(call.argument(1)))
+    process.memory.unmap(parse_integer(call.argument(0)), parse_integer(call.argument(1)))
 
 
 def on_mremap(files: LiveFiles, process: Process, call: Call) -> None:
     """Moves a mapping, or gives it another length. With MREMAP_DONTUNMAP the old addresses stay
     mapped."""
-    old, old_length, new_length = [integer(call.argument(place)) for place in range(3)]
-    keeps = 'DONTUNMAP' in call.argument(3)
-    process.memory.move(old, old_length, call.result, new_length, keeps=keeps)
+    old, old_length, new_length = [parse_integer(call.argument(index)) for index in range(3)]
+    keep_old = 'DONTUNMAP' in call.argument(3)
+    process.memory.move(old, old_length, call.result, new_length, keep_old=keep_old)
 
 
 def on_mprotect(files: LiveFiles, process: Process, call: Call) -> None:
-    """Reports the files that are mapped in a range which becomes writable."""
+    """Reports the files that are mapped in a range of addresses, if it becomes writable."""
     if 'PROT_WRITE' in call.argument(2):
-        report_mapped(files, process, integer(call.argument(0)), integer(call.argument(1)))
+        report_mapped(
+            files, process, parse_integer(call.argument(0)), parse_integer(call.argument(1))
+        )
 
 
 def report_mapped(files: LiveFiles, process: Process, address: int, length: int) -> None:
-    """Reports the files of the trace that are mapped in a range of addresses, which the caller
-    knows to be writable. Nothing if copies show what is stored there."""
+    """Reports the files of the trace that are mapped in a range of addresses, which must be
+    writable. Nothing if copies show what is stored there."""
     if files.has_copies:
         return
-    for part, _ in process.memory.parts_in(address, length):
+    for part in process.memory.parts_in(address, length):
         if part.node.traced_path is not None:
             files.recording.report(NOT_FOLLOWED, part.node.traced_path)
 
 
 def on_msync(files: LiveFiles, process: Process, call: Call) -> None:
-    """Syncs the bytes of files that are mapped in a range of addresses, in whole pages. Only with
-    MS_SYNC: MS_ASYNC promises nothing."""
+    """Syncs the bytes of files that are mapped in a range of addresses, in whole pages; nothing
+    without MS_SYNC."""
     if 'MS_SYNC' not in call.argument(2):
         return
-    length = in_whole_pages(integer(call.argument(1)))
-    for part, (offset, covered) in process.memory.parts_in(integer(call.argument(0)), length):
-        files.sync_range(part.node, offset, covered)
+    length = round_up_to_pages(parse_integer(call.argument(1)))
+    for part in process.memory.parts_in(parse_integer(call.argument(0)), length):
+        files.sync_range(part.node, part.offset, part.length)
 
 
 HANDLERS = {

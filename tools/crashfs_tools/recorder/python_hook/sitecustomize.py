@@ -16,7 +16,7 @@ from types import FrameType
 from typing import Any, Callable, List, Optional
 
 PREFIX = '/proc/crashfs-frame/'
-FRAMES = 3
+MOST_LINES = 3
 WATCHED = frozenset(
     (
         'open',
@@ -70,41 +70,40 @@ LIBRARY = os.path.dirname(os.__file__) + os.sep
 def mark_builtin_call(
     frame: FrameType,
     event: str,
-    called: Any,
-    last: Any = threading.local(),
+    function: Any,
+    last_mark: Any = threading.local(),
     access: Callable[[str, int], bool] = os.access,
 ) -> None:
-    """What Python calls at each call and return, in each thread. For a call of a built-in function
-    of WATCHED, from another line than that thread's last one, it calls `access` with the program's
-    lines. `last` and `access` are parameters so that a program which changes os doesn't change
-    them."""
-    if event == 'c_call' and called.__name__ in WATCHED:
-        place = frame.f_code, frame.f_lineno
-        if getattr(last, 'place', None) != place:
-            last.place = place
+    """Calls `access` with the program's lines if a built-in function of WATCHED is called, from
+    another line than at the thread's last mark. Python calls this at each call and return.
+    last_mark and access are parameters so that a program that changes os doesn't change them."""
+    if event == 'c_call' and function.__name__ in WATCHED:
+        line = frame.f_code, frame.f_lineno
+        if getattr(last_mark, 'line', None) != line:
+            last_mark.line = line
             access(PREFIX + program_lines(frame), os.F_OK)
 
 
 def program_lines(innermost: FrameType) -> str:
-    """The program's own innermost frames, FRAMES at most, as `kv.py:85 main < ..`. Those of the
-    standard library are left out; empty if there are no others."""
-    found: List[str] = []
+    """The innermost lines of the program itself, MOST_LINES at most, as `kv.py:85 main < ..`. Those
+    of the standard library are left out; empty if there are no others."""
+    lines: List[str] = []
     frame: Optional[FrameType] = innermost
-    while frame is not None and len(found) < FRAMES:
+    while frame is not None and len(lines) < MOST_LINES:
         code = frame.f_code
         if not code.co_filename.startswith((LIBRARY, '<frozen')):
             name = os.path.basename(code.co_filename)
-            found.append(f'{name}:{frame.f_lineno} {code.co_name}')
+            lines.append(f'{name}:{frame.f_lineno} {code.co_name}')
         frame = frame.f_back
-    return ' < '.join(found)
+    return ' < '.join(lines)
 
 
 def run_replaced_module() -> None:
-    """Runs the sitecustomize that Python would have loaded without this one, if there is one. What
-    it raises is passed on."""
-    here = os.path.dirname(os.path.abspath(__file__))
-    path = [one for one in sys.path if os.path.abspath(one or '.') != here]
-    spec = PathFinder.find_spec('sitecustomize', path)
+    """Runs the sitecustomize that Python would have loaded without this one, if there is one;
+    sys.modules keeps this one. It raises what that module does."""
+    own_folder = os.path.dirname(os.path.abspath(__file__))
+    folders = [folder for folder in sys.path if os.path.abspath(folder or '.') != own_folder]
+    spec = PathFinder.find_spec('sitecustomize', folders)
     if spec is not None and spec.loader is not None:
         spec.loader.exec_module(module_from_spec(spec))
 

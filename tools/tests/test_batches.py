@@ -9,13 +9,13 @@ from typing import Any, List, Set
 
 from crashfs_tools.checker.options import Shard
 from crashfs_tools.checker.report.counts import StateCounts
-from crashfs_tools.checker.report.summary import rest_lines, shown_share
-from crashfs_tools.checker.running.progress import MEASURED, Pace, Progress, TooSlow
+from crashfs_tools.checker.report.summary import partial_check_lines, share_text
+from crashfs_tools.checker.running.progress import MEASURED_STATES, Pace, Progress, TooSlow
 from crashfs_tools.checker.running.results import Results
 from crashfs_tools.checker.running.runner import BAD, GOOD, GOOD_OUTCOME, NO_ANSWER, Outcome
 from crashfs_tools.checker.running.trials import Trials, Workplace
-from crashfs_tools.checker.running.turns import family_turns, states_in_turns
-from crashfs_tools.checker.states.plan import AllStates, Planned
+from crashfs_tools.checker.running.batches import family_batches, states_in_batches
+from crashfs_tools.checker.states.plan import AllStates, PlannedTrace, SetProfiles
 
 from .support import EXAMPLES, FAKE
 from .test_all_states import Listing
@@ -29,7 +29,7 @@ TORN = HEADER + creat('/a') + sync('/') + said('1') + write('/a', 6 * 4096) + sa
 class TriedNowhere(Trials):
     """Gives each state an outcome without running anything."""
 
-    def __init__(self, planned: Planned, seconds: float, **more: Any) -> None:
+    def __init__(self, planned: PlannedTrace, seconds: float, **more: Any) -> None:
         options = SimpleNamespace(
             most_seconds=seconds,
             shard=Shard(),
@@ -43,7 +43,7 @@ class TriedNowhere(Trials):
         super().__init__(Workplace(found, nothing, nothing, nothing, Progress()), planned)
         self.order: List[Set[int]] = []
 
-    def new_layout(self, many: bool = False) -> Any:
+    def new_layout(self, is_for_many: bool = False) -> Any:
         return None
 
     def run_workers(self, layout: Any, wanted: Set[int], on_outcome: Any) -> None:
@@ -53,19 +53,19 @@ class TriedNowhere(Trials):
 
 
 class Order(Listing):
-    def test_turns_have_each_state_once_and_the_families_first(self) -> None:
+    def test_batches_have_each_state_once_and_the_families_first(self) -> None:
         for text in (MANY, TORN, (EXAMPLES / 'store.trace').read_text('utf-8')):
             planned = self.planned(text)
             results = Results(planned.plan)
-            found = states_in_turns(results, are_all=True)
-            self.assertEqual(sum(map(len, found)), len(results.trials))
-            self.assertEqual(set().union(*found), set(results.trials.values()))
-            families = set().union(*states_in_turns(results, are_all=False))
+            found = states_in_batches(results, has_all=True)
+            self.assertEqual(sum(map(len, found)), len(results.own_numbers))
+            self.assertEqual(set().union(*found), set(results.own_numbers.values()))
+            families = set().union(*states_in_batches(results, has_all=False))
             self.assertEqual(set().union(*found[:-1]), families - found[-1])
 
     def test_the_first_states_end_at_acknowledged_lines(self) -> None:
         plan = self.planned(TORN).plan
-        first = states_in_turns(Results(plan), are_all=True)[0]
+        first = states_in_batches(Results(plan), has_all=True)[0]
         kept = {plan.kept[number] for number in first}
         says = [place for place, one in enumerate(plan.operations) if one.kind == 'say']
         ends = {0, *((1 << place + 1) - 1 for place in says)}
@@ -73,7 +73,7 @@ class Order(Listing):
 
     def test_of_a_torn_write_the_first_the_middle_and_the_last_block_are_lost(self) -> None:
         plan = self.planned(TORN, most=5).plan
-        found = {one for turn in family_turns(plan) for one in turn}
+        found = {one for batch in family_batches(plan) for one in batch}
         blocks = [place for place, one in enumerate(plan.operations) if one.kind == 'write_block']
         self.assertEqual(len(blocks), 6)
         for place in blocks:
@@ -87,11 +87,21 @@ class Order(Listing):
             self.assertTrue(TriedNowhere(planned, seconds).try_all(results))
             self.assertEqual(results.is_part, is_part)
             self.assertTrue(results.is_whole)
-            families = set().union(*states_in_turns(results, are_all=False))
+            families = set().union(*states_in_batches(results, has_all=False))
             self.assertLessEqual(families, set(results.outcomes))
-            wanted = len(results.trials) if not is_part else len(results.chosen or ())
+            wanted = len(results.own_numbers) if not is_part else len(results.chosen_numbers or ())
             self.assertEqual(len(results.outcomes), wanted)
-            self.assertEqual(len(results.outcomes) < len(results.trials), is_part)
+            self.assertEqual(len(results.outcomes) < len(results.own_numbers), is_part)
+
+    def test_families_are_all_tried_however_long_they_take(self) -> None:
+        planned = self.planned(TORN + write('/a', 12 * 4096) + said('3'), most=5)
+        plan = planned.plan
+        planned.plan = plan.with_states(plan.families, None, SetProfiles())
+        results = Results(planned.plan)
+        self.assertGreater(len(results.own_numbers), MEASURED_STATES)
+        self.assertTrue(TriedNowhere(planned, 0.0).try_all(results))
+        self.assertEqual(set(results.outcomes), set(results.own_numbers.values()))
+        self.assertIsNone(results.chosen_numbers)
 
     def test_with_a_limit_families_come_first(self) -> None:
         planned = self.planned(MANY)
@@ -99,14 +109,14 @@ class Order(Listing):
         trials.options.time_limit = 5.0
         results = Results(planned.plan)
         trials.try_all(results)
-        self.assertEqual(trials.order, states_in_turns(results, are_all=True))
+        self.assertEqual(trials.order, states_in_batches(results, has_all=True))
         self.assertGreater(len(trials.order), 2)
 
     def test_by_fail_fast_a_failure_that_the_cache_has_ends_it(self) -> None:
         planned = self.planned(MANY)
         trials = TriedNowhere(planned, 1e9)
         trials.options.fail_fast = True
-        cache: Any = SimpleNamespace(outcome=lambda key: Outcome(BAD, 'lost'))
+        cache: Any = SimpleNamespace(look_up=lambda key: Outcome(BAD, 'lost'))
         trials.workplace.cache = cache
         vars(trials)['state_keys'] = SimpleNamespace(key=lambda number, attempt: number)
         results = Results(planned.plan)
@@ -121,13 +131,13 @@ class Paces(unittest.TestCase):
         for each, is_slow in ((0.59, False), (0.61, True)):
             pace.begin(1_000)
             found = []
-            for number in range(2 * MEASURED):
+            for number in range(2 * MEASURED_STATES):
                 now[0] += each
                 try:
                     pace.note_tried()
                 except TooSlow:
                     found.append(number)
-            self.assertEqual(found, [MEASURED - 1] if is_slow else [])
+            self.assertEqual(found, [MEASURED_STATES - 1] if is_slow else [])
         self.assertAlmostEqual(pace.seconds, 0.61)
 
     def test_shares_are_rounded_up(self) -> None:
@@ -137,7 +147,7 @@ class Paces(unittest.TestCase):
             (0.0301, '3.1%'),
             (0.31, '31%'),
         ]:
-            self.assertEqual(shown_share(share), text)
+            self.assertEqual(share_text(share), text)
 
 
 class Rest(Listing):
@@ -181,8 +191,8 @@ class Rest(Listing):
 
     def test_draws_without_an_answer_are_counted_with_those_that_fail(self) -> None:
         drawn = Counter({GOOD: 990, BAD: 7, NO_ANSWER: 3})
-        counts = StateCounts(is_part=True, every=[AllStates(512, False)], drawn=drawn)
-        (first, _) = rest_lines(counts)
+        counts = StateCounts(is_part=True, all_states=[AllStates(512, False)], drawn_results=drawn)
+        (first, _) = partial_check_lines(counts)
         self.assertEqual(first, '7 of 1,000 drawn at random fail; 3 gave no answer')
 
     def test_shards_have_the_same_states_and_are_merged(self) -> None:

@@ -1,0 +1,112 @@
+"""What makes the kernel write more to the disk before a crash than the session asked for."""
+
+from __future__ import annotations
+
+import os
+from enum import Enum
+from typing import Iterator, List, NamedTuple, Optional, Sequence
+
+from .replay import UnsyncedChange, Replay, sync_directory
+
+# At most so many earlier changes are tried at a moment: the last ones.
+MOST_EARLIER = 8
+
+# The changes of each file that no sync covers, in their order.
+Unsynced = Sequence[Sequence[UnsyncedChange]]
+
+
+class FlushKind(Enum):
+    """What the kernel is made to write before a crash. The value says in a report what was on the
+    disk besides what the session had synced."""
+
+    NOTHING = 'nothing more written'
+    LOG = 'the log written'
+    BYTES = 'the bytes of all files written'
+    BOTH = 'the bytes of all files and the log written'
+    ONE = 'the bytes of one file and the log written'
+    DIRECTORY = 'the directory synced'
+    EARLIER = 'the bytes of one file written earlier, then those of the others'
+
+    @property
+    def rank(self) -> int:
+        """Its place in the order of the kinds, from 0 for NOTHING."""
+        return list(FlushKind).index(self)
+
+
+class Flush(NamedTuple):
+    """A flush before a crash. `file_place` is only for ONE: which of the files with unsynced bytes
+    is written, from 0. `change` is only for EARLIER: the change after which its file is written."""
+
+    kind: FlushKind
+    file_place: Optional[int] = None
+    change: Optional[UnsyncedChange] = None
+
+
+def possible_flushes(kind: FlushKind, unsynced: Unsynced, operation_count: int) -> Iterator[Flush]:
+    """The flushes of a kind, after so many operations, that may write something which no other
+    flush does. ONE has one for each file with unsynced bytes, but none for a single file, as BOTH
+    is the same. EARLIER has those of earlier_changes(). Other kinds have one, but BYTES and BOTH
+    none without unsynced bytes."""
+    if kind is FlushKind.ONE:
+        yield from (
+            Flush(kind, file_place) for file_place in range(len(unsynced)) if len(unsynced) > 1
+        )
+    elif kind is FlushKind.EARLIER:
+        yield from (
+            Flush(kind, change=change) for change in earlier_changes(unsynced, operation_count)
+        )
+    elif unsynced or kind not in (FlushKind.BYTES, FlushKind.BOTH):
+        yield Flush(kind)
+
+
+def earlier_changes(unsynced: Unsynced, operation_count: int) -> List[UnsyncedChange]:
+    """The changes after which EARLIER may write a file: all but the last one of each file that the
+    last operation didn't change, at most the MOST_EARLIER latest. Empty if that operation changed
+    no file: then nothing new in other files would be written last."""
+    if not any(changes[-1].operation_count == operation_count for changes in unsynced):
+        return []
+    other_files = [
+        changes for changes in unsynced if changes[-1].operation_count != operation_count
+    ]
+    return sorted(change for changes in other_files for change in changes[:-1])[-MOST_EARLIER:]
+
+
+def flush_earlier_file(replay: Replay, flush: Flush) -> None:
+    """Makes the kernel write the file of a flush of EARLIER, if the replay's last operation is its
+    change. Otherwise, and for other kinds, nothing happens. To be called after each operation.
+    OSError if it fails."""
+    if flush.change is not None and flush.change.operation_count == replay.operation_count:
+        replay.write_back(replay.inode(flush.change.path))
+
+
+def make_flush(replay: Replay, flush: Flush, log_file: str) -> None:
+    """Makes the kernel write what a flush writes at the crash: with EARLIER the files that
+    flush_earlier_file() didn't write; with DIRECTORY only the session's top is synced. `log_file`
+    is the path of a file on the same file system that isn't the session's: its fsync writes the
+    log. OSError if anything fails."""
+    kind = flush.kind
+    if kind in (FlushKind.BYTES, FlushKind.BOTH, FlushKind.ONE, FlushKind.EARLIER):
+        for inode in files_to_flush(replay, flush):
+            replay.write_back(inode)
+    if kind in (FlushKind.LOG, FlushKind.BOTH, FlushKind.ONE):
+        write_log(log_file)
+    if kind is FlushKind.DIRECTORY:
+        sync_directory(replay.top)
+
+
+def files_to_flush(replay: Replay, flush: Flush) -> List[int]:
+    """The inodes of the files whose bytes a flush writes at the crash: those with unsynced bytes,
+    but only one of them for ONE, and for EARLIER all except the one that was written before."""
+    inodes = [inode for inode, changes in replay.unsynced.items() if flush.change not in changes]
+    return inodes if flush.file_place is None else inodes[flush.file_place : flush.file_place + 1]
+
+
+def write_log(log_file: str) -> None:
+    """Makes the file system write its log, by a change and an fsync of a file, which is made if it
+    isn't there. OSError if that fails."""
+    descriptor = os.open(log_file, os.O_RDWR | os.O_CREAT | os.O_CLOEXEC, 0o600)
+    try:
+        os.pwrite(descriptor, os.urandom(8), 0)
+        os.fsync(descriptor)
+    finally:
+        os.close(descriptor)

@@ -1,0 +1,139 @@
+"""How fast `crashfs picks` prints, compares, counts and draws allowed sets, and in how much memory.
+
+Each trace has files that are made in one directory, with nothing between them: each subset of these
+operations is an allowed set, so n files have 2^n."""
+
+from __future__ import annotations
+
+import os
+import subprocess
+import tempfile
+from pathlib import Path
+from typing import List, NamedTuple, Tuple
+
+from .programs import Programs, Tally
+
+HEADER = '{"trace":3,"profile":"blocks","block":4096,"owner":"cat","group":"staff","mode":"775"}'
+SAY = '{"op":"say","text":"stored"}'
+CREAT = '{"op":"creat","path":"/f%d","owner":"cat","group":"staff","mode":"644"}'
+
+
+class Row(NamedTuple):
+    """A start of `picks` that is measured, and the bounds of its figures. The first figure is its
+    processor time divided by `divisor`; the second is its memory divided by `divisor`, with what
+    the program takes in any case."""
+
+    label: str
+    # How many acknowledged lines its trace has, and then how many new files.
+    says: int
+    files: int
+    options: Tuple[str, ...]
+    # How many lines it must print.
+    lines: int
+    divisor: int
+    # The unit of the time, how many seconds it is, and how many units may pass.
+    unit: str
+    unit_seconds: float
+    most: float
+    # How many bytes the second figure may be; 0 if there is none.
+    most_bytes: int = 0
+
+
+ROWS = (
+    Row(
+        label='a million sets of 100 micro-operations, printed',
+        says=80,
+        files=20,
+        options=('--every', '--most', '1048656'),
+        lines=80 + 2**20,
+        divisor=1,
+        unit='s',
+        unit_seconds=1.0,
+        most=1.05,
+    ),
+    Row(
+        label='a class of sets that are compared',
+        says=0,
+        files=16,
+        options=('--every', '--different'),
+        lines=2**16,
+        # Of k files the sets are 2^k classes, for each k.
+        divisor=2**17 - 1,
+        unit='us',
+        unit_seconds=1e-6,
+        most=5.0,
+        most_bytes=300,
+    ),
+    Row(
+        label='the sets of 128 independent places, counted',
+        says=0,
+        files=128,
+        options=('--every', '--count'),
+        lines=1,
+        divisor=1,
+        unit='ms',
+        unit_seconds=1e-3,
+        most=10.0,
+    ),
+    Row(
+        label='a set of 63 independent places, drawn',
+        says=0,
+        files=63,
+        options=('--sample', '16384', '--seed', '1'),
+        lines=16_384,
+        divisor=16_384,
+        unit='us',
+        unit_seconds=1e-6,
+        most=10.0,
+    ),
+)
+
+
+class Use(NamedTuple):
+    """What a start of the program used: processor seconds, and the most bytes of memory."""
+
+    processor_seconds: float
+    memory_bytes: int
+
+
+def trace_text(says: int, files: int) -> str:
+    """The text of a trace with so many acknowledged lines, and then so many new files in the
+    root."""
+    return '\n'.join([HEADER, *[SAY] * says, *(CREAT % number for number in range(files))]) + '\n'
+
+
+def measure_use(words: List[str], lines: int, folder: str) -> Use:
+    """Runs a command to its end, however long it takes, with its standard output in a file of the
+    folder, and returns what it used. OSError if it can't be started, if its status isn't 0, or if
+    it doesn't print so many lines."""
+    output_path = Path(folder) / 'printed'
+    with open(output_path, 'wb') as output:
+        with subprocess.Popen(words, stdin=subprocess.DEVNULL, stdout=output) as child:
+            _, status, usage = os.wait4(child.pid, 0)
+            child.returncode = os.waitstatus_to_exitcode(status)
+    with open(output_path, 'rb') as output:
+        line_count = sum(1 for _ in output)
+    if child.returncode != 0 or line_count != lines:
+        raise OSError(f'{words[0]} printed {line_count} lines with status {child.returncode}')
+    return Use(usage.ru_utime + usage.ru_stime, usage.ru_maxrss * 1024)
+
+
+def add_set_rows(programs: Programs, tally: Tally, rows: Tuple[Row, ...] = ROWS) -> None:
+    """Measures and prints the rows of sets. A start that fails is a failure of the tally, and its
+    row isn't printed. The program `crashfs` must be built."""
+    program = str(programs.path_if_built('crashfs'))
+    with tempfile.TemporaryDirectory() as folder:
+        trace = Path(folder) / 'sets.trace'
+        for row in rows:
+            trace.write_text(trace_text(row.says, row.files))
+            words = [program, 'picks', '--trace', str(trace), *row.options]
+            try:
+                use = measure_use(words, row.lines, folder)
+            except OSError as error:
+                tally.add_failure(str(error))
+                continue
+            time_figure = use.processor_seconds / row.unit_seconds / row.divisor
+            tally.add_figure(row.label, time_figure, row.unit, row.most)
+            if row.most_bytes:
+                memory_figure = use.memory_bytes / row.divisor
+                tally.add_figure(f'{row.label}: memory', memory_figure, 'bytes', row.most_bytes)
