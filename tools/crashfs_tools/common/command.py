@@ -215,10 +215,21 @@ def flushed_output() -> Iterator[None]:
         yield
         sys.stdout.flush()
     except OSError as error:
-        # What is left in the buffer is written as Python ends, and has to go somewhere.
-        os.dup2(os.open(os.devnull, os.O_WRONLY), sys.stdout.fileno())
+        discard_output()
         if not isinstance(error, BrokenPipeError):
             raise OSError(error.errno, error.strerror, 'standard output') from error
+
+
+def discard_output() -> None:
+    """Makes the descriptor of standard output /dev/null: what is still in the buffer, which Python
+    writes as it ends, is discarded too. OSError if sys.stdout has no descriptor, or /dev/null can't
+    be opened."""
+    output = sys.stdout.fileno()
+    null_device = os.open(os.devnull, os.O_WRONLY)
+    # If standard output was closed, /dev/null may have got its number.
+    if null_device != output:
+        os.dup2(null_device, output)
+        os.close(null_device)
 
 
 def end_process(status: int) -> NoReturn:

@@ -6,10 +6,12 @@ import os
 import select
 import signal
 import sys
+from contextlib import ExitStack
 from typing import Any, BinaryIO, Dict, List, NoReturn, Tuple
 
 from .descendants import die_with_parent
 from .guard import STOPS, stop_signals_blocked
+from .pipes import open_pipe
 
 INTERNAL_ERROR = 70
 # So much of an output is read at once.
@@ -23,16 +25,18 @@ class ForkedReading:
 
     def __init__(self, words: List[str]) -> None:
         """Starts the command, with standard input empty. OSError if the system can't fork, or has
-        no more pipes. The other open files of this process are open in the fork too."""
+        no more pipes: then no pipe stays open. The other open files of this process are open in the
+        fork too."""
         # Imported before the fork, so that later ones have it too.
         from crashfs_tools.reading import archive, main
 
         self.main = main.main
         del archive
-        out_reader, out_writer = os.pipe()
-        err_reader, err_writer = os.pipe()
-        with stop_signals_blocked() as blocked_before:
+        with ExitStack() as opened, stop_signals_blocked() as blocked_before:
+            out_reader, out_writer = open_pipe(opened)
+            err_reader, err_writer = open_pipe(opened)
             self.process = os.fork()
+            opened.pop_all()
             if self.process == 0:
                 for stop in STOPS:
                     signal.signal(stop, signal.SIG_DFL)

@@ -9,18 +9,18 @@ ends all that it started, and their descendants. A run within another one keeps 
 from __future__ import annotations
 
 import errno
-import fcntl
 import json
 import os
 import signal
 import tempfile
 import time
-from contextlib import contextmanager
+from contextlib import ExitStack, contextmanager
 from typing import Dict, Iterable, Iterator, Mapping, NoReturn, Optional, Set, Tuple, Union
 
 from . import descendants
 from .command import print_line
 from .mount_table import MountTable
+from .pipes import open_pipe
 from .removal import TRASH_ENDING, remove_tree
 
 VARIABLE = 'CRASHFS_GUARD'
@@ -51,8 +51,8 @@ class Guard:
     def __enter__(self) -> Guard:
         """Makes the directory, and reports if it isn't in TMPDIR. OSError, with the name of the
         place, if it can't be made; or without a name if the system can't fork or has no more pipes.
-        Then the guard leaves no process or directory. This process stays a reaper, if it may be
-        one, also after the end of the `with`."""
+        Then the guard leaves no process, directory or pipe. This process stays a reaper, if it may
+        be one, also after the end of the `with`."""
         self.is_reaper = self.may_reap and descendants.become_reaper()
         try:
             # A signal must not come before the watcher can be closed, nor reach the watcher before
@@ -71,9 +71,11 @@ class Guard:
         `alive_writer` and `directory`. OSError, with the name of the place, if the watcher can't
         make one, or is killed before: it has ended then. OSError without a name if it can't be
         started."""
-        alive_reader, self.alive_writer = pipe_above_standard_streams()
-        answer_reader, answer_writer = pipe_above_standard_streams()
-        self.watcher = os.fork()
+        with ExitStack() as opened:
+            alive_reader, self.alive_writer = open_pipe(opened)
+            answer_reader, answer_writer = open_pipe(opened)
+            self.watcher = os.fork()
+            opened.pop_all()
         if self.watcher == 0:
             os.close(self.alive_writer)
             os.close(answer_reader)
@@ -184,17 +186,6 @@ class Guard:
             table = MountTable()
             table.unmount(table.points_below(self.directory))
             remove_tree(self.directory)
-
-
-def pipe_above_standard_streams() -> Tuple[int, int]:
-    """A new pipe, as its ends for reading and writing. Neither has the number of a standard stream,
-    even if these are closed. Forks inherit them; programs that are started don't. OSError if the
-    system has no more pipes."""
-    ends = os.pipe()
-    reader, writer = (fcntl.fcntl(end, fcntl.F_DUPFD_CLOEXEC, 3) for end in ends)
-    for end in ends:
-        os.close(end)
-    return reader, writer
 
 
 def make_directory(prefix: str, folder: Optional[str]) -> str:

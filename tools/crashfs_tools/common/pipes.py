@@ -1,0 +1,30 @@
+"""Pipes between this process and a fork of it."""
+
+from __future__ import annotations
+
+import fcntl
+import os
+from contextlib import ExitStack
+from typing import Tuple
+
+
+def open_pipe(opened: ExitStack) -> Tuple[int, int]:
+    """Opens a pipe, and returns its ends for reading and writing. The stack closes both when it
+    unwinds: a caller that keeps them calls its pop_all() before. Neither has the number of a
+    standard stream, even if these are closed. Forks inherit them; programs that are started don't.
+    OSError if the system has no more pipes: then no end stays open."""
+    low_reader, low_writer = os.pipe()
+    with open(low_reader, 'rb', buffering=0), open(low_writer, 'wb', buffering=0):
+        return (
+            duplicate_above_standard_streams(low_reader, opened),
+            duplicate_above_standard_streams(low_writer, opened),
+        )
+
+
+def duplicate_above_standard_streams(descriptor: int, opened: ExitStack) -> int:
+    """A duplicate of a descriptor, whose number is no standard stream's, and which the stack closes
+    when it unwinds. Programs that are started don't inherit it. OSError if this process may open no
+    more files."""
+    duplicate = fcntl.fcntl(descriptor, fcntl.F_DUPFD_CLOEXEC, 3)
+    opened.callback(os.close, duplicate)
+    return duplicate

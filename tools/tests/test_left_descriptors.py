@@ -1,0 +1,86 @@
+"""What fails leaves no descriptor of this process open."""
+
+import errno
+import os
+import unittest
+from contextlib import redirect_stdout
+from unittest import mock
+
+from crashfs_tools.common.command import flushed_output
+from crashfs_tools.common.forked_reading import ForkedReading
+from crashfs_tools.common.guard import Guard
+
+
+def open_descriptors():
+    """The numbers of the open descriptors, and the lowest free one."""
+    return sorted(map(int, os.listdir('/proc/self/fd')))
+
+
+def error_after(calls, function):
+    """A function that fails with EMFILE after so many calls."""
+    results = iter([function] * calls)
+
+    def call(*arguments):
+        result = next(results, None)
+        if result is None:
+            raise OSError(errno.EMFILE, os.strerror(errno.EMFILE))
+        return result(*arguments)
+
+    return call
+
+
+def start_reading():
+    ForkedReading(['list'])
+
+
+def start_guard():
+    Guard('guard', may_reap=False).__enter__()
+
+
+class LeftDescriptors(unittest.TestCase):
+    def setUp(self):
+        # Modules that the first reading imports may keep files open.
+        ForkedReading(['--help']).communicate()
+        self.descriptors = open_descriptors()
+
+    def assert_fails_and_leaves_none(self, start, error_number):
+        with self.assertRaises(OSError) as raised:
+            start()
+        self.assertEqual(raised.exception.errno, error_number)
+        self.assertEqual(open_descriptors(), self.descriptors)
+
+    def test_a_failed_fork_leaves_no_pipe_open(self):
+        no_process = OSError(errno.EAGAIN, os.strerror(errno.EAGAIN))
+        for start in (start_reading, start_guard):
+            with self.subTest(start=start.__name__), mock.patch('os.fork', side_effect=no_process):
+                self.assert_fails_and_leaves_none(start, errno.EAGAIN)
+
+    def test_a_failed_pipe_leaves_no_other_pipe_open(self):
+        for start in (start_reading, start_guard):
+            with self.subTest(start=start.__name__):
+                with mock.patch('os.pipe', error_after(1, os.pipe)):
+                    self.assert_fails_and_leaves_none(start, errno.EMFILE)
+
+    def test_an_output_that_can_not_be_written_leaves_no_null_device_open(self):
+        with open('/dev/full', 'w') as full, redirect_stdout(full):
+            descriptors = open_descriptors()
+            with self.assertRaises(OSError) as raised, flushed_output():
+                print('text')
+            self.assertEqual(open_descriptors(), descriptors)
+            print('later output is discarded', flush=True)
+        self.assertEqual(raised.exception.errno, errno.ENOSPC)
+        self.assertEqual(raised.exception.filename, 'standard output')
+
+    def test_a_closed_output_gets_the_null_device_and_keeps_it(self):
+        with open('/dev/null', 'w') as closed, redirect_stdout(closed):
+            os.close(closed.fileno())
+            with self.assertRaises(OSError) as raised, flushed_output():
+                print('text')
+            self.assertTrue(os.path.samefile(f'/proc/self/fd/{closed.fileno()}', os.devnull))
+            print('later output is discarded', flush=True)
+        self.assertEqual(raised.exception.errno, errno.EBADF)
+        self.assertEqual(open_descriptors(), self.descriptors)
+
+
+if __name__ == '__main__':
+    unittest.main()
