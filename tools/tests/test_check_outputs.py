@@ -53,6 +53,27 @@ class Outputs(InStore):
         self.assertEqual(json.loads(ran.stdout)['stopped'], '')
         self.assertIn(': none fails\n', ran.stderr)
 
+    def test_a_file_with_the_name_of_standard_output_is_another_one(self):
+        for first, second in [('-', './-'), ('./-', '-')]:
+            words = '--prefixes', '--json', first, '--tap', second, self.good
+            ran = self.check(*words, command=['true'])
+            self.assertEqual(ran.returncode, 0, ran.stderr)
+            report, tap = (ran.stdout, self.read('-'))[:: 1 if first == '-' else -1]
+            self.assertEqual(json.loads(report)['stopped'], '')
+            self.assertTrue(tap.startswith('TAP version 13\n'), tap)
+            os.unlink(self.path('-'))
+
+    def test_a_trace_with_the_name_of_standard_output_is_a_file(self):
+        text = (EXAMPLES / 'store.trace').read_text(encoding='utf-8')
+        self.write('-', text)
+        ran = self.check('--prefixes', '--json', '-', './-', command=['true'])
+        self.assertEqual(ran.returncode, 0, ran.stderr)
+        self.assertEqual(json.loads(ran.stdout)['stopped'], '')
+        ran = self.check('--prefixes', '--json', './-', './-', command=['true'])
+        line = 'crashfs-check: --json ./-: that is TRACE\n'
+        self.assertEqual((ran.returncode, ran.stdout, ran.stderr), (2, '', line))
+        self.assertEqual(self.read('-'), text)
+
     def test_a_file_may_have_the_longest_name(self):
         for name in ('a' * 255, '\N{HIRAGANA LETTER A}' * 85, '\N{GRINNING FACE}' * 63):
             write_whole_file(self.path(name), ['whole'])

@@ -69,13 +69,15 @@ def merge_reports(options: Options) -> Report:
 
 def refuse_outputs(options: Options) -> None:
     """Refuses output files that can't be written, that are TRACE or the file of --accept, or of
-    which two are one file. Only what is no plain file, such as /dev/null, may be named several
+    which two are one file or both standard output. Only a device or a pipe may be named several
     times. The reports of --resume and --merge may be replaced."""
     inputs = {'TRACE': options.trace, '--accept': options.accept}
     names = {os.path.realpath(path): name for name, path in inputs.items() if path is not None}
     for name, path in outputs_of(options).items():
         folder_to_write(path)
-        first_name = names.setdefault(os.path.realpath(path), name)
+        # No real path is `-`: standard output is never taken for a file with that name.
+        real_path = path if path == '-' else os.path.realpath(path)
+        first_name = names.setdefault(real_path, name)
         is_device = path != '-' and os.path.exists(path) and not os.path.isfile(path)
         if first_name != name and not is_device:
             raise Refused(f'{name} {path}: that is {first_name}')
