@@ -1,8 +1,10 @@
 """Paths through symbolic links, as they were when a call was made."""
 
+import os
 import unittest
 
-from crashfs_tools.recorder.resolving import Resolver
+from crashfs_tools.recorder.main import read_link_target
+from crashfs_tools.recorder.resolving import Resolver, removed_path
 
 INSIDE = {
     '/l': 's',
@@ -75,6 +77,23 @@ class Resolves(unittest.TestCase):
             self.assertEqual(
                 resolver.path_below(resolver.resolve(path, follow_last_link=False)), wanted
             )
+
+    def test_a_removed_directory_has_nothing_in_it_and_is_left_to_where_it_was(self):
+        for top in ('/', '/home2/me/d'):
+            resolver = Resolver(top, {'/s': '/etc'}.get, read_link_target)
+            for directory in ('/home2/me/d/s', '/home2/me/d', '/home2/me'):
+                removed = removed_path(directory)
+                for path, wanted in (
+                    ('', removed),
+                    ('/.', removed),
+                    ('/a', f'{removed}/a'),
+                    ('/..', os.path.dirname(directory)),
+                    ('/../a', os.path.dirname(directory) + '/a'),
+                ):
+                    resolved = resolver.resolve(removed + path, follow_last_link=True)
+                    self.assertEqual(resolved, wanted)
+                self.assertIsNone(resolver.path_below(removed))
+                self.assertIsNone(resolver.path_below(removed + '/a'))
 
 
 if __name__ == '__main__':

@@ -93,7 +93,7 @@ class Calls(unittest.TestCase):
 
 
 class WorkingDirectories(unittest.TestCase):
-    """A process stays in its working directory when that is renamed."""
+    """A process stays in its working directory when that is renamed or removed."""
 
     def assert_operations(self, log, wanted, start=(), ignored=None):
         recording = recording_of(log, start, ignored)
@@ -155,6 +155,61 @@ class WorkingDirectories(unittest.TestCase):
             ]
             with self.subTest(first, second=second):
                 self.assertNotEqual(self.assert_operations(log, wanted, start), [])
+
+    def test_a_process_in_a_removed_directory_is_not_in_the_one_made_at_its_path(self):
+        here = 'AT_FDCWD</d/o (deleted)>'
+        for removal, wanted in (
+            (['rmdir("../o")'], ['rmdir /o']),
+            (['unlinkat(3</d/o>, "../o", AT_REMOVEDIR)'], ['rmdir /o']),
+            (
+                ['rename("/d/e", "/d/o")', 'rename("../o", "../e")'],
+                ['rename /e /o', 'rename /o /e'],
+            ),
+        ):
+            for change in (
+                'chmod(".", 0700) = 0',
+                f'fchmodat({here}, ".", 0700) = 0',
+                'fchmodat(3</d/o>(deleted), ".", 0700) = 0',
+                f'openat({here}, ".", O_RDONLY|O_DIRECTORY) = 4</d/o>(deleted)',
+                'openat(3</d/o>(deleted), ".", O_RDONLY|O_DIRECTORY) = 4</d/o>(deleted)',
+                'chmod(".", 0700 <unfinished ...>) = ?',
+            ):
+                log = [
+                    'openat(AT_FDCWD</d>, "o", O_RDONLY|O_DIRECTORY) = 3</d/o>',
+                    'fchdir(3</d/o>) = 0',
+                    *(f'{call} = 0' for call in removal),
+                    'mkdir("/d/o", 0755) = 0',
+                    change,
+                    'fchdir(3</d/o>(deleted)) = 0',
+                    change,
+                    'mkdir("../x", 0755) = 0',
+                    f'renameat({here}, "../x", 3</d/o>(deleted), "../y") = 0',
+                    'chdir("..") = 0',
+                    'chmod("o", 0711) = 0',
+                ]
+                start = [Start(path, 'u', 'u', 0o755, None) for path in ('/e', '/o')]
+                with self.subTest(removal, change=change):
+                    end = ['mkdir /o', 'mkdir /x', 'rename /x /y', 'chmod /o 711']
+                    self.assertEqual(
+                        self.assert_operations([f'1 {line}' for line in log], wanted + end, start),
+                        [],
+                    )
+
+    def test_a_process_below_removed_directories_is_in_none_made_at_their_paths(self):
+        start = [Start('/o', 'u', 'u', 0o755, None), Start('/o/p', 'u', 'u', 0o755, None)]
+        log = [
+            '1 chdir("o/p") = 0',
+            '1 clone(child_stack=NULL, flags=SIGCHLD) = 2',
+            '1 rmdir("../p") = 0',
+            '1 rmdir("../../o") = 0',
+            '1 mkdir("/d/o", 0755) = 0',
+            '1 mkdir("/d/o/p", 0755) = 0',
+            '2 chmod("..", 0700) = 0',
+            '2 chmod(".", 0700) = 0',
+            '2 mkdir("../../x", 0755) = 0',
+        ]
+        wanted = ['rmdir /o/p', 'rmdir /o', 'mkdir /o', 'mkdir /o/p', 'mkdir /x']
+        self.assertEqual(self.assert_operations(log, wanted, start), [])
 
 
 if __name__ == '__main__':

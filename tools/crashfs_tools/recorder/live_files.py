@@ -186,7 +186,7 @@ class LiveFiles:
         """As path_argument(), for the argument after the one with this index, which is a
         directory's descriptor. A relative path begins at that directory, or at the working
         directory if strace shows no path of it."""
-        base = call.descriptor(index).path or process.path_context.directory
+        base = process.directory_of(call.descriptor(index))
         word = call.argument(index + 1)
         return self.resolve_argument(base, word, follow_last_link=follow_last_link)
 

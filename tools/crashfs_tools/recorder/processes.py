@@ -3,11 +3,13 @@
 from __future__ import annotations
 
 from dataclasses import dataclass, field
-from typing import Dict, Optional, Set
+from typing import Dict, Iterable, Optional, Set
 
+from .arguments import CURRENT_DIRECTORY, Descriptor
 from .live_tree import Node
 from .mappings import Memory
 from .output_streams import OutputStream
+from .resolving import REMOVED, removed_path
 from .strace_log import Call
 
 
@@ -75,7 +77,8 @@ class Descriptors:
 
 @dataclass
 class PathContext:
-    """The working directory and the umask; threads share one."""
+    """The working directory and the umask; threads share one. The directory is an absolute path
+    without symbolic links, and as removed_path() has it once it is removed."""
 
     directory: str
     umask: int
@@ -84,12 +87,13 @@ class PathContext:
         """A copy of the directory and the umask; later changes of one don't change the other."""
         return PathContext(self.directory, self.umask)
 
-    def follow_renames(self, targets: Dict[str, str]) -> None:
-        """Gives the working directory its new path if it is a renamed directory, or below one.
-        targets has the new path of each by its old one; all paths are absolute."""
-        for source, target in targets.items():
-            if (self.directory + '/').startswith(source + '/'):
-                self.directory = target + self.directory[len(source) :]
+    def follow_directories(self, new_paths: Dict[str, str]) -> None:
+        """Gives the working directory its new path if it is one of the directories that were moved
+        or removed, or below one. new_paths has the new path of each by its old one; all paths are
+        absolute."""
+        for old_path, new_path in new_paths.items():
+            if (self.directory + '/').startswith(old_path + '/'):
+                self.directory = new_path + self.directory[len(old_path) :]
                 break
 
 
@@ -102,6 +106,17 @@ class Process:
     path_context: PathContext
     memory: Memory = field(default_factory=Memory)
 
+    def directory_of(self, shown: Descriptor) -> str:
+        """The absolute path at which a relative path begins that is after this descriptor in a
+        call: that of its directory, or removed_path() if that is removed. It is that of the working
+        directory for a descriptor of which strace shows no path, and for AT_FDCWD if the working
+        directory is removed: strace shows no path that a call can have then."""
+        own_directory = self.path_context.directory
+        is_removed = shown.number == CURRENT_DIRECTORY and REMOVED in own_directory
+        if shown.path is None or is_removed:
+            return own_directory
+        return removed_path(shown.path) if shown.is_deleted else shown.path
+
     def forked_child(self, fork: Call) -> Process:
         """The process or thread that a call of FORKS makes. The call's flags say what both share;
         the rest is copied as it is now."""
@@ -112,3 +127,11 @@ class Process:
             self.path_context if 'CLONE_FS' in flags else self.path_context.copy(),
             self.memory if has_shared_memory else self.memory.copy(),
         )
+
+
+def move_working_directories(processes: Iterable[Process], new_paths: Dict[str, str]) -> None:
+    """Does follow_directories() for each process, once for threads that share their working
+    directory. The directories of new_paths may be outside the recorded one."""
+    contexts = {id(process.path_context): process.path_context for process in processes}
+    for context in contexts.values():
+        context.follow_directories(new_paths)

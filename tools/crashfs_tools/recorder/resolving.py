@@ -8,8 +8,18 @@ from typing import Callable, Dict, List, Optional
 # How many links Linux follows in one path.
 MOST_LINKS = 40
 
+# What ends the path of a removed directory: the name of no file has it.
+REMOVED = '\0'
+
 # Returns the target of the symbolic link at a path; None if no link is known there.
 ReadLink = Callable[[str], Optional[str]]
+
+
+def removed_path(path: str) -> str:
+    """The path that a directory has for the processes that are in it once it is removed: its old
+    path with REMOVED after it. `..` leads out of it, to where it was; what is made at its old path
+    later isn't in it."""
+    return path + REMOVED
 
 
 class Resolver:
@@ -25,8 +35,9 @@ class Resolver:
 
     def path_below(self, path: Optional[str]) -> Optional[str]:
         """The part of an absolute path below the directory, which begins with `/`, and is `/` for
-        the directory itself. None for a path outside, and for None."""
-        if path is None:
+        the directory itself. None for a path outside, for one in a removed directory, and for
+        None."""
+        if path is None or REMOVED in path:
             return None
         if path == self.top:
             return '/'
@@ -61,8 +72,10 @@ class Resolver:
         return resolved
 
     def read_link(self, path: str) -> Optional[str]:
-        """The target of the symbolic link at an absolute path; None if no link is known there.
-        Outside the directory the first answer for a path is kept."""
+        """The target of the symbolic link at an absolute path; None if no link is known there, as
+        in a removed directory. Outside the directory the first answer for a path is kept."""
+        if REMOVED in path:
+            return None
         below = self.path_below(path)
         if below is not None:
             return None if below == '/' else self.read_inside(below)

@@ -11,7 +11,7 @@ from .arguments import LogError
 from .calls import data as data_calls
 from .calls import modes, names, opens
 from .calls import processes as process_calls
-from .calls import syncs
+from .calls import renames, syncs
 from .live_files import LiveFiles
 from .live_tree import Node
 from .mapped_files import FileCopies, FileCopy
@@ -26,6 +26,7 @@ HANDLERS: Dict[str, Handler] = {
     **opens.HANDLERS,
     **data_calls.HANDLERS,
     **names.HANDLERS,
+    **renames.HANDLERS,
     **syncs.HANDLERS,
     **modes.HANDLERS,
 }
@@ -187,7 +188,7 @@ class Translator:
                 path = self.files.resolve_argument(base, word, follow_last_link=follow_last_link)
                 paths.append(path)
             elif shown.number != -1:
-                base = shown.path or process.path_context.directory
+                base = process.directory_of(shown)
         if call.name.startswith(('link', 'symlink')):
             paths = paths[-1:]
         return [path for path in paths if path is not None]

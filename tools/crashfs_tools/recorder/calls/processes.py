@@ -41,7 +41,7 @@ def on_chdir(files: LiveFiles, process: Process, call: Call) -> None:
 def on_fchdir(files: LiveFiles, process: Process, call: Call) -> None:
     """Sets the working directory by a descriptor. The old one stays if strace shows no path of the
     descriptor."""
-    process.path_context.directory = call.descriptor().path or process.path_context.directory
+    process.path_context.directory = process.directory_of(call.descriptor())
 
 
 def on_umask(files: LiveFiles, process: Process, call: Call) -> None:

@@ -1,0 +1,193 @@
+"""Calls that rename files and directories, or exchange them. Each `on_NAME` translates a call NAME
+that has returned; LogError if an argument isn't as strace writes it. A path that is None is outside
+the directory, ignored, or was cut by strace: it isn't followed."""
+
+from __future__ import annotations
+
+from typing import Dict, Optional
+
+from crashfs_tools.common.trace import Rename
+from crashfs_tools.recorder.calls.names import (
+    remove_directory_name,
+    remove_name,
+    rename_in_trace,
+)
+from crashfs_tools.recorder.live_files import LiveFiles
+from crashfs_tools.recorder.live_tree import Node
+from crashfs_tools.recorder.processes import Process, move_working_directories
+from crashfs_tools.recorder.resolving import removed_path
+from crashfs_tools.recorder.strace_log import Call
+
+
+def on_rename(files: LiveFiles, process: Process, call: Call) -> None:
+    """Renames a file or directory by paths; the call has no flags."""
+    base = process.path_context.directory
+    source = files.full_path(base, call.argument(0))
+    target = files.full_path(base, call.argument(1))
+    rename_path(files, source, target, '')
+
+
+def on_renameat(files: LiveFiles, process: Process, call: Call) -> None:
+    """Renames a file or directory by paths that are relative to directories; only renameat2 has
+    flags."""
+    source = files.full_path(process.directory_of(call.descriptor(0)), call.argument(1))
+    target = files.full_path(process.directory_of(call.descriptor(2)), call.argument(3))
+    rename_path(files, source, target, call.argument(4))
+
+
+def rename_path(
+    files: LiveFiles, full_source: Optional[str], full_target: Optional[str], flags: str
+) -> None:
+    """Renames a file or directory, or exchanges two, as the flags say; the paths are absolute. A
+    rename of the recorded directory itself, or onto it, is only reported; so is a device that
+    RENAME_WHITEOUT leaves. Nothing if path_in_tree() has neither path."""
+    source, target = files.path_in_tree(full_source), files.path_in_tree(full_target)
+    if source is None and target is None:
+        return
+    if '/' in (source, target):
+        files.recording.report('the directory itself was renamed, or replaced', '/')
+        return
+    if source is not None and 'RENAME_WHITEOUT' in flags:
+        files.recording.report('RENAME_WHITEOUT left a device', source)
+    has_exchange = 'RENAME_EXCHANGE' in flags
+    if full_source is not None and full_target is not None:
+        new_paths = paths_after_rename(full_source, full_target, has_exchange=has_exchange)
+        move_working_directories(files.processes.values(), new_paths)
+    if has_exchange:
+        exchange_paths(files, source, target)
+    else:
+        move_path(files, source, target)
+
+
+def paths_after_rename(source: str, target: str, *, has_exchange: bool) -> Dict[str, str]:
+    """The new paths, by the old ones, of a directory that was renamed and of the one that it
+    replaced or was exchanged with, as the processes that are in them have them. All are absolute.
+    The replaced one has its removed_path(), unless both are one directory."""
+    target_after = source if has_exchange else removed_path(target)
+    return {target: target_after, source: target}
+
+
+def exchange_paths(files: LiveFiles, source: Optional[str], target: Optional[str]) -> None:
+    """Exchanges what is at two paths of the tree, as exchange_names() does. If nothing is known at
+    the source, or one path is None, the other path gets a file from outside."""
+    if source is None or files.tree.node_at(source) is None:
+        add_from_outside(files, target)
+    elif target is None:
+        add_from_outside(files, source)
+    else:
+        exchange_names(files, source, target)
+
+
+def move_path(files: LiveFiles, source: Optional[str], target: Optional[str]) -> None:
+    """Moves what is at one path of the tree to another, which may be None: then it is removed. If
+    nothing is known at the source, or that is None, the target gets a file from outside. Nothing
+    happens if both are names of one file."""
+    node = files.tree.node_at(source)
+    if source is None or node is None:
+        add_from_outside(files, target)
+    elif target is None:
+        move_outside(files, source, node)
+    elif files.tree.node_at(target) is not node:
+        rename_node(files, source, target, node)
+
+
+def add_from_outside(files: LiveFiles, target: Optional[str]) -> None:
+    """Adds a file whose bytes aren't known, as it was renamed from outside or from an ignored name,
+    and reports it. It replaces what is at the path and below it, but the trace keeps that. Nothing
+    if the path is None."""
+    if target is None:
+        return
+    files.recording.report('renamed to from outside the directory, or from an ignored name', target)
+    if target in files.tree.nodes:
+        forget_tree(files, target)
+    files.tree.add_name(target, Node.unknown())
+
+
+def move_outside(files: LiveFiles, source: str, node: Node) -> None:
+    """Removes a file or directory that was renamed to a path outside, or to an ignored one. If it
+    is a directory with entries, that is reported: it isn't followed any more, but the trace keeps
+    it. The processes that are in it have their new working directory already."""
+    if node.is_directory and files.tree.paths_below(source):
+        files.recording.report('a directory with entries was renamed out of the directory', source)
+        forget_tree(files, source)
+    elif node.is_directory:
+        remove_directory_name(files, source)
+    else:
+        remove_name(files, source)
+
+
+def forget_tree(files: LiveFiles, path: str) -> None:
+    """Removes a path, and what is below it, from the live tree only; the trace keeps both, but
+    they aren't followed any more."""
+    for forgotten_path in [path] + files.tree.paths_below(path):
+        files.tree.remove_name(forgotten_path).traced_paths.discard(forgotten_path)
+
+
+def exchange_names(files: LiveFiles, source: str, target: str) -> None:
+    """Exchanges two names. No trace has that: it is reported, and the trace keeps what it has at
+    both names, which may differ at the end. In the live tree two files get each other's name. A
+    directory is forgotten, and a file that is exchanged with it keeps its name."""
+    files.recording.report(f'exchanged with {target}, which no trace can say', source)
+    files.recording.differing_paths.add(target)
+    for path in (source, target):
+        node = files.tree.node_at(path)
+        if node is not None and node.is_directory:
+            forget_tree(files, path)
+        elif node is not None:
+            node.traced_paths.discard(path)
+    source_node, target_node = files.tree.node_at(source), files.tree.node_at(target)
+    if source_node is not None and target_node is not None:
+        files.tree.remove_name(source)
+        files.tree.remove_name(target)
+        files.tree.add_name(target, source_node)
+        files.tree.add_name(source, target_node)
+
+
+def rename_node(files: LiveFiles, source: str, target: str, node: Node) -> None:
+    """Renames a file or directory within the recorded directory, in the trace too if that has it.
+    It replaces a file or directory that has the target's name. If the trace has no name of the
+    file, that is reported."""
+    if target in files.tree.nodes:
+        remove_replaced_name(files, files.tree.remove_name(target), target)
+    files.tree.move_node(source, target)
+    if node.is_directory:
+        rename_directory_in_trace(files, node, source, target)
+    elif source in node.traced_paths:
+        rename_in_trace(files, node, source, target)
+    elif not node.traced_paths:
+        files.recording.report('renamed to from a file that is not in the trace', target)
+
+
+def remove_replaced_name(files: LiveFiles, node: Node, path: str) -> None:
+    """Removes a path, to which another file is renamed, from a node's traced paths; the live tree
+    must have removed the name already. If the file keeps only names that the trace lacks, that is
+    reported."""
+    if path in node.traced_paths:
+        node.traced_paths.discard(path)
+        if node.names and not node.traced_paths:
+            files.recording.report('a file was replaced that has another name by a link', path)
+
+
+def rename_directory_in_trace(files: LiveFiles, node: Node, source: str, target: str) -> None:
+    """Renames a directory in the trace, after move_node() has moved it in the live tree. If the
+    trace lacks the directory, or can't rename it, that is reported, and what is done below it is
+    left out from then on."""
+    if source in node.traced_paths and files.recording.may_have_newest_version:
+        if files.recording.add_operation(Rename(source, target)):
+            files.tree.move_traced_paths(source, target)
+            return
+    files.recording.report(
+        f'a directory was renamed to {target}: no trace can say it; what is done '
+        'below it is left out',
+        source,
+    )
+    files.recording.differing_paths.add(target)
+    for path in [target] + files.tree.paths_below(target):
+        files.tree.nodes[path].traced_paths.discard(source + path[len(target) :])
+
+
+HANDLERS = {
+    'rename': on_rename,
+    'renameat': on_renameat,
+    'renameat2': on_renameat,
+}
