@@ -8,8 +8,8 @@ import subprocess
 from pathlib import Path
 from typing import List, NamedTuple, Tuple
 
-MEMORY = '/proc/meminfo'
-GIGABYTE = 2**30
+from .memory import GIGABYTE, memory_of_machine
+
 # `rt` ends with the status of the process that it ran, which the system has killed: as a signal, as
 # a shell has it, or as Python's number for it, cut to a byte.
 KILLED = (-signal.SIGKILL, 128 + signal.SIGKILL, 256 - signal.SIGKILL)
@@ -24,14 +24,14 @@ class Check(NamedTuple):
 
     @property
     def is_killed(self) -> bool:
-        """Whether the system has killed it."""
+        """Whether the system has killed the process that `rt` ran, or `rt` itself."""
         return self.status in KILLED
 
 
 def run_check(words: List[str], folder: Path) -> Check:
-    """Runs a command of `rt` in the folder of a crate, without input. Waits without limit until it
-    and all processes that have its output have ended. `output` has both outputs. Any status is
-    returned; OSError if the command or the folder isn't there."""
+    """Runs a command of `rt` in the folder of a crate, without input. Waits without limit until the
+    command, and each process that shares its outputs, has ended. `output` has what was printed on
+    both. Any status is returned; OSError if the command or the folder isn't there."""
     with subprocess.Popen(
         words,
         cwd=folder,
@@ -53,19 +53,10 @@ def wait_for_child(process: int) -> Tuple[int, int]:
     return os.waitstatus_to_exitcode(status), usage.ru_maxrss * 1024
 
 
-def memory_of_machine() -> int:
-    """How many bytes of memory the machine has, used or not; a container's limit isn't looked at.
-    OSError without /proc."""
-    with open(MEMORY, encoding='ascii') as file:
-        fields = dict(line.split(':') for line in file)
-    return int(fields['MemTotal'].split()[0]) * 1024
-
-
 def killed_text(name: str, check: Check, jobs: int, processors: int) -> str:
-    """A line about a check that the system has killed: the memory of its largest process, with so
-    many jobs, the machine's memory, and what helps. That is to use half of the `processors` on
-    which checks ran side by side, or, if it was one, another machine. OSError as
-    memory_of_machine()."""
+    """A line about a check that the system has killed: the memory of its largest process, with how
+    many jobs it ran, the machine's memory, and what helps. `processors` is how many all checks had:
+    half of them help, or another machine if it was one. OSError as memory_of_machine()."""
     advice = (
         f'run tools/build --processors {processors // 2}'
         if processors > 1

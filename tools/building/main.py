@@ -14,9 +14,9 @@ from pathlib import Path
 from .order import TOP, Work, chain_lengths, libraries
 from .proving import (
     build_program,
+    copy_libraries_home,
     copy_sources_to,
     error_text,
-    copy_libraries_home,
     prove_crates_in,
 )
 
@@ -69,8 +69,9 @@ def main() -> int:
 def build_all(processors: int) -> int:
     """Proves the libraries on so many processors, then builds the program. Returns the status: 0 if
     all is proved and built. After a crate that isn't proved no other is begun, but running checks
-    go on. Proved libraries are copied to the repository itself in any case. OSError if crates.txt
-    or a text can't be read, or a copy of the repository or a library can't be made."""
+    go on to their end. Proved libraries are copied to the repository itself in either case. OSError
+    if crates.txt or a text can't be read, or a copy of the repository or a library can't be
+    made."""
     uses, start_time = libraries(), time.monotonic()
     work = Work(uses, chain_lengths(uses), processors)
     with tempfile.TemporaryDirectory(prefix='crashfs-build-') as folder:

@@ -4,6 +4,7 @@ from __future__ import annotations
 
 import threading
 from dataclasses import dataclass, field
+from functools import lru_cache
 from pathlib import Path
 from typing import Dict, Iterator, List, Optional, Set, Tuple
 
@@ -29,7 +30,7 @@ def uses_by_crate(crates_text: str) -> Dict[str, List[str]]:
 
 def crates_below(uses: Dict[str, List[str]], name: str) -> Set[str]:
     """The crates that a crate uses, directly or not. The crate itself is among them only if it is
-    in a cycle. One that `uses` doesn't have, as one of the kit, uses none."""
+    in a cycle. A crate that is no key of `uses`, such as one of the kit, uses none."""
     below: Set[str] = set()
     remaining = [name]
     while remaining:
@@ -48,9 +49,9 @@ def libraries() -> Dict[str, List[str]]:
     return {name: own_uses[name] for name in crates_below(own_uses, PROGRAM)}
 
 
-def paths_of_texts(crate: Path) -> Iterator[Path]:
-    """All paths in the folders of a crate's texts; what `rt` makes in out/ isn't among them."""
-    folders = (crate / name for name in ('src', 'specs', 'proofs'))
+def paths_of_texts(crate_folder: Path) -> Iterator[Path]:
+    """The files and folders below src/, specs/ and proofs/ of a crate, in no particular order."""
+    folders = (crate_folder / name for name in ('src', 'specs', 'proofs'))
     return (path for folder in folders for path in folder.rglob('*'))
 
 
@@ -63,18 +64,14 @@ def count_lines(name: str) -> int:
 
 def chain_lengths(uses: Dict[str, List[str]]) -> Dict[str, int]:
     """For each crate, how many lines the longest chain of crates has that begins with it, and in
-    which each crate uses the one before. `uses` has what each crate uses, and no other crates:
-    RecursionError if there is a cycle. OSError as count_lines()."""
+    which each crate uses the one before. Used crates that are no keys of `uses` are ignored.
+    RecursionError if there is a cycle, OSError as count_lines()."""
     users = {name: [user for user in uses if name in uses[user]] for name in uses}
-    lengths: Dict[str, int] = {}
 
+    @lru_cache(maxsize=None)
     def length_from(name: str) -> int:
-        """The length of the longest chain that begins with a crate. It is stored in `lengths`, so
-        that each is computed once."""
-        if name not in lengths:
-            longest = max((length_from(user) for user in users[name]), default=0)
-            lengths[name] = count_lines(name) + longest
-        return lengths[name]
+        """The length of the longest chain that begins with a crate."""
+        return count_lines(name) + max((length_from(user) for user in users[name]), default=0)
 
     return {name: length_from(name) for name in uses}
 
@@ -95,33 +92,44 @@ class Work:
     failed_crate: Optional[str] = None
     change_condition: threading.Condition = field(default_factory=threading.Condition)
 
-    def choose_crate(self) -> Optional[Tuple[str, int]]:
-        """The crate to prove next, with its processors: of those whose libraries are proved, the
-        one with the longest chain. It gets two processors if its chain is longer than those of all
-        running checks, else one, and more if the other crates leave them; at most MOST_JOBS, or one
-        above MANY_BELOW crates. None if no crate or no processor is free. Nothing is marked; the
-        caller must hold the lock."""
-        ready_crates = [
+    def ready_crates(self) -> List[str]:
+        """The crates whose check may begin: it hasn't, and the crates that they use are proved. The
+        caller must hold change_condition."""
+        return [
             crate
             for crate in self.uses
             if crate not in self.begun_crates
             and all(lower in self.proved_in for lower in self.uses[crate])
         ]
+
+    def jobs_wanted(self, name: str, spare_processors: int) -> int:
+        """How many processors a ready crate can use: two if its chain is longer than those of all
+        running checks, else one, and all that the other ready crates don't need (spare_processors);
+        at most MOST_JOBS, but one with MANY_BELOW or more crates below. The caller must hold
+        change_condition."""
+        if len(crates_below(self.uses, name)) >= MANY_BELOW:
+            return 1
+        is_longest = all(
+            self.chain_lengths[name] > self.chain_lengths[crate] for crate in self.jobs
+        )
+        return min(MOST_JOBS, max(2 if is_longest else 1, spare_processors))
+
+    def choose_crate(self) -> Optional[Tuple[str, int]]:
+        """The crate to prove next, the ready one with the longest chain, and its number of
+        processors: jobs_wanted(), or as many as are idle. None if no crate is ready or no processor
+        idle. Changes nothing; the caller must hold change_condition."""
+        ready_crates = self.ready_crates()
         idle_processors = self.processors - sum(self.jobs.values())
         if not ready_crates or idle_processors < 1:
             return None
         name = max(ready_crates, key=lambda crate: self.chain_lengths[crate])
-        is_longest = all(
-            self.chain_lengths[name] > self.chain_lengths[crate] for crate in self.jobs
-        )
-        wanted = max(2 if is_longest else 1, idle_processors - (len(ready_crates) - 1))
-        most_jobs = MOST_JOBS if len(crates_below(self.uses, name)) < MANY_BELOW else 1
-        return name, min(wanted, idle_processors, most_jobs)
+        jobs = self.jobs_wanted(name, idle_processors - (len(ready_crates) - 1))
+        return name, min(jobs, idle_processors)
 
     def begin_next_crate(self) -> Optional[Tuple[str, int]]:
-        """Waits for a crate to prove, marks it as begun, and returns it with its processors. None
-        if all are begun, or one was not proved. The caller must call end_crate() for each crate
-        that it gets: until then other threads may wait."""
+        """Waits until a crate can be proved, marks it as begun, and returns it with its number of
+        processors. None if all are begun, or one was not proved. The caller must call end_crate()
+        for each crate that it gets: until then other threads may wait."""
         with self.change_condition:
             while not self.failed_crate and len(self.begun_crates) < len(self.uses):
                 choice = self.choose_crate()
@@ -134,8 +142,8 @@ class Work:
             return None
 
     def end_crate(self, name: str, copy: Optional[Path]) -> None:
-        """Notes that the check of a crate has ended: it is proved in the copy `copy`, or not proved
-        (None). Wakes the threads that wait. After a crate that isn't proved no other is begun.
+        """Notes that the check of a crate has ended. `copy` is the copy in which the crate is
+        proved, or None if it isn't: then no other crate is begun. Wakes the threads that wait.
         KeyError if the crate isn't being checked, as after an earlier call."""
         with self.change_condition:
             del self.jobs[name]

@@ -13,24 +13,24 @@ from crashfs_tools.common.printable import escape_unprintable
 
 from .checks import Check, killed_text, run_check
 from .order import PROGRAM, TOP, Work, crates_below, paths_of_texts
-from .sharing import copy_library
+from .sharing import copy_library, library_folder
 
 
 def is_library_current(copy: Path, name: str) -> bool:
     """Whether the library of a crate in a copy of the repository is no older than all texts of the
-    crate: then `rt` only needs a second. False if there is no library. Texts that were removed, and
-    those of crates below, aren't looked at."""
-    crate = copy / 'crates' / name
-    library = crate / 'out' / 'rlib' / 'stamp'
-    return library.is_file() and all(
-        path.stat().st_mtime <= library.stat().st_mtime for path in paths_of_texts(crate)
+    crate: then `rt` only needs a second. False if there is no library. A removed text may go
+    unnoticed, and the crates below aren't looked at. OSError if a text is removed meanwhile."""
+    stamp = library_folder(copy, name) / 'stamp'
+    return stamp.is_file() and all(
+        path.stat().st_mtime <= stamp.stat().st_mtime
+        for path in paths_of_texts(copy / 'crates' / name)
     )
 
 
 def copy_sources_to(folder: Path) -> Path:
-    """Copies what `rt` reads of the repository, without what it made, to a new folder, and returns
-    the folder. FileExistsError if it has crates already; after another OSError a part of the copy
-    is left."""
+    """Copies what `rt` reads of the repository, without the folders out/ that it made, to a folder,
+    which is made if it isn't there; returns the folder. FileExistsError if it has crates already;
+    after another OSError a part of the copy is left."""
     (folder / 'crates').mkdir(parents=True)
     for name in ('crates.txt', 'HANDLES'):
         shutil.copy2(TOP / name, folder / name)
@@ -40,8 +40,8 @@ def copy_sources_to(folder: Path) -> Path:
 
 
 def report_failure(name: str, check: Check, jobs: int, processors: int) -> None:
-    """Prints on standard error what a failed check printed, and killed_text() if the system killed
-    it: OSError as there."""
+    """Prints on standard error what a failed check printed, and if the system killed the check,
+    killed_text(). OSError as there, or if standard error is closed."""
     sys.stderr.buffer.write(check.output)
     sys.stderr.buffer.flush()
     if check.is_killed:
@@ -51,12 +51,9 @@ def report_failure(name: str, check: Check, jobs: int, processors: int) -> None:
 def prove_crates_in(copy: Path, work: Work, start_time: float) -> None:
     """Proves one crate after the other in a copy of the repository, until none is left, or one
     isn't proved, here or in another thread. Prints a line for each, with the minutes since
-    `start_time`, and what a failed check printed. OSError if that can't be printed."""
-    while True:
-        choice = work.begin_next_crate()
-        if choice is None:
-            return
-        name, jobs = choice
+    `start_time` (of time.monotonic()), and what a failed check printed. OSError if a line can't be
+    printed: other threads go on."""
+    for name, jobs in iter(work.begin_next_crate, None):
         used_copy, check = check_crate_in(copy, work, name, jobs)
         work.end_crate(name, used_copy if check.status == 0 else None)
         result = 'proved' if check.status == 0 else 'NOT PROVED'
@@ -68,10 +65,10 @@ def prove_crates_in(copy: Path, work: Work, start_time: float) -> None:
 
 
 def check_crate_in(copy: Path, work: Work, name: str, jobs: int) -> Tuple[Path, Check]:
-    """Checks a crate in a copy of the repository; if its library in the repository itself is
-    current, there, which takes a second. Returns the copy that was used, and the check. Any
-    exception, as of a full disk, becomes a failed check with its text: other threads wait for the
-    crate's end."""
+    """Checks a crate in a copy of the repository, or, if the library of the repository itself is
+    current, in that, which takes a second. Returns the copy that was used, and the check. Any
+    exception, as of a full disk, becomes a failed check with its text, since other threads wait for
+    the crate's end."""
     used_copy = copy
     try:
         if is_library_current(TOP, name):
@@ -84,7 +81,8 @@ def check_crate_in(copy: Path, work: Work, name: str, jobs: int) -> Tuple[Path, 
 
 
 def error_text(error: Exception) -> str:
-    """An error as a line: its type and its text, without control characters, and shortened."""
+    """An error as one line: its type and its text, with control characters escaped; a long text is
+    shortened."""
     return shorten(escape_unprintable(f'{type(error).__name__}: {error}'))
 
 
@@ -96,9 +94,9 @@ def copy_libraries_home(work: Work) -> None:
 
 
 def build_program(start_time: float) -> int:
-    """Builds the program in the repository itself, which must have all libraries, and runs it with
-    --help. Returns the status: 0, or 1 if it isn't built, after printing what `rt` printed. OSError
-    if there is no `rt`."""
+    """Builds the program in the repository itself, and runs it with --help. A library that isn't
+    there is proved first, on one processor. Returns the status: 0, or 1 if the program isn't built
+    or --help fails, after printing what `rt` printed. OSError if there is no `rt`."""
     words = ['rt', 'run', '--jobs', '1', '--', '--help']
     check = run_check(words, TOP / 'crates' / PROGRAM)
     if check.status:

@@ -12,20 +12,20 @@ def library_folder(copy: Path, name: str) -> Path:
 
 
 def read_stamp(library: Path) -> bytes:
-    """A checksum of all texts that a library was made from, which `rt` writes once the library is
-    whole. Empty if there is no library, or if it isn't whole. OSError if it can't be read."""
+    """The stamp of a library's folder: a checksum of all texts that the library was made from,
+    which `rt` writes once it is whole. Empty if there is no library, or only a part of it; OSError
+    if the stamp can't be read."""
     stamp = library / 'stamp'
     return stamp.read_bytes() if stamp.is_file() else b''
 
 
 def copy_library(source_copy: Path, target_copy: Path, name: str) -> None:
     """Copies the proved library of a crate between copies of the repository, so that `rt` doesn't
-    prove it again. Does nothing if both have the same one, or none. An older library in the target
-    is removed first, and one that is copied only in part is never in its place. OSError if the
-    source has none or it can't be copied: then the target has none."""
-    source_library, target_library = library_folder(source_copy, name), library_folder(
-        target_copy, name
-    )
+    prove it again. Does nothing if both have the same library, or none. OSError if the source has
+    none, or it can't be copied: the target's own was removed before, and a part of the new one is
+    left only in `rlib.part`."""
+    source_library = library_folder(source_copy, name)
+    target_library = library_folder(target_copy, name)
     if read_stamp(source_library) == read_stamp(target_library):
         return
     partial_copy = target_library.with_name('rlib.part')

@@ -17,14 +17,13 @@ from typing import Dict, List, Optional, Tuple
 from unittest import mock
 
 from building import checks, main, order, proving
-from building.checks import Check, memory_of_machine, killed_text, run_check
+from building.checks import Check, killed_text, run_check
+from building.memory import GIGABYTE, available_memory, memory_of_machine
 from building.order import MANY_BELOW, Work, libraries, count_lines
 from building.proving import build_program, is_library_current, copy_libraries_home, prove_crates_in
 from building.sharing import copy_library
 
 from .support import PATIENCE
-
-GIGABYTE = 2**30
 
 # a is below all; b, c and d stand on it, and e on b.
 BELOW: Dict[str, List[str]] = {'a': [], 'b': ['a'], 'c': ['a'], 'd': ['a'], 'e': ['b']}
@@ -255,6 +254,8 @@ class Checks(unittest.TestCase):
 
     def test_the_machine_has_some_memory(self) -> None:
         self.assertGreater(memory_of_machine(), GIGABYTE // 4)
+        self.assertGreater(memory_of_machine(), available_memory())
+        self.assertGreater(available_memory(), 0)
 
 
 class Threads(unittest.TestCase):
