@@ -7,44 +7,48 @@ import sys
 import threading
 import time
 from concurrent.futures import ThreadPoolExecutor, as_completed
-from typing import Callable, Dict, Iterator, List, Set
+from contextlib import contextmanager
+from typing import Callable, Dict, Iterator, Set
 
 from .outcome import Outcome
 
 # What `rt try --test` needs of memory, for the crate that needs most.
 GIGABYTES_EACH = 3
-MEMORY = '/proc/meminfo'
 SECONDS_BETWEEN = 1.0
 
+# Runs tests, and returns their outcome, whose `seconds` run_parts() sets.
 Part = Callable[[], Outcome]
 
 
-def gigabytes_available() -> float:
-    """How much memory programs can still get, as the system estimates it, in units of 2**30 bytes;
-    a container's limit isn't looked at. OSError without /proc."""
-    with open(MEMORY, encoding='ascii') as file:
-        fields = dict(line.split(':') for line in file)
-    return int(fields['MemAvailable'].split()[0]) / 2**20
-
-
 def most_parts_at_once(processors: int, gigabytes: float) -> int:
-    """How many parts run at once: as many as there are processors and memory for, and at least
-    one."""
+    """How many parts run at once: as many as there are processors and memory for, and at least one.
+    `gigabytes` is how much memory is available, in units of 2**30 bytes."""
     return max(1, min(processors, int(gigabytes / GIGABYTES_EACH)))
 
 
 class Progress:
     """A line on a terminal that says which parts are running; nothing is shown if standard error is
-    no terminal. The threads that run parts change `running`, the names of the running ones, and
-    done_count, how many have ended."""
+    no terminal. `running` has the names of the running parts, and `done` those of the parts that
+    have ended; the threads that run parts change both, by while_running()."""
 
-    def __init__(self, names: List[str]) -> None:
-        """Sets the time at which the parts begin. Shows nothing yet."""
-        self.names, self.start_time = names, time.monotonic()
+    def __init__(self, part_count: int) -> None:
+        """Takes the time now as that at which the parts begin. Shows nothing yet."""
+        self.part_count, self.start_time = part_count, time.monotonic()
         self.running: Set[str] = set()
-        self.done_count = 0
+        self.done: Set[str] = set()
         self.is_shown = sys.stderr.isatty()
         self.is_over = threading.Event()
+
+    @contextmanager
+    def while_running(self, name: str) -> Iterator[None]:
+        """A `with` in which the part of this name counts as running; after it, also after an
+        exception, the part counts as done. Nothing is shown before show()."""
+        self.running.add(name)
+        try:
+            yield
+        finally:
+            self.running.remove(name)
+            self.done.add(name)
 
     def text(self) -> str:
         """The line: how many parts are done, how many seconds after they began, and which are
@@ -52,7 +56,7 @@ class Progress:
         running = ', '.join(sorted(self.running))
         seconds = time.monotonic() - self.start_time
         return (
-            f'{self.done_count} of {len(self.names)} done after {seconds:.0f} s; running: {running}'
+            f'{len(self.done)} of {self.part_count} done after {seconds:.0f} s; running: {running}'
         )
 
     def clear(self) -> None:
@@ -61,33 +65,32 @@ class Progress:
             print('\r\033[K', end='', file=sys.stderr, flush=True)
 
     def show(self) -> None:
-        """Shows the line, cut to the width of the terminal, in place of the one before."""
+        """Shows the line, cut to the width of the terminal, in place of what its last line has."""
         if self.is_shown:
             width = os.get_terminal_size(sys.stderr.fileno()).columns - 1
             print(f'\r\033[K{self.text()[:width]}', end='', file=sys.stderr, flush=True)
 
     def keep_showing(self) -> None:
-        """Shows the line again every SECONDS_BETWEEN, until `is_over` is set. It must run in a
-        thread of its own."""
+        """Shows the line again every SECONDS_BETWEEN, until another thread sets `is_over`. The line
+        then stays, unless clear() removes it."""
         while not self.is_over.wait(SECONDS_BETWEEN):
             self.show()
 
 
 def run_parts(parts: Dict[str, Part], count: int) -> Iterator[Outcome]:
-    """Runs parts, `count` at once, and yields the outcome of each as it ends; they begin in their
-    order. Meanwhile a line on the terminal names those that are running. What a part raises is
-    raised here once all others have run: outcomes that weren't taken yet are lost."""
-    progress = Progress(list(parts))
+    """Runs parts, `count` at once, and yields the outcome of each, with its seconds, as it ends;
+    they begin in their order. Meanwhile a line on the terminal names those that are running. What a
+    part raises is raised here once all others have run: outcomes that weren't taken yet are
+    lost."""
+    progress = Progress(len(parts))
 
     def run_part(name: str) -> Outcome:
-        """In a thread of the pool: runs a part, and notes in the progress that it is running and,
-        also after an exception, that it is done."""
-        progress.running.add(name)
-        try:
-            return parts[name]()
-        finally:
-            progress.running.remove(name)
-            progress.done_count += 1
+        """Runs a part, in a thread of the pool, and returns its outcome with its seconds."""
+        start_time = time.monotonic()
+        with progress.while_running(name):
+            outcome = parts[name]()
+        outcome.seconds = time.monotonic() - start_time
+        return outcome
 
     display_thread = threading.Thread(target=progress.keep_showing, daemon=True)
     display_thread.start()

@@ -3,11 +3,10 @@
 from __future__ import annotations
 
 import re
-import subprocess
-import time
 from pathlib import Path
 from typing import Dict, List, NamedTuple
 
+from .commands import run_command
 from .outcome import Outcome
 
 TOP = Path(__file__).resolve().parents[2]
@@ -30,8 +29,8 @@ class Crate(NamedTuple):
     has the tests that only the gate runs, by their whole names, with the reason of each."""
 
     name: str
-    tests: int
-    lines: int
+    test_count: int
+    line_count: int
     gate_tests: Dict[str, str] = {}
 
 
@@ -42,12 +41,15 @@ def crates_with_tests() -> List[Crate]:
     crates = []
     for folder in sorted(CRATES.iterdir()):
         text = ''.join(path.read_text('utf-8') for path in sorted((folder / 'src').rglob('*.rt')))
-        tests = len(TEST.findall(text))
-        if tests:
-            gate_tests = GATE_TESTS.get(folder.name, {})
-            present = {test: why for test, why in gate_tests.items() if function_head(test) in text}
-            crates.append(Crate(folder.name, tests, text.count('\n'), present))
-    return sorted(crates, key=lambda crate: -crate.lines)
+        test_count = len(TEST.findall(text))
+        if test_count:
+            gate_tests = {
+                test: reason
+                for test, reason in GATE_TESTS.get(folder.name, {}).items()
+                if function_head(test) in text
+            }
+            crates.append(Crate(folder.name, test_count, text.count('\n'), gate_tests))
+    return sorted(crates, key=lambda crate: -crate.line_count)
 
 
 def function_head(test: str) -> str:
@@ -56,9 +58,9 @@ def function_head(test: str) -> str:
 
 
 def parse_outcome(crate: Crate, printed: str) -> Outcome:
-    """The outcome of a crate's tests, from what `rt try --test` printed. Tests of the crate that
-    aren't reported as passed count as failed; but one that only the gate runs counts as not run.
-    What was printed, without the lines of passed tests, is in the outcome only if a test failed."""
+    """The outcome of a crate's tests, from what `rt try --test` printed. A test that isn't reported
+    as passed counts as failed, or, if only the gate runs it, as not run. If a test failed, the
+    outcome's output is what was printed, without the lines of passed tests; else it is empty."""
     results = dict(RESULT.findall(printed))
     passed = sum(word == 'ok' for word in results.values())
     not_run = [
@@ -66,8 +68,8 @@ def parse_outcome(crate: Crate, printed: str) -> Outcome:
         for name, reason in crate.gate_tests.items()
         if results.get(name) != 'ok'
     ]
-    failed = max(0, crate.tests - passed - len(not_run))
-    heading = f'{crate.name}: results of {len(results)} of {crate.tests} tests\n'
+    failed = max(0, crate.test_count - passed - len(not_run))
+    heading = f'{crate.name}: results of {len(results)} of {crate.test_count} tests\n'
     output = heading + without_passed(printed) if failed else ''
     return Outcome(crate.name, passed, failed, not_run=not_run, output=output)
 
@@ -78,18 +80,8 @@ def without_passed(printed: str) -> str:
 
 
 def run_tests(crate: Crate) -> Outcome:
-    """Runs the tests of a crate by `rt`, without any proof, and returns their outcome, with its
-    time. The status of `rt` isn't looked at, since a test that only the gate runs may fail;
-    parse_outcome() reads what was printed. Waits without limit; OSError if there is no `rt`."""
-    start_time = time.monotonic()
-    completed = subprocess.run(
-        ['rt', 'try', '--test', '--seconds', SECONDS],
-        cwd=CRATES / crate.name,
-        stdin=subprocess.DEVNULL,
-        stdout=subprocess.PIPE,
-        stderr=subprocess.STDOUT,
-        check=False,
-    )
-    outcome = parse_outcome(crate, completed.stdout.decode('utf-8', 'replace'))
-    outcome.seconds = time.monotonic() - start_time
-    return outcome
+    """Runs the tests of a crate by `rt`, without any proof, and returns their outcome. The status
+    of `rt` isn't looked at, since a test that only the gate runs may fail: parse_outcome() reads
+    what was printed. OSError if there is no `rt`."""
+    words = ['rt', 'try', '--test', '--seconds', SECONDS]
+    return parse_outcome(crate, run_command(words, CRATES / crate.name).printed)

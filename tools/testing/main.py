@@ -9,11 +9,12 @@ import sys
 from functools import partial
 from typing import Dict, Iterator, List
 
+from building.memory import GIGABYTE, available_memory
 from crashfs_tools.common.program import Crashfs
 
-from .at_once import Part, gigabytes_available, run_parts, most_parts_at_once
+from .at_once import Part, most_parts_at_once, run_parts
 from .crates import GATE_CRATES, crates_with_tests, run_tests
-from .examples import script_examples, run_examples, run_scripts
+from .examples import run_examples, run_scripts, script_examples
 from .outcome import Outcome
 from .tools_tests import run_tools_tests
 
@@ -26,8 +27,8 @@ memory for. It prints a line for each part, then what it could not run, and last
 
 def parts_with_rt() -> Dict[str, Part]:
     """The parts that need the toolchain, by name: the tests of each crate that has some, without
-    GATE_CRATES, and the scripts of the examples if Crashfs.find() finds no program. None is run
-    yet. OSError as crates_with_tests()."""
+    GATE_CRATES, and the scripts of the examples if Crashfs.find() finds no program. Nothing is run.
+    OSError as crates_with_tests()."""
     parts: Dict[str, Part] = {
         crate.name: partial(run_tests, crate)
         for crate in crates_with_tests()
@@ -41,22 +42,23 @@ def parts_with_rt() -> Dict[str, Part]:
 
 def not_run_without_rt() -> List[str]:
     """A line, with the reason, that counts the tests of all crates, which aren't run without the
-    toolchain."""
-    tests = sum(crate.tests for crate in crates_with_tests())
-    return [f'the {tests} tests of the crates: they need `rt`, the command of the toolchain']
+    toolchain. OSError as crates_with_tests()."""
+    test_count = sum(crate.test_count for crate in crates_with_tests())
+    return [f'the {test_count} tests of the crates: they need `rt`, the command of the toolchain']
 
 
 def not_run_with_rt() -> List[str]:
     """A line, with the reason, for each of GATE_CRATES: only the gate can run its tests. KeyError
-    if one has no tests."""
-    tests = {crate.name: crate.tests for crate in crates_with_tests()}
-    return [f'the {tests[name]} tests of {name}: {reason}' for name, reason in GATE_CRATES.items()]
+    if such a crate has no tests; OSError as crates_with_tests()."""
+    counts = {crate.name: crate.test_count for crate in crates_with_tests()}
+    return [f'the {counts[name]} tests of {name}: {reason}' for name, reason in GATE_CRATES.items()]
 
 
 def run_all_parts(has_rt: bool, count: int) -> Iterator[Outcome]:
     """Runs all parts, and yields the outcome of each as it ends. The tools' tests and the examples
-    come first, side by side, since they take least; then, with `rt`, the crates and scripts,
-    `count` at once. These aren't run if one of the first two raises something."""
+    come first, side by side, since they take least; then, with `rt`, the parts of parts_with_rt(),
+    `count` at once. These aren't run if one of the first two raises an exception, which ends the
+    iterator, as in run_parts()."""
     yield from run_parts(
         {'tools': run_tools_tests, 'examples': partial(run_examples, has_rt=has_rt)}, 2
     )
@@ -64,14 +66,21 @@ def run_all_parts(has_rt: bool, count: int) -> Iterator[Outcome]:
         yield from run_parts(parts_with_rt(), count)
 
 
+def print_outcome(outcome: Outcome) -> None:
+    """Prints an outcome as a line, and then on standard error what is printed of failed tests."""
+    print(outcome.summary_line(), flush=True)
+    if outcome.output:
+        print(outcome.output.rstrip('\n'), file=sys.stderr, flush=True)
+
+
 def main() -> int:
     """Runs tools/test, prints the outcome of each part, and returns the status: 1 if a test failed,
-    whatever is not run. --jobs below 1 counts as 1. A wrong word ends the program (SystemExit); so
-    does what a part raises, before the counts are printed."""
+    whatever is not run. --jobs below 1 counts as 1. A wrong word ends the program (SystemExit).
+    What a part raises is raised here, before the counts are printed; OSError without /proc."""
     parser = argparse.ArgumentParser(
         description=DESCRIPTION, formatter_class=argparse.RawDescriptionHelpFormatter
     )
-    default = most_parts_at_once(os.cpu_count() or 1, gigabytes_available())
+    default = most_parts_at_once(os.cpu_count() or 1, available_memory() / GIGABYTE)
     parser.add_argument(
         '--jobs',
         type=int,
@@ -84,12 +93,9 @@ def main() -> int:
     not_run = not_run_with_rt() if has_rt else not_run_without_rt()
     passed = failed = 0
     for outcome in run_all_parts(has_rt=has_rt, count=max(1, options.jobs)):
+        print_outcome(outcome)
         passed, failed = passed + outcome.passed, failed + outcome.failed
         not_run += outcome.not_run
-        print(outcome.summary_line(), flush=True)
-        if outcome.output:
-            print(outcome.output.rstrip('\n'), file=sys.stderr, flush=True)
-    for line in not_run:
-        print(f'not run: {line}')
-    print(f'{passed} passed, {failed} failed')
+    not_run_lines = [f'not run: {line}' for line in not_run]
+    print(*not_run_lines, f'{passed} passed, {failed} failed', sep='\n')
     return 1 if failed else 0

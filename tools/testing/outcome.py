@@ -8,9 +8,9 @@ from typing import List
 
 @dataclass
 class Outcome:
-    """The counts of a part of the tests. seconds is 0 until the part has ended. not_run has a line,
-    with the reason, for what was not run. output is what is printed of failed tests, and empty if
-    none failed."""
+    """The counts of a part of the tests. run_parts() sets `seconds`, how long the part took; it is
+    0 before. not_run has a line, with the reason, for what was not run. output is what is printed
+    of failed tests, and empty if none failed."""
 
     name: str
     passed: int = 0
@@ -21,8 +21,8 @@ class Outcome:
     output: str = ''
 
     def summary_line(self) -> str:
-        """The outcome as a line, such as `cs_tar: 3 passed, 24 s`. Of passed tests 0 is shown too;
-        what was not run isn't counted."""
+        """The outcome as a line, such as `cs_tar: 3 passed, 24 s`. A count of 0 is shown only of
+        passed tests. The lines of not_run aren't counted."""
         counts = [(self.passed, 'passed'), (self.failed, 'FAILED'), (self.skipped, 'skipped')]
         shown = [f'{count} {word}' for count, word in counts if count or word == 'passed']
         return f'{self.name}: {", ".join(shown)}, {self.seconds:.0f} s'

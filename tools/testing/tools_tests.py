@@ -3,11 +3,10 @@
 from __future__ import annotations
 
 import re
-import subprocess
 import sys
-import time
 from pathlib import Path
 
+from .commands import run_command
 from .outcome import Outcome
 
 TOP = Path(__file__).resolve().parents[2]
@@ -18,9 +17,9 @@ SKIPPED = re.compile(r'^(.*): the tests that need it are skipped$', re.M)
 
 def parse_outcome(printed: str, status: int) -> Outcome:
     """The outcome of the tools' tests, from what unittest printed and its status. At least one test
-    counts as failed if the status isn't 0, or if the last lines are missing. An unexpected success
-    counts as failed, an expected failure as passed, a skipped test as not run. What was printed is
-    in the outcome only if something failed."""
+    counts as failed if the status isn't 0, or if no line counts the tests. An unexpected success
+    counts as failed, an expected failure as passed, a skipped test as skipped and not run. The
+    outcome's output is what was printed if a test failed, else empty."""
     count_line = RAN.search(printed)
     last_line = printed.rstrip().rpartition('\n')[2]
     counts = {word: int(count) for word, count in COUNTS.findall(last_line)}
@@ -37,17 +36,7 @@ def parse_outcome(printed: str, status: int) -> Outcome:
 
 
 def run_tools_tests() -> Outcome:
-    """Runs all tests of the tools in a new process, waits for it without limit, and returns their
-    outcome, with its time."""
-    start_time = time.monotonic()
-    completed = subprocess.run(
-        [sys.executable, '-m', 'unittest', 'discover', '-s', 'tools', '-t', 'tools'],
-        cwd=TOP,
-        stdin=subprocess.DEVNULL,
-        stdout=subprocess.PIPE,
-        stderr=subprocess.STDOUT,
-        check=False,
-    )
-    outcome = parse_outcome(completed.stdout.decode('utf-8', 'replace'), completed.returncode)
-    outcome.seconds = time.monotonic() - start_time
-    return outcome
+    """Runs all tests of the tools in a new process, and returns their outcome."""
+    words = [sys.executable, '-m', 'unittest', 'discover', '-s', 'tools', '-t', 'tools']
+    ended = run_command(words, TOP)
+    return parse_outcome(ended.printed, ended.status)

@@ -14,7 +14,7 @@ from unittest import mock
 from testing import crates, examples, main, tools_tests
 from testing.at_once import Part, most_parts_at_once, run_parts
 from testing.crates import GATE_CRATES, GATE_TESTS, Crate, crates_with_tests
-from testing.examples import EXAMPLES, Files, script_examples, run_examples, run_scripts
+from testing.examples import EXAMPLES, ScriptFiles, run_examples, run_scripts, script_examples
 from testing.outcome import Outcome
 
 from .support import InFolder
@@ -107,8 +107,8 @@ class Examples(InFolder):
         self.assertEqual(
             script_examples(),
             {
-                Files('start.trace', 'users'): ['first_exchange', 'shared_run', 'versions'],
-                Files('store.trace', 'store.users'): ['recovery'],
+                ScriptFiles('start.trace', 'users'): ['first_exchange', 'shared_run', 'versions'],
+                ScriptFiles('store.trace', 'store.users'): ['recovery'],
             },
         )
 
@@ -132,7 +132,7 @@ class Examples(InFolder):
 
     def test_without_a_program_the_lists_are_those_of_the_second_reading(self) -> None:
         with mock.patch.object(examples.Crashfs, 'find', return_value=None):
-            alone, with_rt = run_examples(False), run_examples(True)
+            alone, with_rt = run_examples(has_rt=False), run_examples(has_rt=True)
         self.assertEqual((alone.passed, alone.failed, len(alone.not_run)), (2, 0, 1))
         self.assertEqual((with_rt.passed, with_rt.failed, with_rt.not_run), (2, 0, []))
         self.assertIn('4 examples', alone.not_run[0])
@@ -140,7 +140,7 @@ class Examples(InFolder):
     def test_with_a_program_it_prints_all_examples(self) -> None:
         path = self.write('crashfs', '#!/bin/sh\necho another list\n', 0o755)
         with mock.patch.object(examples.Crashfs, 'find', return_value=examples.Crashfs(path)):
-            found = run_examples(False)
+            found = run_examples(has_rt=False)
         self.assertEqual((found.passed, found.failed, found.not_run), (0, 6, []))
 
 
@@ -162,6 +162,7 @@ class AtOnce(unittest.TestCase):
 
         found = list(run_parts({name: part(name) for name in 'ab'}, 2))
         self.assertEqual(sorted(one.name for one in found), ['a', 'b'])
+        self.assertTrue(all(one.seconds > 0 for one in found))
 
     def test_a_part_that_breaks_is_no_success(self) -> None:
         def broken() -> Outcome:
