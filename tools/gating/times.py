@@ -33,16 +33,16 @@ class Share:
     wall_seconds: Dict[Tuple[int, float], float] = field(default_factory=dict)
     memory: int = 0
 
-    def add(self, group: List[Prover], now: float) -> None:
+    def add_group(self, group: List[Prover], now: float) -> None:
         """Adds a sample of a group, a prover and those that it started, at the time `now`, in
         seconds since the system began; it replaces an earlier sample of the group. The processor
         seconds never fall, though those of an ended process are missing until the prover has waited
         for it. IndexError for an empty group."""
         first_prover = group[0]
-        process = first_prover.number, first_prover.start_time
+        key = first_prover.number, first_prover.start_time
         seconds = sum(prover.seconds for prover in group)
-        self.seconds[process] = max(seconds, self.seconds.get(process, 0))
-        self.wall_seconds[process] = now - first_prover.start_time
+        self.seconds[key] = max(seconds, self.seconds.get(key, 0))
+        self.wall_seconds[key] = now - first_prover.start_time
         self.memory = max(self.memory, sum(prover.memory for prover in group))
 
 
@@ -50,15 +50,17 @@ Shares = Dict[Tuple[str, str], Share]
 
 
 def add_sample(shares: Shares, groups: List[List[Prover]], now: float) -> None:
-    """Adds a sample of all groups of running provers to `shares`. A group counts for the crate and
-    the kind of its first prover."""
+    """Adds a sample of all groups of running provers to `shares`: each group to the share of the
+    crate and the kind of its first prover. `now` is as in Share.add_group(), and no group may be
+    empty."""
     for group in groups:
-        shares.setdefault((group[0].crate, group[0].kind), Share()).add(group, now)
+        shares.setdefault((group[0].crate, group[0].kind), Share()).add_group(group, now)
 
 
 def crate_row(crate: str, shares: Shares) -> List[str]:
     """A crate's row of the table: processor seconds by kind, their sum, the wall seconds of the
-    prover that ran longest, and megabytes. ValueError if `shares` has nothing of the crate."""
+    group that ran longest, and the megabytes of the group that had most. ValueError if `shares` has
+    nothing of the crate."""
     crate_shares = {kind: share for (name, kind), share in shares.items() if name == crate}
     seconds = [
         sum(crate_shares[kind].seconds.values()) if kind in crate_shares else 0.0 for kind in KINDS
@@ -73,8 +75,8 @@ def crate_row(crate: str, shares: Shares) -> List[str]:
 
 def format_table(shares: Shares, wall_seconds: float) -> str:
     """The table, with tabs between its columns: their names, a line for each crate, those with the
-    most processor seconds first, and the sum of all. `wall_seconds` is how long the samples were
-    taken."""
+    most processor seconds first, and a line with the sum and with `wall_seconds`, for how long
+    samples were taken."""
     seconds_by_crate: Dict[str, float] = defaultdict(float)
     for (crate, _), share in shares.items():
         seconds_by_crate[crate] += sum(share.seconds.values())
@@ -87,14 +89,14 @@ def format_table(shares: Shares, wall_seconds: float) -> str:
 
 
 def is_running(process: int) -> bool:
-    """Whether a process exists."""
+    """Whether there is a process of this number; False without /proc."""
     return Path(f'/proc/{process}').exists()
 
 
 def sample_until_end(process: int, pause_seconds: float, is_stopped: threading.Event) -> str:
-    """Takes a sample at once and after each pause, until the event is set or the process has ended,
-    and returns the table. It has no crate if the process has ended before. A pause of 0 or less is
-    none. OSError without /proc."""
+    """Takes a sample at once and after each pause, until the event is set or the process of this
+    number has ended, and returns the table. The table has no crates if there is no such process, or
+    no /proc. A pause of 0 or less is none."""
     shares: Shares = {}
     start_time = time.monotonic()
     while is_running(process):
@@ -105,9 +107,9 @@ def sample_until_end(process: int, pause_seconds: float, is_stopped: threading.E
 
 
 def main(words: Optional[List[str]] = None) -> int:
-    """Runs gate-times until the process ends or a signal comes, and returns 0, also if there is no
-    such process. `words` None means those of the command line. From then on SIGTERM and SIGINT
-    don't end this process. A wrong word ends the program (SystemExit)."""
+    """Runs gate-times until the process ends or SIGTERM or SIGINT comes, and returns 0, also if
+    there is no such process. `words` None means those of the command line. These two signals don't
+    end this process afterwards either. A wrong word ends the program (SystemExit)."""
     parser = argparse.ArgumentParser(
         prog='gate-times', description=ABOUT, formatter_class=argparse.RawDescriptionHelpFormatter
     )

@@ -13,7 +13,7 @@ COUNTS = re.compile(r'(\d+) passed, (\d+) failed')
 
 @dataclass(frozen=True)
 class Verdict:
-    """What the last lines of a gate say, as texts."""
+    """What the last lines of a gate say, as texts. `counts` is the very last line."""
 
     commit: str
     tree: str
@@ -22,9 +22,9 @@ class Verdict:
     counts: str
 
     def reasons_against(self, commit: str, toolchain: str) -> List[str]:
-        """Why a release of this commit and toolchain can't be based on the gate, a sentence for
-        each reason; empty if it can. A test that failed, none that passed, or counts of another
-        form are a reason too."""
+        """Why a release of this commit and toolchain can't be based on the gate, a clause for each
+        reason; empty if it can. A failed test, no passed test, and counts of another form are
+        reasons too."""
         counts = COUNTS.fullmatch(self.counts)
         passed, failed = (int(counts[1]), int(counts[2])) if counts else (0, 0)
         checks = [
@@ -38,9 +38,9 @@ class Verdict:
 
 
 def parse_verdict(log: str) -> Verdict:
-    """The verdict in the last lines of what `.ci/run` printed. ValueError if these aren't the
-    gate's, in its order, with the counts last. The lines of the linters and of the tools' tests
-    must be there, but aren't kept: the status and the counts include them."""
+    """The verdict in the last lines of `log`, what `.ci/run` printed. ValueError if these aren't
+    the lines of FIELDS, in this order, and then the counts. The lines of the linters and of the
+    tools' tests aren't kept: the status and the counts include them."""
     lines = log.rstrip('\n').split('\n')
     fields: Dict[str, str] = {}
     for name, line in zip(FIELDS, lines[-len(FIELDS) - 1 : -1]):
@@ -60,8 +60,9 @@ def parse_verdict(log: str) -> Verdict:
 
 
 def counts_of_passed_gate(log: str, commit: str, toolchain: str) -> str:
-    """The counts of a passed gate, as `N passed, 0 failed`, from what `.ci/run` printed. ValueError
-    if the gate didn't pass, was of another commit or toolchain, or if no gate printed this."""
+    """The counts of a passed gate, as `N passed, 0 failed`, from `log`, what `.ci/run` printed.
+    ValueError if the gate didn't pass, or was of another commit or toolchain, or if the log doesn't
+    end as a gate does."""
     verdict = parse_verdict(log)
     reasons = verdict.reasons_against(commit, toolchain)
     if reasons:

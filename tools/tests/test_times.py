@@ -59,7 +59,7 @@ class Sums(unittest.TestCase):
     def test_a_prover_that_ends_keeps_what_it_had_taken(self) -> None:
         share = Share()
         for seconds in (3.0, 1.0):
-            share.add([prover(1, seconds)], 12.0)
+            share.add_group([prover(1, seconds)], 12.0)
         self.assertEqual(list(share.seconds.values()), [3.0])
 
 
