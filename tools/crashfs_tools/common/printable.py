@@ -38,10 +38,10 @@ def escape_character(character: str) -> str:
     return f'\\u{code:04x}' if code < 0x10000 else f'\\U{code:08x}'
 
 
-def count_text(count: int, noun: str) -> str:
+def count_text(count: int, noun: str, plural: str = '') -> str:
     """A number with what it counts, as `1 state` or `2,000 states`: the noun gets an s unless the
-    number is 1."""
-    return f'{count:,} {noun}' if count == 1 else f'{count:,} {noun}s'
+    number is 1. `plural` must be given if the plural isn't the noun with an s."""
+    return f'{count:,} {noun if count == 1 else plural or noun + "s"}'
 
 
 def set_utf8_streams() -> None:

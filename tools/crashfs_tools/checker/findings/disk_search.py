@@ -30,7 +30,15 @@ from crashfs_tools.reading.order import Order
 from crashfs_tools.reading.states import States
 
 from .read_trees import entries_of
-from .sightings import OUTSIDE, UNKNOWN, UNTRIED, DiskFailure, Explanation, Sightings, keep_first
+from .sightings import (
+    OUTSIDE,
+    UNKNOWN,
+    UNTRIED,
+    DiskFailure,
+    Explanation,
+    Sightings,
+    keep_first_crashes,
+)
 
 MEMORY = '/dev/shm'
 # So many processes make disks for each job.
@@ -44,8 +52,8 @@ TreeAndCount = Tuple[str, int]
 
 @dataclass
 class DiskTree:
-    """A tree on disks with a number of acknowledged lines, and the first crash of each file system
-    that left it."""
+    """A tree on disks, by its digest and its entries, with a number of acknowledged lines (says),
+    and the first crash of each file system that left them, by the file system's name."""
 
     digest: str
     says: int
@@ -55,9 +63,9 @@ class DiskTree:
 
 def search_disks(trials: Trials, outcomes: Dict[int, Outcome]) -> Sightings:
     """Makes the session again on the file systems of --disks, and returns what was seen; outcomes
-    are those of the states, by their numbers. It shows its progress, and may take hours. Images are
-    in memory if there is room, since a crash is then taken in a fraction of a second; they are
-    removed in any case. Raises what DiskSearch.run() does, and OSError if the trace is gone."""
+    are those of the states, by their numbers. Shows its progress, and may take hours. Images are in
+    memory if there is room, since a crash is then made in a fraction of a second; they are removed
+    in any case. Exceptions as in DiskSearch.run(); OSError also if the trace is gone."""
     with open(trials.planned.trace, 'rb') as file:
         text = file.read()
     trace, lines = read_trace_with_numbers(text.decode('utf-8', 'surrogateescape'))
@@ -74,19 +82,19 @@ def search_disks(trials: Trials, outcomes: Dict[int, Outcome]) -> Sightings:
 
 
 def process_count(trials: Trials) -> int:
-    """How many processes make disks at once: several for each job, since they mostly wait for a
-    mount."""
+    """How many processes make disks at once: DISKS_AT_ONCE for each job, since they mostly wait for
+    a mount."""
     return DISKS_AT_ONCE * trials.options.jobs
 
 
 def has_room(folder: str, size: int) -> bool:
-    """Whether the file system of a folder has room for more than so many bytes, and we may write
-    there. False if the folder isn't there. Nothing is reserved."""
+    """Whether the file system of a folder has more than `size` bytes free, and this user may write
+    in the folder. False if the folder isn't there. Nothing is reserved."""
     try:
-        room = os.statvfs(folder)
+        status = os.statvfs(folder)
     except OSError:
         return False
-    return os.access(folder, os.W_OK) and room.f_bavail * room.f_frsize > size
+    return os.access(folder, os.W_OK) and status.f_bavail * status.f_frsize > size
 
 
 class DiskSearch:
@@ -104,14 +112,14 @@ class DiskSearch:
         """Makes the disks, and returns what was seen on them. on_step is called with how many
         moments are done and how many there are, each counted once for each file system. Refused if
         an image can't be made or mounted, a process is killed, or COMMAND can't be started;
-        LeftRunning if COMMAND leaves what can't be ended; an OSError, workers.Fault or ProgramFault
-        for other faults."""
+        LeftRunning if COMMAND leaves what can't be ended; an OSError, workers.Fault, ProgramFault
+        or ReadingFault for other faults."""
         disks = pool.disks(process_count(self.trials), on_step)
         sightings = Sightings(list(disks))
         for name, different_disks in disks.items():
             sightings.crash_counts[name] = sum(len(disk.crashes) for disk in different_disks)
             sightings.tree_counts[name] = len(different_disks)
-        self.add_outcomes(all_trees(disks), sightings)
+        self.add_outcomes(different_trees(disks), sightings)
         refuse_left_processes(self.checker.left_processes)
         return sightings
 
@@ -119,49 +127,47 @@ class DiskSearch:
         """Adds to the sightings which listed states have the trees, and on each file system how
         many trees fail or give no answer with some number of lines. COMMAND is run in each tree
         that no tried state has: if it fails or gives no answer there, that is a further failure.
-        After an exception only states are added."""
-        states = self.states_by_tree()
-        failing: Dict[str, Set[str]] = {name: set() for name in sightings.names}
+        After an exception only crashes of states are added."""
+        numbers_by_tree = self.state_numbers_by_tree()
+        failing_trees: List[DiskTree] = []
         untried: List[Tuple[DiskTree, Outcome]] = []
         for tree in trees:
-            numbers = states.get((tree.digest, tree.says), [])
-            for number in numbers:
-                keep_first(sightings.crashes_by_state.setdefault(number, {}), tree.crashes)
-            outcome = self.known_outcome(numbers)
-            if outcome is None:
-                outcome = self.run_in_tree(tree)
-                if outcome.result != GOOD:
-                    untried.append((tree, outcome))
+            numbers = numbers_by_tree.get((tree.digest, tree.says), [])
+            sightings.add_crashes(numbers, tree.crashes)
+            known_outcome = self.known_outcome(numbers)
+            outcome = known_outcome or self.run_in_tree(tree)
             if outcome.result != GOOD:
-                for name in tree.crashes:
-                    failing[name].add(tree.digest)
-        sightings.failing_counts = {name: len(digests) for name, digests in failing.items()}
+                failing_trees.append(tree)
+                if known_outcome is None:
+                    untried.append((tree, outcome))
+        sightings.failing_counts = {
+            name: len({tree.digest for tree in failing_trees if name in tree.crashes})
+            for name in sightings.names
+        }
         sightings.further_failures = explain_failures(self.trace, untried)
 
-    def states_by_tree(self) -> Dict[TreeAndCount, List[int]]:
-        """The numbers of all listed states, tried or not, by the tree and the number of
-        acknowledged lines that they leave. ProgramFault if the program doesn't give a tree."""
-        planned = self.trials.planned
-        digests: Dict[int, str] = {}
-        first_equal_states = {state.same for state in planned.plan.listed}
-        for request in planned.requests(first_equal_states):
-            trees = self.trials.program.trees(request.options, self.trials.guard.environment)
-            digests.update(
-                (own_number + request.number_offset, digest_of(tree)) for own_number, tree in trees
-            )
+    def state_numbers_by_tree(self) -> Dict[TreeAndCount, List[int]]:
+        """The ascending numbers of all listed states, tried or not, by the tree and the number of
+        acknowledged lines that they leave. ProgramFault if the program fails, KeyError if it lacks
+        a tree."""
+        listed = self.trials.plan.listed
+        trees = self.trials.read_trees({state.same for state in listed})
+        digests = {number: digest_of(tree) for number, tree in trees}
         numbers: Dict[TreeAndCount, List[int]] = {}
-        for state in planned.plan.listed:
+        for state in listed:
             numbers.setdefault((digests[state.same], state.says), []).append(state.number)
         return numbers
 
     def known_outcome(self, numbers: Sequence[int]) -> Optional[Outcome]:
-        """The outcome of the first of these states that was tried; None if none was."""
+        """The outcome of the first tried state among those of these numbers; None if none of them
+        was tried."""
         return next((self.outcomes[number] for number in numbers if number in self.outcomes), None)
 
     def run_in_tree(self, tree: DiskTree) -> Outcome:
         """Lays out a tree that no tried state has, runs COMMAND there, and returns its outcome,
-        which isn't cached. CRASHFS_STATE is always the first number after those of the listed
-        states. Refused or an OSError as Checker.run()."""
+        which isn't cached; the directory is removed. CRASHFS_STATE is always the first number after
+        those of the listed states. OSError if the tree can't be laid out: a part of it stays. Other
+        exceptions as in Checker.run()."""
         directory = os.path.join(self.trials.guard.directory, 'disk')
         lay_out(directory, members_of(tree.entries))
         try:
@@ -171,22 +177,31 @@ class DiskSearch:
             remove_tree(directory)
 
 
-def all_trees(disks: Dict[str, List[Disk]]) -> List[DiskTree]:
+def different_trees(disks: Dict[str, List[Disk]]) -> List[DiskTree]:
     """Each tree of some disks, once for each number of lines that may be acknowledged with it, with
     the first crash of each file system. disks has those of each file system by its name."""
     trees: Dict[TreeAndCount, DiskTree] = {}
-    all_disks = [(name, disk) for name, of_one in disks.items() for disk in of_one]
-    for name, disk in all_disks:
-        for crash in disk.crashes:
-            for says in range(crash.moment.least_says, crash.moment.most_says + 1):
-                new_tree = DiskTree(disk.digest, says, disk.tree, {})
-                tree = trees.setdefault((disk.digest, says), new_tree)
-                keep_first(tree.crashes, {name: crash})
+    for tree in trees_after_crashes(disks):
+        first = trees.setdefault((tree.digest, tree.says), tree)
+        keep_first_crashes(first.crashes, tree.crashes)
     return list(trees.values())
 
 
+def trees_after_crashes(disks: Dict[str, List[Disk]]) -> List[DiskTree]:
+    """The tree after each crash of some disks, once for each number of lines that may be
+    acknowledged then, with only this crash. disks is as in different_trees()."""
+    return [
+        DiskTree(disk.digest, says, disk.tree, {name: crash})
+        for name, disks_of_one in disks.items()
+        for disk in disks_of_one
+        for crash in disk.crashes
+        for says in crash.moment.line_counts
+    ]
+
+
 def members_of(tree: Entries) -> Iterator[Member]:
-    """A tree as an archive has it: its paths without the first slash, the root's empty."""
+    """The entries of a tree as an archive has them: the paths are without their first slash, that
+    of the root is empty."""
     for path, entry in tree.items():
         yield path[1:], entry
 
@@ -195,7 +210,7 @@ def explain_failures(trace: bytes, untried: List[Tuple[DiskTree, Outcome]]) -> L
     """The failures in trees that no tried state has. Searches the crash states for the trees, so
     each failure says why no tried state has its tree. Failures with the same tree, cause and reason
     are one, with all numbers of lines, the outcome of the first of these, and the first crash of
-    each file system."""
+    each file system. ReadingFault as search_trees()."""
     wanted = {(tree.digest, tree.says) for tree, _ in untried}
     result = search_trees(trace, wanted) if wanted else SearchResult(set(), 0, True)
     failures: Dict[Tuple[str, str, str], DiskFailure] = {}
@@ -204,21 +219,21 @@ def explain_failures(trace: bytes, untried: List[Tuple[DiskTree, Outcome]]) -> L
         key = (tree.digest, outcome.cause, explanation.reason)
         failure = failures.setdefault(key, DiskFailure(outcome, [], {}, tree.entries, explanation))
         failure.says.append(tree.says)
-        keep_first(failure.crashes, tree.crashes)
+        keep_first_crashes(failure.crashes, tree.crashes)
     return list(failures.values())
 
 
 class SearchResult(NamedTuple):
-    """Which trees are left by an allowed set, how many different states were looked through, and
-    whether the search is whole: it didn't end at a limit."""
+    """Which of the wanted trees are left by an allowed set, how many different states were looked
+    through, and whether the search is whole: it didn't end at a limit."""
 
     found: Set[TreeAndCount]
     searched_states: int
     is_whole: bool
 
     def explanation(self, tree: TreeAndCount) -> Explanation:
-        """Why no tried state has a tree: UNTRIED if an allowed set leaves it, OUTSIDE if none does,
-        UNKNOWN if the search ended before it was found."""
+        """Why no tried state has a wanted tree: UNTRIED if an allowed set leaves the tree, OUTSIDE
+        if none does, UNKNOWN if the search ended at a limit before one was found."""
         if tree in self.found:
             return Explanation(UNTRIED)
         return Explanation(OUTSIDE) if self.is_whole else Explanation(UNKNOWN, self.searched_states)
@@ -226,8 +241,9 @@ class SearchResult(NamedTuple):
 
 def search_trees(trace: bytes, wanted: Set[TreeAndCount]) -> SearchResult:
     """Looks for trees, at least one, among the different crash states of the trace's own profile,
-    by the second reading. It ends when all are found or all states were looked through, and isn't
-    whole if it ends at MOST_STATES or MOST_SECONDS. ReadingFault if the trace has a fault."""
+    by the second reading. The search ends when all are found or all states were looked through, and
+    isn't whole if it ends at MOST_STATES or MOST_SECONDS. ReadingFault if the trace has a
+    fault."""
     reading = parse_trace(trace)
     states = States(reading)
     found: Set[TreeAndCount] = set()

@@ -9,7 +9,7 @@ from crashfs_tools.checker.running.runner import Outcome
 from crashfs_tools.common.entry import Entries, Entry
 from crashfs_tools.disks.disk import Crash
 
-from .wording import fail_verb, joined_by
+from .wording import fail_text, joined_by, size_text
 
 # So many paths of a tree are shown.
 SHOWN_PATHS = 12
@@ -47,14 +47,16 @@ class DiskFailure:
 
     def lines(self) -> List[str]:
         """Three lines of a report: on which file systems and after which crashes the tree was seen,
-        why no tried state has it, and its first SHOWN_PATHS paths, with how many more there are."""
+        why no tried state has it, and its first SHOWN_PATHS paths, with the count of the others."""
         more = len(self.tree) - SHOWN_PATHS
-        paths = [path_text(path, self.tree[path]) for path in sorted(self.tree)[:SHOWN_PATHS]]
+        shown = [
+            path_with_content(path, self.tree[path]) for path in sorted(self.tree)[:SHOWN_PATHS]
+        ]
         says = joined_by('or', list(map(str, self.says)))
         return [
             f'{sighting_text(list(self.crashes), self.crashes)}, says {says}',
             self.explanation.text,
-            ', '.join(paths) + (f' and {more:,} more' if more > 0 else ''),
+            ', '.join(shown) + (f' and {more:,} more' if more > 0 else ''),
         ]
 
     def fields(self) -> Dict[str, Any]:
@@ -74,8 +76,8 @@ class Sightings:
     """What was seen on the file systems of these names. crash_counts and tree_counts have how many
     crashes and different trees there were on each; failing_counts has in how many of the trees
     COMMAND failed or gave no answer. crashes_by_state has for the number of each state seen the
-    first crash, as keep_first() has it, of each file system that left it. further_failures has the
-    failures that no tried state has."""
+    first crash, by keep_first_crashes(), of each file system that left it. further_failures are
+    those in trees that no tried state has."""
 
     names: List[str]
     crash_counts: Dict[str, int] = field(default_factory=dict)
@@ -89,17 +91,23 @@ class Sightings:
         the file systems on which none of them was seen."""
         crashes: Dict[str, Crash] = {}
         for number in numbers:
-            keep_first(crashes, self.crashes_by_state.get(number, {}))
+            keep_first_crashes(crashes, self.crashes_by_state.get(number, {}))
         return crashes
 
+    def add_crashes(self, numbers: Sequence[int], crashes: Dict[str, Crash]) -> None:
+        """Adds crashes that left the states of these numbers to crashes_by_state: one of each file
+        system, by its name."""
+        for number in numbers:
+            keep_first_crashes(self.crashes_by_state.setdefault(number, {}), crashes)
+
     def text_of_states(self, numbers: Sequence[int]) -> str:
-        """The text on the states of these numbers: on which file systems a crash left one of them,
-        after which crash, and on which not."""
+        """On which file systems a crash left one of the states of these numbers, and which crash;
+        and on which file systems none did."""
         return sighting_text(self.names, self.crashes_of_states(numbers))
 
     def fields(self) -> Dict[str, Any]:
-        """What the JSON has: the counts of each file system, the first crashes of each state seen
-        by its number, and the further failures."""
+        """What the JSON has: the counts of each file system, the first crashes of each state that
+        was seen, by its number, and the further failures. KeyError if counts are missing."""
         counts = {
             name: {
                 'crashes': self.crash_counts[name],
@@ -115,7 +123,8 @@ class Sightings:
 
     def lines(self) -> List[str]:
         """A line of a report for each file system: how many crashes there were, how many different
-        trees they left, and in how many of these COMMAND fails or gives no answer."""
+        trees they left, and in how many of these COMMAND fails or gives no answer. KeyError if
+        counts are missing."""
         return [
             f'{name}: {self.crash_counts[name]:,} crashes, {self.tree_counts[name]:,} different '
             f'trees: {fail_text(self.failing_counts[name])}'
@@ -123,24 +132,19 @@ class Sightings:
         ]
 
 
-def keep_first(crashes: Dict[str, Crash], more: Dict[str, Crash]) -> None:
-    """Adds `more` crashes to `crashes`; both have one for each file system, by its name. Of two of
-    one file system that stays for which the kernel was made to write less, since it says more; then
-    the earlier one in the session, then the one in `crashes`."""
+def keep_first_crashes(crashes: Dict[str, Crash], more: Dict[str, Crash]) -> None:
+    """Adds `more` crashes to `crashes`; each has one crash of a file system, by its name. Of two
+    crashes of one file system the first by Crash.rank stays: before it the kernel was made to write
+    less, or it is the earlier one in the session. Of equal ones that in `crashes` stays."""
     for name, crash in more.items():
         if name not in crashes or crash.rank < crashes[name].rank:
             crashes[name] = crash
 
 
-def fail_text(count: int) -> str:
-    """How many fail, as text: `3 fail`, `none fails`."""
-    return f'{count:,} {fail_verb(count)}' if count else 'none fails'
-
-
 def sighting_text(names: Sequence[str], crashes: Dict[str, Crash]) -> str:
-    """On which of the file systems of these names something was seen, after which crash, and on
-    which not. `crashes` has the crash for each file system on which it was seen; its other names
-    are passed over."""
+    """On which file systems of these names a state or a tree was seen, after which crash, and on
+    which not. `crashes` has the crash for each file system on which it was seen; file systems that
+    aren't in `names` are passed over."""
     seen = [f'{name} ({crash_text(crashes[name])})' for name in names if name in crashes]
     unseen = [name for name in names if name not in crashes]
     if not seen:
@@ -162,9 +166,7 @@ def crash_text(crash: Crash) -> str:
     return f'{place}, {crash.flush_kind.value}'
 
 
-def path_text(path: str, entry: Entry) -> str:
-    """A path with the target of the symbolic link or the size of the file there; the path only for
-    a directory."""
-    if entry.link is not None:
-        return f'{path} (a symbolic link to {entry.link})'
-    return path if entry.data is None else f'{path} ({len(entry.data):,} bytes)'
+def path_with_content(path: str, entry: Entry) -> str:
+    """A path with the target of the symbolic link or the size of the file there, in parentheses;
+    only the path of a directory."""
+    return path if entry.is_directory else f'{path} ({size_text(entry)})'

@@ -12,6 +12,7 @@ from crashfs_tools.common import sparse
 from crashfs_tools.common.entry import Entries, Entry
 
 from .groups import Difference, Findings, Group
+from .wording import kind_text, size_text
 
 # So many lines are shown of each entry, and so many entries have them: the largest.
 SHOWN_LINES, ENTRIES = 20, 5
@@ -20,9 +21,9 @@ SHOWN_BYTES = 8
 
 def find_differences(trials: Trials, findings: Findings) -> None:
     """Compares the examples of the first ENTRIES groups, the largest, with their nearest good
-    states, and sets the differences of these groups; of each difference SHOWN_LINES lines are kept.
-    A group without a good state gets none. ProgramFault or KeyError if the program lacks a
-    state."""
+    states, and sets the `difference` of these groups, with its first SHOWN_LINES lines. If no state
+    is good, nothing is set. ProgramFault or KeyError if the program lacks a state: earlier groups
+    keep what was set."""
     for group in findings.groups[:ENTRIES]:
         good_state = nearest_good_state(findings, group)
         if good_state is not None:
@@ -34,56 +35,52 @@ def find_differences(trials: Trials, findings: Findings) -> None:
 def nearest_good_state(findings: Findings, group: Group) -> Optional[State]:
     """The good state that differs from a group's example in the fewest micro-operations, of several
     the first; None if no state of the window was found good."""
-    kept_sets = findings.plan.kept
-    good = [
+    kept_sets, outcomes = findings.plan.kept, findings.outcomes_by_state
+    example_set = kept_sets[group.example.number]
+    good_states = [
         state
         for state in findings.plan.states
-        if state.number in findings.outcomes_by_state
-        and findings.outcomes_by_state[state.number].result == GOOD
+        if state.number in outcomes and outcomes[state.number].result == GOOD
     ]
 
     def distance(state: State) -> Tuple[int, int]:
         """In how many micro-operations a state differs from the example, then its number."""
-        return size_of(kept_sets[state.number] ^ kept_sets[group.example.number]), state.number
+        return size_of(kept_sets[state.number] ^ example_set), state.number
 
-    return min(good, key=distance) if good else None
+    return min(good_states, key=distance) if good_states else None
 
 
 def difference_lines(failing: Entries, good: Entries) -> Iterator[str]:
     """How a failing tree differs from a good one: a line for each path that differs, in the order
-    of paths. A line names one difference only, the first of presence, kind, bytes and rights."""
+    of paths. A line names only the first difference, in this order: that one state lacks the path,
+    then the kind, the bytes and the rights."""
     for path in sorted(failing.keys() | good.keys()):
-        bad_entry, good_entry = failing.get(path), good.get(path)
-        if bad_entry is None or good_entry is None:
-            present = bad_entry or good_entry
-            assert present is not None
-            state = 'failing' if bad_entry else 'good'
-            yield f'{path} ({size_text(present)}) is only in the {state} state'
-        elif kind_text(bad_entry) != kind_text(good_entry):
-            yield f'{path} is {kind_text(bad_entry)}, in the good state {kind_text(good_entry)}'
-        elif bad_entry.data != good_entry.data:
-            sizes = sizes_text(bad_entry, good_entry)
-            yield f'{path} {sizes}{first_bytes_text(bad_entry, good_entry)}'
-        elif rights_of(bad_entry) != rights_of(good_entry):
-            yield f'{path} is {rights_text(bad_entry)}, in the good state {rights_text(good_entry)}'
+        failing_entry, good_entry = failing.get(path), good.get(path)
+        if failing_entry is not None and good_entry is not None:
+            difference = difference_text(failing_entry, good_entry)
+            if difference:
+                yield f'{path} {difference}'
+        elif failing_entry is not None:
+            yield f'{path} ({size_text(failing_entry)}) is only in the failing state'
+        elif good_entry is not None:
+            yield f'{path} ({size_text(good_entry)}) is only in the good state'
 
 
-def kind_text(entry: Entry) -> str:
-    """What an entry is, without its size: `a file`, `a directory` or a symbolic link with its
-    target."""
-    if entry.link is not None:
-        return f'a symbolic link to {entry.link}'
-    return 'a directory' if entry.is_directory else 'a file'
-
-
-def size_text(entry: Entry) -> str:
-    """The size of a file; for a directory or a link what it is."""
-    return kind_text(entry) if entry.data is None else f'{len(entry.data):,} bytes'
+def difference_text(failing: Entry, good: Entry) -> str:
+    """The sentence, without its subject, that names the first difference of the entries at one
+    path: of kind, bytes or rights. An empty text if they are equal."""
+    if kind_text(failing) != kind_text(good):
+        return f'is {kind_text(failing)}, in the good state {kind_text(good)}'
+    if failing.data != good.data:
+        return f'{sizes_text(failing, good)}{first_bytes_text(failing, good)}'
+    if rights_of(failing) != rights_of(good):
+        return f'is {rights_text(failing)}, in the good state {rights_text(good)}'
+    return ''
 
 
 def sizes_text(failing: Entry, good: Entry) -> str:
-    """The end of a sentence: which sizes a file has in the failing state and in the good one, or
-    which it has in both."""
+    """A part of a sentence about a file: its sizes in the failing state and in the good one, or its
+    one size in both."""
     if size_text(failing) == size_text(good):
         return f'has {size_text(failing)} in both'
     return f'has {size_text(failing)}, in the good state {size_text(good)}'
@@ -108,9 +105,9 @@ def rights_text(entry: Entry) -> str:
 
 
 def first_bytes_text(failing: Entry, good: Entry) -> str:
-    """The end of a sentence: the offset at which the bytes of a file in the failing state and in
-    the good one, which must differ, begin to differ, and up to SHOWN_BYTES of each from there. An
-    empty text if one of the entries is no file."""
+    """The end of a sentence about a file whose bytes in the failing state and in the good one must
+    differ: the offset of the first difference, and up to SHOWN_BYTES of each from there. An empty
+    text if one of the entries is no file."""
     if failing.data is None or good.data is None:
         return ''
     place = sparse.first_difference(failing.data, good.data)

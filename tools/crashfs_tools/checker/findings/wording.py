@@ -1,8 +1,11 @@
-"""Numbers and lists in the sentences of a report."""
+"""Lists, failing states and entries of a tree in the sentences of a report."""
 
 from __future__ import annotations
 
 from typing import Sequence
+
+from crashfs_tools.common.entry import Entry
+from crashfs_tools.common.printable import count_text
 
 
 def joined_by(word: str, names: Sequence[str]) -> str:
@@ -12,12 +15,30 @@ def joined_by(word: str, names: Sequence[str]) -> str:
     return f'{", ".join(others)} {word} {last}' if others else last
 
 
-def count_text(count: int, noun: str, plural: str = '') -> str:
-    """A count with a noun after it, as `1 state` or `2 states`. `plural` must be given if it isn't
-    the noun and an s."""
-    return f'{count:,} {noun if count == 1 else plural or noun + "s"}'
-
-
 def fail_verb(count: int) -> str:
     """The verb after a count of states: `fails` for 1, else `fail`."""
     return 'fails' if count == 1 else 'fail'
+
+
+def fail_text(count: int) -> str:
+    """How many states or trees fail, as text: `3 fail`, `none fails`."""
+    return f'{count:,} {fail_verb(count)}' if count else 'none fails'
+
+
+def failing_states_text(count: int) -> str:
+    """A count of failing states as the beginning of a sentence: `1 state fails`, `0 states
+    fail`."""
+    return f'{count_text(count, "state")} {fail_verb(count)}'
+
+
+def kind_text(entry: Entry) -> str:
+    """What an entry is, without its size: `a file`, `a directory` or a symbolic link with its
+    target."""
+    if entry.link is not None:
+        return f'a symbolic link to {entry.link}'
+    return 'a directory' if entry.is_directory else 'a file'
+
+
+def size_text(entry: Entry) -> str:
+    """The size of a file, as `1,024 bytes`; for a directory or a symbolic link its kind_text()."""
+    return kind_text(entry) if entry.data is None else f'{len(entry.data):,} bytes'

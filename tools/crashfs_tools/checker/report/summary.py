@@ -6,11 +6,11 @@ from __future__ import annotations
 import math
 from typing import Iterator, List
 
-from crashfs_tools.checker.findings.wording import count_text, fail_verb
+from crashfs_tools.checker.findings.wording import fail_verb
 from crashfs_tools.checker.running.progress import duration_text
 from crashfs_tools.checker.running.results import Head
 from crashfs_tools.checker.running.runner import BAD, NO_ANSWER
-from crashfs_tools.common.printable import escape_unprintable
+from crashfs_tools.common.printable import count_text, escape_unprintable
 
 from .counts import AcceptedStates, StateCounts
 

@@ -6,8 +6,8 @@ from typing import TYPE_CHECKING, Iterable, List, Optional
 
 from crashfs_tools.checker.findings.groups import Group
 from crashfs_tools.checker.findings.accepted_failures import AcceptedFailure
-from crashfs_tools.checker.findings.wording import count_text, fail_verb, joined_by
-from crashfs_tools.common.printable import escape_unprintable
+from crashfs_tools.checker.findings.wording import fail_text, joined_by
+from crashfs_tools.common.printable import count_text, escape_unprintable
 from crashfs_tools.common.program import can_be_built
 from crashfs_tools.common.trace_lines import TraceLine
 
@@ -176,10 +176,9 @@ class ReportText:
             return []
         tried = [recovery for recovery in self.report.recoveries if not recovery.fault]
         failing = sum(recovery.failing_count for recovery in tried)
-        how_many = f'{failing:,} {fail_verb(failing)}' if failing else 'none fails'
         states = count_text(sum(recovery.tried_count for recovery in tried), 'different state')
         recoveries = count_text(len(tried), 'recovery', 'recoveries')
-        lines = [f'{recoveries}: {states} of a second crash, {how_many}']
+        lines = [f'{recoveries}: {states} of a second crash, {fail_text(failing)}']
         unproved = sum(recovery.unproved for recovery in tried)
         if unproved and not self.head.unproved:
             lines.append(

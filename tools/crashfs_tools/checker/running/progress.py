@@ -8,6 +8,7 @@ import time
 from typing import Callable, Optional, TextIO
 
 from crashfs_tools.checker.options import NAME
+from crashfs_tools.common.printable import count_text
 
 from .runner import BAD, Outcome
 
@@ -133,6 +134,5 @@ class Pace:
 def duration_text(seconds: float) -> str:
     """A number of seconds in the largest unit of which it has at least one, rounded, such as `2
     hours`. In seconds if it is less than one."""
-    unit_seconds, unit = next((item for item in UNITS if seconds >= item[0]), UNITS[-1])
-    count = round(seconds / unit_seconds)
-    return f'{count:,} {unit}{"s" if count != 1 else ""}'
+    unit_seconds, unit_name = next((unit for unit in UNITS if seconds >= unit[0]), UNITS[-1])
+    return count_text(round(seconds / unit_seconds), unit_name)

@@ -4,7 +4,18 @@ from __future__ import annotations
 
 from dataclasses import dataclass, field, replace
 from functools import cached_property, lru_cache
-from typing import TYPE_CHECKING, Callable, Dict, Iterable, List, Optional, Sequence, Set, Tuple
+from typing import (
+    TYPE_CHECKING,
+    Callable,
+    Dict,
+    Iterable,
+    Iterator,
+    List,
+    Optional,
+    Sequence,
+    Set,
+    Tuple,
+)
 
 from crashfs_tools.checker.options import Options
 from crashfs_tools.checker.states.layout import (
@@ -140,12 +151,18 @@ class Trials:
                 {f'/{path}': entry for path, entry in kept[first_number] if path}
                 for first_number in first_numbers
             ]
-        trees = {}
+        trees = dict(self.read_trees(numbers))
+        for tree in trees.values():
+            tree.pop('/', None)
+        return [trees[number] for number in numbers]
+
+    def read_trees(self, numbers: Iterable[int]) -> Iterator[Tuple[int, Entries]]:
+        """Reads the trees of the states of these numbers from the program, and yields each, with
+        its root, after its number, in any order. Kept trees aren't used. ProgramFault if the
+        program fails; a state that it leaves out is missing."""
         for request in self.planned.requests(numbers):
             for own_number, tree in self.program.trees(request.options, self.guard.environment):
-                tree.pop('/', None)
-                trees[own_number + request.number_offset] = tree
-        return [trees[number] for number in numbers]
+                yield own_number + request.number_offset, tree
 
     def try_state(self, state: State, attempt: int = 0) -> Outcome:
         """The outcome of a state, by a run of COMMAND or from the cache. Each attempt, a number
