@@ -18,7 +18,7 @@ import tempfile
 from pathlib import Path
 from typing import Any, Dict, List, NamedTuple
 
-from crashfs_tools.common.guard import Stopped, raise_on_stop_signals
+from crashfs_tools.common.signals import Stopped, raise_on_stop_signals
 
 from .store_rows import STORES, TOP, ResultsFile, disk_counts, row_of_check
 

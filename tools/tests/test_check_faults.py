@@ -34,7 +34,7 @@ sys.path.insert(0, {tools!r})
 from crashfs_tools.checker import checking, main
 from crashfs_tools.checker.findings import reruns
 from crashfs_tools.common.command import Refused
-from crashfs_tools.common.guard import TimeUp
+from crashfs_tools.common.signals import TimeUp
 checking.Check.find_losses = mock.Mock(side_effect=TimeUp)
 reruns.rerun_examples = mock.Mock(side_effect=Refused('a process was killed'))
 sys.exit(main.main(sys.argv[1:]))

@@ -11,8 +11,9 @@ from unittest import mock
 from crashfs_tools.checker.running.read_results import read_json
 from crashfs_tools.checker.states.layout import lay_out
 from crashfs_tools.checker.states.rewriting import rewrite
-from crashfs_tools.common.command import Refused, write_whole_file
+from crashfs_tools.common.command import Refused
 from crashfs_tools.common.entry import Entry
+from crashfs_tools.common.whole_files import write_whole_file
 from crashfs_tools.recorder.log_stream import create_log
 
 from .support import EXAMPLES, FAKE, InFolder

@@ -18,7 +18,8 @@ from .test_check_command import InStore
 EARLY = """\
 import os, signal, sys, tempfile
 from unittest import mock
-from crashfs_tools.common.guard import Guard, Stopped, raise_on_stop_signals
+from crashfs_tools.common.guard import Guard
+from crashfs_tools.common.signals import Stopped, raise_on_stop_signals
 
 raise_on_stop_signals()
 command = os.getpid()

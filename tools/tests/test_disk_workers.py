@@ -14,7 +14,7 @@ from pathlib import Path
 from typing import List
 
 from crashfs_tools.common.command import Refused
-from crashfs_tools.common.guard import time_limit
+from crashfs_tools.common.signals import time_limit
 from crashfs_tools.common.trace_read import read_trace
 from crashfs_tools.disks import filesystems
 from crashfs_tools.disks.pool import DiskPool

@@ -33,7 +33,8 @@ from crashfs_tools.checker.running.progress import Progress
 from crashfs_tools.checker.running.results import Head
 from crashfs_tools.checker.running.runner import BAD, Outcome
 from crashfs_tools.common.entry import Entry
-from crashfs_tools.common.guard import Guard, TimeUp
+from crashfs_tools.common.guard import Guard
+from crashfs_tools.common.signals import TimeUp
 from crashfs_tools.disks import filesystems
 from crashfs_tools.disks.disk import Crash
 from crashfs_tools.disks.flushes import FlushKind

@@ -11,7 +11,8 @@ from contextlib import redirect_stderr
 from unittest import mock
 
 from crashfs_tools.common import descendants
-from crashfs_tools.common.guard import STOPS, Guard, TimeUp, stop_signals_blocked, time_limit
+from crashfs_tools.common.guard import Guard
+from crashfs_tools.common.signals import STOPS, TimeUp, stop_signals_blocked, time_limit
 
 from .support import TOOLS, InFolder
 

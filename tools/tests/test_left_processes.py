@@ -23,8 +23,9 @@ from crashfs_tools.checker.running.trials import Trials
 from crashfs_tools.checker.running.workers import StateWorkers
 from crashfs_tools.checker.states.layout import Layout
 from crashfs_tools.common import descendants
-from crashfs_tools.common.guard import Guard, TimeUp
+from crashfs_tools.common.guard import Guard
 from crashfs_tools.common.program import Crashfs
+from crashfs_tools.common.signals import TimeUp
 
 from .support import FAKE, PATIENCE, long_time
 from .test_check_command import InStore, processes

@@ -10,7 +10,7 @@ from .support import FAKE, TOOLS, InFolder, needs_strace, needs_version_3
 SAVE = f"""
 import sys
 sys.path.insert(0, {str(TOOLS)!r})
-from crashfs_tools.common.command import write_whole_file
+from crashfs_tools.common.whole_files import write_whole_file
 for version in (1, 2):
     write_whole_file('report.json', ['version ', f'{{version}}\\n'])
     print('saved', version, flush=True)

@@ -8,8 +8,8 @@ from types import SimpleNamespace
 
 from crashfs_tools.checker.states.layout import read_trees
 from crashfs_tools.common.forked_reading import ForkedReading
-from crashfs_tools.common.guard import time_limit
 from crashfs_tools.common.program import BUILT, Crashfs, ProgramFault, program_of_tools
+from crashfs_tools.common.signals import time_limit
 
 from .support import EXAMPLES, PATIENCE, InFolder
 

@@ -11,7 +11,7 @@ import unittest
 from unittest import mock
 
 from crashfs_tools.common import limits, own_faults
-from crashfs_tools.common.guard import Stopped
+from crashfs_tools.common.signals import Stopped
 from crashfs_tools.recorder import main
 from crashfs_tools.recorder.log_stream import LogStream
 from crashfs_tools.recorder.mapped_files import MAPPED, MappedFiles

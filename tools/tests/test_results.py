@@ -12,7 +12,7 @@ from pathlib import Path
 from typing import Any, Dict, List, Tuple
 from unittest import mock
 
-from crashfs_tools.common.guard import Stopped
+from crashfs_tools.common.signals import Stopped
 from crashfs_tools.reading import parse_trace
 from crashfs_tools.reading.every import count_sets
 from crashfs_tools.reading.order import Order

@@ -56,7 +56,7 @@ if whole[0] < int(os.environ['CRASHFS_SAYS']):
 OWN_SAVER = f"""
 import os, sys
 sys.path.insert(0, {str(TOOLS)!r})
-from crashfs_tools.common.command import write_whole_file
+from crashfs_tools.common.whole_files import write_whole_file
 for version in (1, 2):
     write_whole_file('r.json', (f'version {{version}}, line {{line}}\\n' for line in range(900)))
     os.write(1, b'written\\n')

@@ -11,8 +11,8 @@ from crashfs_tools.checker.findings.accepted_failures import AcceptedFailure
 from crashfs_tools.checker.report.counts import counts_by_profile
 from crashfs_tools.checker.report.report import CheckReport
 from crashfs_tools.checker.report.text import ReportText
-from crashfs_tools.common.command import write_whole_file
 from crashfs_tools.common.trace_lines import TraceLine
+from crashfs_tools.common.whole_files import write_whole_file
 
 PathLike = Union[str, 'os.PathLike[str]']
 

@@ -9,7 +9,8 @@ from dataclasses import asdict, dataclass, field
 from pathlib import Path
 from typing import Dict, Iterable, List, Tuple
 
-from crashfs_tools.common.command import Refused, write_whole_file
+from crashfs_tools.common.command import Refused
+from crashfs_tools.common.whole_files import write_whole_file
 
 from .sessions import Failure
 

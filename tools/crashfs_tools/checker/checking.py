@@ -19,9 +19,11 @@ from crashfs_tools.checker.running.recoveries import FunctionRecovery
 from crashfs_tools.checker.running.results import AllResults, Head, Results, known_states
 from crashfs_tools.checker.running.runner import do_nothing
 from crashfs_tools.checker.running.trials import Trials
-from crashfs_tools.common.command import Refused, print_line, with_program_path, write_whole_file
-from crashfs_tools.common.guard import Guard, Stopped, TimeUp, time_limit
+from crashfs_tools.common.command import Refused, print_line, with_program_path
+from crashfs_tools.common.guard import Guard
 from crashfs_tools.common.program import Crashfs, ProgramFault
+from crashfs_tools.common.signals import Stopped, TimeUp, time_limit
+from crashfs_tools.common.whole_files import write_whole_file
 
 from .checked_trace import CheckedTrace
 from .options import NAME, Options

@@ -15,16 +15,13 @@ from crashfs_tools.checker.report.report import NOT_ALL_TRIED
 from crashfs_tools.checker.running.progress import Progress
 from crashfs_tools.checker.running.runner import LeftRunning, limit_inherited_descriptors
 from crashfs_tools.checker.states.plan import PlanError
-from crashfs_tools.common.command import (
-    Refused,
-    folder_to_write,
-    print_line,
-    flushed_output,
-)
-from crashfs_tools.common.guard import Guard, Stopped, raise_on_stop_signals
+from crashfs_tools.common.command import Refused, print_line, flushed_output
+from crashfs_tools.common.guard import Guard
 from crashfs_tools.common.own_faults import print_own_fault
 from crashfs_tools.common.printable import set_utf8_streams
 from crashfs_tools.common.program import ProgramFault
+from crashfs_tools.common.signals import Stopped, raise_on_stop_signals
+from crashfs_tools.common.whole_files import folder_to_write
 
 from .checking import Interrupted, check_trace, refuse_unreadable
 from .command_line import read_options

@@ -10,8 +10,8 @@ from contextlib import ExitStack
 from typing import Any, BinaryIO, Dict, List, NoReturn, Tuple
 
 from .descendants import die_with_parent
-from .guard import STOPS, stop_signals_blocked
 from .pipes import open_pipe
+from .signals import STOPS, stop_signals_blocked
 
 INTERNAL_ERROR = 70
 # So much of an output is read at once.

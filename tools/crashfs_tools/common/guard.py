@@ -14,17 +14,17 @@ import os
 import signal
 import tempfile
 import time
-from contextlib import ExitStack, contextmanager
-from typing import Dict, Iterable, Iterator, Mapping, NoReturn, Optional, Set, Tuple, Union
+from contextlib import ExitStack
+from typing import Dict, Iterable, Mapping, NoReturn, Optional, Set
 
 from . import descendants
 from .command import print_line
 from .mount_table import MountTable
 from .pipes import open_pipe
 from .removal import TRASH_ENDING, remove_tree
+from .signals import STOPS, stop_signals_blocked
 
 VARIABLE = 'CRASHFS_GUARD'
-STOPS = (signal.SIGINT, signal.SIGTERM, signal.SIGHUP)
 # What the watcher answers if it is killed before it answers.
 WATCHER_KILLED = json.dumps([None, errno.ECHILD, 'its watcher was killed', 'temporary files'])
 
@@ -244,77 +244,3 @@ def end_processes_with_token(token: str) -> None:
             if is_late or descendants.program_name(process) != descendants.CLEANER:
                 descendants.kill_quietly(os.kill, process)
         time.sleep(0.01)
-
-
-@contextmanager
-def stop_signals_blocked() -> Iterator[Set[Union[int, signal.Signals]]]:
-    """Within this the signals of STOPS and SIGALRM wait in this thread, since what a handler raises
-    in the hooks of a fork is lost. They come at its end, unless they were blocked before. Yields
-    the signals that were blocked before: a process forked within it must set these itself, once it
-    is ready for signals."""
-    blocked_before = signal.pthread_sigmask(signal.SIG_BLOCK, (*STOPS, signal.SIGALRM))
-    try:
-        yield blocked_before
-    finally:
-        signal.pthread_sigmask(signal.SIG_SETMASK, blocked_before)
-
-
-class Stopped(Exception):
-    """A signal that asks a command to end was received: `number` is its number."""
-
-    def __init__(self, number: int) -> None:
-        super().__init__(signal.Signals(number).name)
-        self.number = number
-
-    @property
-    def status(self) -> int:
-        """The exit status of a command that this signal ends, as a shell has it."""
-        return 128 + self.number
-
-
-class TimeUp(Exception):
-    """The time limit of a block has passed."""
-
-
-@contextmanager
-def time_limit(seconds: Optional[float]) -> Iterator[None]:
-    """Within this, TimeUp is raised in the main thread after so many seconds; None or 0 is no
-    limit. Must be entered in the main thread, else ValueError. There is one timer: an inner limit
-    ends an outer one, also if it is 0, but not if it is None."""
-
-    def raise_time_up(_: int, __: object) -> None:
-        raise TimeUp
-
-    if seconds is not None:
-        signal.signal(signal.SIGALRM, raise_time_up)
-        signal.setitimer(signal.ITIMER_REAL, seconds)
-    try:
-        yield
-    finally:
-        if seconds is not None:
-            signal.setitimer(signal.ITIMER_REAL, 0)
-
-
-def stop_signals() -> Tuple[signal.Signals, ...]:
-    """The signals that stop a command here: those of STOPS, without SIGHUP if that is ignored now,
-    as under `nohup`."""
-    if signal.getsignal(signal.SIGHUP) is signal.SIG_IGN:
-        return tuple(number for number in STOPS if number != signal.SIGHUP)
-    return STOPS
-
-
-def raise_on_stop_signals() -> None:
-    """From here on the first of stop_signals() raises Stopped in the main thread, which must be the
-    caller's. Then a time limit ends, and the signals of STOPS are ignored, so that the command can
-    clean up; programs that are started then ignore them too."""
-
-    def raise_stopped(signal_number: int, _: object) -> None:
-        """A handler of the signals: ends a time limit, ignores STOPS from then on, and raises
-        Stopped."""
-        signal.setitimer(signal.ITIMER_REAL, 0)
-        for later_signal in STOPS:
-            signal.signal(later_signal, signal.SIG_IGN)
-        raise Stopped(signal_number)
-
-    for signal_number in stop_signals():
-        signal.signal(signal_number, raise_stopped)

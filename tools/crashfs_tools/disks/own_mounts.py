@@ -8,7 +8,7 @@ import os
 from typing import Optional
 
 from crashfs_tools.common.command import Refused
-from crashfs_tools.common.guard import stop_signals_blocked
+from crashfs_tools.common.signals import stop_signals_blocked
 
 CLONE_NEWNS = 0x00020000
 MS_REC, MS_PRIVATE = 0x4000, 0x40000

@@ -10,7 +10,7 @@ from multiprocessing.connection import Connection, Pipe, wait
 from typing import Callable, Dict, Generic, Iterator, List, NoReturn, Optional, Set, TypeVar, Union
 
 from crashfs_tools.common.command import Refused
-from crashfs_tools.common.guard import stop_signals_blocked
+from crashfs_tools.common.signals import stop_signals_blocked
 
 Task = TypeVar('Task')
 Result = TypeVar('Result')

@@ -11,7 +11,7 @@ import signal
 import threading
 from typing import List, Optional, Set, TextIO, Union
 
-from crashfs_tools.common.command import refuse_foreign_file
+from crashfs_tools.common.whole_files import refuse_foreign_file
 
 from . import stopped_processes
 from .arguments import LogError

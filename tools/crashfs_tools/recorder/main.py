@@ -8,11 +8,13 @@ from dataclasses import dataclass
 from typing import List, Optional, Tuple
 
 from crashfs_tools.common import descendants
-from crashfs_tools.common.command import Refused, print_line, write_whole_file
-from crashfs_tools.common.guard import Guard, Stopped, raise_on_stop_signals
+from crashfs_tools.common.command import Refused, print_line
+from crashfs_tools.common.guard import Guard
 from crashfs_tools.common.own_faults import print_own_fault
 from crashfs_tools.common.printable import prepare_standard_streams, escape_unprintable
 from crashfs_tools.common.program import Crashfs
+from crashfs_tools.common.signals import Stopped, raise_on_stop_signals
+from crashfs_tools.common.whole_files import write_whole_file
 
 from . import stacks, strace_run, summary
 from .begin_after import LateStart

@@ -9,12 +9,12 @@ from typing import List, Optional
 
 from crashfs_tools.common.command import (
     Refused,
-    folder_to_write,
     parse_command_line,
     version_text,
     with_program_path,
 )
 from crashfs_tools.common.trace import BLOCK_SIZES, BLOCKS, JOURNAL, PROFILES
+from crashfs_tools.common.whole_files import folder_to_write
 
 from .ignore import Ignore, Rule
 from .output_streams import SOCKETS, SayEach

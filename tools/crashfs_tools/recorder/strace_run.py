@@ -14,7 +14,8 @@ from contextlib import nullcontext
 from typing import ContextManager, List, Optional, Sequence
 
 from crashfs_tools.common.command import Refused, flushed_output
-from crashfs_tools.common.guard import Guard, stop_signals
+from crashfs_tools.common.guard import Guard
+from crashfs_tools.common.signals import stop_signals
 
 from . import stacks
 from .log_stream import LogStream

@@ -16,8 +16,9 @@ from contextlib import contextmanager
 from typing import Any, Dict, Iterator, List, Optional, Set
 
 from crashfs_tools.checker.states.plan import Plan
-from crashfs_tools.common.command import Refused, write_whole_file
+from crashfs_tools.common.command import Refused
 from crashfs_tools.common.removal import FOLDER
+from crashfs_tools.common.whole_files import write_whole_file
 from crashfs_tools.reading import parse_trace
 from crashfs_tools.reading.states import States
 

@@ -13,7 +13,8 @@ from typing import Dict, List, NamedTuple, Protocol
 from crashfs_tools.checker.options import RecoveryFunction
 from crashfs_tools.common.command import TEXT, Refused, end_process
 from crashfs_tools.common.descendants import die_with_parent
-from crashfs_tools.common.guard import STOPS, VARIABLE
+from crashfs_tools.common.guard import VARIABLE
+from crashfs_tools.common.signals import STOPS
 
 # The signals that Python ignores, and that a command has as usual.
 IGNORED = (signal.SIGPIPE, signal.SIGXFSZ)

@@ -15,13 +15,9 @@ from typing import Any, Callable, Dict, List, NoReturn, Optional, Set
 from crashfs_tools.checker.states.layout import Layout
 from crashfs_tools.common.command import Refused, ending_text
 from crashfs_tools.common.descendants import become_reaper
-from crashfs_tools.common.guard import (
-    STOPS,
-    end_processes_with_token,
-    stop_signals_blocked,
-    with_token,
-)
+from crashfs_tools.common.guard import end_processes_with_token, with_token
 from crashfs_tools.common.program import ProgramFault
+from crashfs_tools.common.signals import STOPS, stop_signals_blocked
 
 from .runner import BAD, GOOD, GOOD_OUTCOME, POLL_SECONDS, CheckEnded, Checker, Outcome
 

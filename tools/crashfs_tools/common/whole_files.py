@@ -1,0 +1,111 @@
+"""Files that are written as a whole: a failure leaves the old file."""
+
+from __future__ import annotations
+
+import errno
+import os
+import stat
+import sys
+import tempfile
+from typing import Iterable
+
+from .command import TEXT, Refused, flushed_output
+
+
+def folder_to_write(path: str) -> str:
+    """The directory in which write_whole_file() will write a path: that of its target if it is a
+    link, this directory for `-`. Refused if the path is a directory, or no file can be made there.
+    No right in the directory is needed for `-` and what is no plain file. refuse_foreign_file()
+    isn't called."""
+    if path == '-':
+        return os.getcwd()
+    folder = os.path.dirname(os.path.realpath(path))
+    if not os.path.isdir(folder):
+        raise Refused(f'{path}: its directory is not there')
+    if os.path.isdir(path):
+        raise Refused(f'{path} is a directory')
+    in_place = os.path.exists(path) and not os.path.isfile(path)
+    if not in_place and not os.access(folder, os.W_OK):
+        raise Refused(f'{path}: its directory may not be written')
+    return folder
+
+
+def write_whole_file(path: str, pieces: Iterable[str], mode: int = 0o666) -> None:
+    """Replaces a file, as replace_file() does; a link stays, and its target is replaced. `-`, which
+    is standard output, and what is no plain file are written in place, without a sync; a pipe waits
+    for its reader. An OSError, also one that `pieces` raises, has this path, or the name of
+    standard output. After any exception a plain file is as replace_file() leaves it, and what is
+    written in place may have a part."""
+    if path == '-':
+        with flushed_output():
+            sys.stdout.writelines(pieces)
+        return
+    try:
+        refuse_foreign_file(path)
+        if os.path.exists(path) and not os.path.isfile(path):
+            with open(path, 'w', **TEXT) as file:
+                file.writelines(pieces)
+        else:
+            replace_file(os.path.realpath(path), pieces, mode)
+    except OSError as error:
+        raise OSError(error.errno, error.strerror, path) from error
+
+
+def replace_file(path: str, pieces: Iterable[str], mode: int) -> None:
+    """Writes a new file, renames it to the path, and returns once that is durable. Its owner is
+    this user; its mode is mode_of_replacement() without the bits that `mode` lacks; other names of
+    the old file keep the old bytes. After an exception, also one that `pieces` raises, the new file
+    is gone and the old one stays, unless only the sync of the directory failed."""
+    folder = os.path.dirname(path)
+    # A name has up to 255 bytes, and a letter up to four.
+    descriptor, new_path = tempfile.mkstemp(prefix='.' + os.path.basename(path)[:50], dir=folder)
+    try:
+        with open(descriptor, 'w', **TEXT) as file:
+            file.writelines(pieces)
+            file.flush()
+            os.fchmod(descriptor, mode_of_replacement(path) & mode)
+            os.fsync(descriptor)
+        os.replace(new_path, path)
+    except BaseException:
+        os.unlink(new_path)
+        raise
+    sync_directory(folder)
+
+
+def mode_of_replacement(path: str) -> int:
+    """The mode for a file that will replace what is at a path: that of the old file, without set-ID
+    bits, or that of a new file by the umask. To read the umask, the process has 0 for a moment."""
+    if os.path.exists(path):
+        return os.stat(path).st_mode & 0o777
+    umask = os.umask(0)
+    os.umask(umask)
+    return 0o666 & ~umask
+
+
+def refuse_foreign_file(path: str) -> None:
+    """OSError (EACCES) if a path is a link, a pipe or another special file that neither this user
+    nor the directory's owner made, in a sticky directory that everybody may write, as /tmp. The
+    target of a link isn't looked at."""
+    if not os.path.lexists(path):
+        return
+    status, folder = os.lstat(path), os.stat(os.path.dirname(path) or '.')
+    is_shared = folder.st_mode & stat.S_ISVTX and folder.st_mode & stat.S_IWOTH
+    is_trusted = status.st_uid in (os.geteuid(), folder.st_uid)
+    if is_shared and not is_trusted and not stat.S_ISREG(status.st_mode):
+        raise OSError(errno.EACCES, 'another user made it, and it is no plain file', path)
+
+
+def sync_directory(folder: str) -> None:
+    """Makes the names in a directory durable. Does nothing if this user may not read it, or its
+    file system can't sync directories; any other error is an OSError."""
+    try:
+        directory = os.open(folder, os.O_RDONLY | os.O_DIRECTORY | os.O_CLOEXEC)
+    except PermissionError:
+        return
+    try:
+        os.fsync(directory)
+    except OSError as error:
+        if error.errno != errno.EINVAL:
+            raise
+    finally:
+        os.close(directory)
