@@ -7,7 +7,7 @@ from dataclasses import dataclass
 from typing import Dict, List
 
 # The lines, by the word that each begins with; the last one counts.
-FIELDS = ('commit', 'tree', 'toolchain', 'lint', "tools' tests", 'status')
+FIELDS = ('commit', 'tree', 'toolchain', 'edits', 'lint', "tools' tests", 'status')
 COUNTS = re.compile(r'(\d+) passed, (\d+) failed')
 
 
@@ -18,6 +18,7 @@ class Verdict:
     commit: str
     tree: str
     toolchain: str
+    edits: str
     status: str
     counts: str
 
@@ -31,6 +32,10 @@ class Verdict:
             (self.commit == commit, f'it is of commit {self.commit}, not of {commit}'),
             (self.tree == 'clean', f'its tree {self.tree}'),
             (self.toolchain == toolchain, f'its toolchain is {self.toolchain}, not {toolchain}'),
+            (
+                self.edits == 'all',
+                f'it tried not all edits, but {self.edits}: give --all-edits',
+            ),
             (self.status == '0', f'its status is {self.status}'),
             (passed > 0 and failed == 0, f'it counts {self.counts}'),
         ]
@@ -54,6 +59,7 @@ def parse_verdict(log: str) -> Verdict:
         commit=fields['commit'],
         tree=fields['tree'],
         toolchain=fields['toolchain'],
+        edits=fields['edits'],
         status=fields['status'],
         counts=lines[-1],
     )

@@ -8,8 +8,10 @@ import shutil
 import subprocess
 import sys
 import unittest
+from pathlib import Path
 from typing import Dict, List
 
+from gating import turns
 from gating.suite import QUICK
 from gating.verdict import COUNTS, counts_of_passed_gate, parse_verdict
 
@@ -24,6 +26,7 @@ if [ "$1" = version ]; then
     exit
 fi
 test "$*" = ci || exit 9
+ls -d crates/*/must-fail/*.edit 2>/dev/null
 mkdir -p crates/crashfs/out
 [ "$FAKE_BUILDS" = no ] || touch crates/crashfs/out/crashfs
 echo 'cs_names proved'
@@ -67,8 +70,8 @@ needs_git = needed(shutil.which('git') is not None, 'git is not there')
 
 def log_with(**changed: str) -> str:
     """What a gate prints, with other last lines."""
-    fields = {'commit': 'c0ffee', 'tree': 'clean', 'toolchain': KIT, 'lint': '8 passed'}
-    fields.update({"tools' tests": '3 run', 'status': '0', **changed})
+    fields = {'commit': 'c0ffee', 'tree': 'clean', 'toolchain': KIT, 'edits': 'all'}
+    fields.update({'lint': '8 passed', "tools' tests": '3 run', 'status': '0', **changed})
     counts = fields.pop('counts', '9 passed, 0 failed')
     return '\n'.join(['rt: ok', *(f'{name}: {fields[name]}' for name in fields), counts, ''])
 
@@ -91,7 +94,7 @@ class Gate(InFolder):
             self.write(
                 f'repo/tools/{name}', TOOL.format(name, re.sub('-', '_', name).upper()), 0o755
             )
-        for name in ('__init__', 'suite'):
+        for name in ('__init__', 'suite', 'turns'):
             shutil.copy2(TOOLS / 'gating' / f'{name}.py', self.path(f'repo/tools/gating/{name}.py'))
         self.write('repo/tools/tests/__init__.py', '')
         self.write('repo/tools/tests/test_sample.py', TESTS)
@@ -107,12 +110,12 @@ class Gate(InFolder):
         )
         return ran.stdout.strip()
 
-    def run_gate(self, **fakes: str) -> 'subprocess.CompletedProcess[str]':
-        """Runs the gate; each fake says how one part of it goes."""
+    def run_gate(self, *options: str, **fakes: str) -> 'subprocess.CompletedProcess[str]':
+        """Runs the gate with these options; each fake says how one part of it goes."""
         asked: Dict[str, str] = {'STATUS': '0', 'COUNTS': '9 passed, 0 failed', **fakes}
         folders = [self.path('bin'), os.path.dirname(sys.executable), os.environ['PATH']]
         return subprocess.run(
-            [self.gate],
+            [self.gate, *options],
             env={
                 **os.environ,
                 'PATH': ':'.join(folders),
@@ -137,11 +140,12 @@ class Gate(InFolder):
     def test_a_gate_that_passes_ends_with_its_commit_and_its_counts(self) -> None:
         lines = self.assert_verdict(0, '9 passed, 0 failed')
         self.assertEqual(
-            lines[-7:],
+            lines[-8:],
             [
                 f'commit: {self.git("rev-parse", "HEAD")}',
                 'tree: clean',
                 f'toolchain: {KIT}',
+                'edits: 0 of 0, those of 0 of 0 crates',
                 'lint: ran',
                 "tools' tests: 4 run, 0 failed, 1 skipped (1: strace is not there)",
                 'status: 0',
@@ -193,10 +197,89 @@ class Gate(InFolder):
         self.assertIn('build: ran', lines)
         self.assert_verdict(1, '9 passed, 1 failed', BUILDS='no', BUILD='1')
 
+    def write_edits(self) -> List[str]:
+        """Makes four crates that cost the same, with an edit each, and returns their paths."""
+        edits = [f'crates/{name}/must-fail/no.edit' for name in ('one', 'two', 'three', 'four')]
+        for edit in edits:
+            os.makedirs(os.path.dirname(self.path(f'repo/{edit}')))
+            self.write(f'repo/{edit}', 'file: src/lib.rt\n')
+        self.git('add', '.')
+        self.git('-c', 'user.name=a', '-c', 'user.email=a@b', 'commit', '--quiet', '-m', 'Edits')
+        return sorted(edits)
+
+    def test_the_edits_of_half_of_the_crates_are_tried_and_the_others_come_back(self) -> None:
+        edits = self.write_edits()
+        names = turns.group_crates(dict.fromkeys(('one', 'two', 'three', 'four'), 1))[
+            turns.group_in_turn(self.git('rev-parse', 'HEAD'))
+        ]
+        for status, counts in (('0', '9 passed, 0 failed'), ('1', '8 passed, 1 failed')):
+            lines = self.assert_verdict(int(status), counts, STATUS=status, COUNTS=counts)
+            tried = [line for line in lines if line.endswith('.edit')]
+            self.assertEqual(tried, [f'crates/{name}/must-fail/no.edit' for name in names])
+            self.assertIn('edits: 2 of 4, those of 2 of 4 crates', lines)
+            self.assertIn('tree: clean', lines)
+            self.assertTrue(all(os.path.isfile(self.path(f'repo/{edit}')) for edit in edits))
+
+    def test_all_edits_are_tried_if_it_is_asked_for(self) -> None:
+        edits = self.write_edits()
+        lines = self.run_gate('--all-edits').stdout.splitlines()
+        self.assertEqual([line for line in lines if line.endswith('.edit')], edits)
+        self.assertIn('edits: all', lines)
+
+    def test_a_wrong_word_is_refused_before_anything_runs(self) -> None:
+        for words in (('--all',), ('--all-edits', '--all-edits')):
+            ran = self.run_gate(*words)
+            self.assertEqual((ran.returncode, ran.stdout), (2, 'usage: .ci/run [--all-edits]\n'))
+
     def test_a_tree_that_differs_from_its_commit_is_named(self) -> None:
         self.write('repo/tools/more.py', '')
         lines = self.assert_verdict(0, '9 passed, 0 failed')
         self.assertIn('tree: differs from the commit', lines)
+
+
+class Turns(InFolder):
+    def write_crate(self, name: str, lines: int, edits: int) -> None:
+        os.makedirs(self.path(f'crates/{name}/src'))
+        self.write(f'crates/{name}/src/lib.rt', '//\n' * lines)
+        if edits:
+            os.makedirs(self.path(f'crates/{name}/must-fail'))
+        for number in range(edits):
+            self.write(f'crates/{name}/must-fail/{number}.edit', '')
+
+    def test_each_crate_is_in_one_group_and_the_groups_cost_about_the_same(self) -> None:
+        costs = {f'c{number}': 10 * number for number in range(40)}
+        groups = turns.group_crates(costs)
+        self.assertEqual(len(groups), turns.GROUPS)
+        self.assertEqual(sorted(name for group in groups for name in group), sorted(costs))
+        sums = [sum(costs[name] for name in group) for group in groups]
+        self.assertLessEqual(max(sums) - min(sums), 20)
+
+    def test_every_group_has_commits(self) -> None:
+        numbers = {turns.group_in_turn(f'{number:040x}') for number in range(100)}
+        self.assertEqual(numbers, set(range(turns.GROUPS)))
+        with self.assertRaises(ValueError):
+            turns.group_in_turn('main')
+
+    def test_a_crate_costs_its_lines_and_its_edits(self) -> None:
+        self.write_crate('large', 500, 0)
+        self.write_crate('tried', 7, 3)
+        crates = Path(self.path('crates'))
+        self.assertEqual(turns.edits_cost(crates / 'large'), 500)
+        self.assertEqual(turns.edits_cost(crates / 'tried'), 7 + 3 * turns.LINES_PER_EDIT)
+
+    def test_the_edits_of_the_other_group_are_away_until_they_are_moved_back(self) -> None:
+        for name, edits in (('one', 2), ('two', 2), ('none', 0)):
+            self.write_crate(name, 10, edits)
+        crates, aside = Path(self.path('crates')), Path(self.path('aside'))
+        whole = sorted(crates.rglob('*'))
+        for commit, there in (('10', 'one'), ('11', 'two')):
+            line = turns.move_others_aside(commit, aside, crates)
+            self.assertEqual(line, 'edits: 2 of 4, those of 1 of 2 crates')
+            self.assertEqual({path.parent.name for path in crates.glob('*/must-fail')}, {there})
+            turns.move_back(aside, crates)
+            self.assertEqual(sorted(crates.rglob('*')), whole)
+            shutil.rmtree(aside)
+        turns.move_back(aside, crates)
 
 
 class Verdicts(unittest.TestCase):
@@ -208,6 +291,10 @@ class Verdicts(unittest.TestCase):
             ({'commit': 'beef'}, 'it is of commit beef, not of c0ffee'),
             ({'tree': 'differs from the commit'}, 'its tree differs from the commit'),
             ({'toolchain': 'kit-2'}, f'its toolchain is kit-2, not {KIT}'),
+            (
+                {'edits': '3 of 9, those of 1 of 2 crates'},
+                'it tried not all edits, but 3 of 9, those of 1 of 2 crates: give --all-edits',
+            ),
             ({'status': '1'}, 'its status is 1'),
             ({'counts': '0 passed, 9 failed'}, 'it counts 0 passed, 9 failed'),
             ({'counts': '9 passed, 1 failed'}, 'it counts 9 passed, 1 failed'),

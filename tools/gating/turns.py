@@ -1,0 +1,88 @@
+"""Which must-fail edits the gate tries: `python3 -m gating.turns COMMIT FOLDER`, in tools/.
+
+To try an edit, the prover proves its crate once more, so all edits take longer than all proofs.
+The gate therefore tries those of half of the crates: which half, the commit's name decides. The
+others are moved to a folder, so that `rt ci` doesn't find them, and back when it has ended. The
+last line that is printed says how many are tried. `.ci/run --all-edits` moves none."""
+
+from __future__ import annotations
+
+import argparse
+import shutil
+import sys
+from pathlib import Path
+from typing import Dict, List, Optional
+
+CRATES = Path(__file__).resolve().parent.parent.parent / 'crates'
+# How many groups the crates are in. The name of a commit is random, so each group has its turn.
+GROUPS = 2
+# An edit takes about as long as the proof of so many lines.
+LINES_PER_EDIT = 100
+# A folder's name beside `src` of a crate.
+EDITS = 'must-fail'
+
+
+def count_edits(crate: Path) -> int:
+    """How many must-fail edits a crate has; 0 if it has no folder of them."""
+    return sum(1 for _ in (crate / EDITS).glob('*.edit'))
+
+
+def edits_cost(crate: Path) -> int:
+    """How long the edits of a crate take, in lines that are proved in that time."""
+    lines = sum(path.read_bytes().count(b'\n') for path in (crate / 'src').rglob('*.rt'))
+    return lines + LINES_PER_EDIT * count_edits(crate)
+
+
+def group_crates(costs: Dict[str, int]) -> List[List[str]]:
+    """The names of the crates in GROUPS lists that cost about the same, each list sorted. The same
+    costs give the same lists."""
+    groups: List[List[str]] = [[] for _ in range(GROUPS)]
+    for name in sorted(costs, key=lambda name: (-costs[name], name)):
+        cheapest = min(groups, key=lambda group: sum(costs[member] for member in group))
+        cheapest.append(name)
+    return [sorted(group) for group in groups]
+
+
+def group_in_turn(commit: str) -> int:
+    """The number of the group whose edits are tried at the commit, which is named in hexadecimal
+    digits. ValueError if it isn't."""
+    return int(commit, 16) % GROUPS
+
+
+def move_others_aside(commit: str, folder: Path, crates: Path = CRATES) -> str:
+    """Moves the edits of all crates whose turn it isn't into folders of this folder, which is made,
+    and returns a line that counts what stays. OSError if something can't be moved; then some are.
+    """
+    costs = {path.parent.name: edits_cost(path.parent) for path in crates.glob(f'*/{EDITS}')}
+    total = sum(count_edits(crates / name) for name in costs)
+    stay = group_crates(costs)[group_in_turn(commit)]
+    tried = sum(count_edits(crates / name) for name in stay)
+    for name in sorted(set(costs) - set(stay)):
+        (folder / name).mkdir(parents=True)
+        shutil.move(str(crates / name / EDITS), str(folder / name / EDITS))
+    return f'edits: {tried} of {total}, those of {len(stay)} of {len(costs)} crates'
+
+
+def move_back(folder: Path, crates: Path = CRATES) -> None:
+    """Moves the edits that are in the folder back to their crates. Nothing happens if there are
+    none. OSError if something can't be moved; then some are."""
+    for aside in sorted(folder.glob(f'*/{EDITS}')):
+        shutil.move(str(aside), str(crates / aside.parent.name / EDITS))
+
+
+def main(words: Optional[List[str]] = None) -> int:
+    """Moves edits as the words ask; None means the words of the command line. Returns 0. A wrong
+    word ends the program (SystemExit)."""
+    parser = argparse.ArgumentParser(prog='gating.turns', description=__doc__)
+    parser.add_argument('commit', nargs='?', help='whose name decides; without it, all go back')
+    parser.add_argument('folder', type=Path, help='where the others are meanwhile')
+    options = parser.parse_args(words)
+    if options.commit is None:
+        move_back(options.folder)
+    else:
+        print(move_others_aside(options.commit, options.folder), flush=True)
+    return 0
+
+
+if __name__ == '__main__':
+    sys.exit(main())
