@@ -14,7 +14,8 @@ OWNER, GROUP, MASK, OTHERS = 0x01, 0x04, 0x10, 0x20
 
 def parse_rights(value: bytes) -> Optional[Dict[int, int]]:
     """The rights of an access control list, by the tags of its entries; None if the value is no
-    such list. Of several users or groups only the last is kept: has_only_mode() needs no more."""
+    such list. Of several entries with one tag, as for named users, only the last is kept:
+    has_only_mode() needs no more."""
     if len(value) % 8 != 4 or struct.unpack('<I', value[:4])[0] != VERSION:
         return None
     entries = struct.iter_unpack('<HHI', value[4:])
@@ -22,12 +23,13 @@ def parse_rights(value: bytes) -> Optional[Dict[int, int]]:
 
 
 def mode_of_rights(rights: Dict[int, int]) -> int:
-    """The mode that a list with these rights by tag gives a file. The mask, if there is one,
-    replaces the group's rights. A tag that is missing gives no rights."""
+    """The mode that a list with these rights by tag gives a file. The rights of the mask, if there
+    is one, replace those of the group. A tag that is missing gives no rights."""
     group = rights.get(MASK, rights.get(GROUP, 0))
     return rights.get(OWNER, 0) << 6 | group << 3 | rights.get(OTHERS, 0)
 
 
 def has_only_mode(rights: Dict[int, int]) -> bool:
-    """Whether a list with these rights by tag has no entries but the three that a mode has too."""
+    """Whether a list with these rights by tag says no more than a mode: it has no entries but those
+    for the owner, the owning group and all others."""
     return rights.keys() <= {OWNER, GROUP, OTHERS}

@@ -41,7 +41,7 @@ class Descriptor:
 def split_arguments(text: str) -> List[str]:
     """The arguments of a call, from the text between its brackets: it is split at the commas
     outside of inner brackets and strings, and blanks around an argument are left out. An empty text
-    is one empty argument."""
+    is one empty argument. An inner bracket or string that has no end extends to the text's end."""
     words, depth, start = [], 0, 0
     match = MARK.search(text)
     while match:
@@ -70,11 +70,11 @@ def end_of_string(text: str, start: int) -> int:
 
 def parse_escapes(text: str) -> bytes:
     r"""The bytes of a text such as `\x61\x62`; LogError if it has anything else."""
-    letters, count = text.encode('ascii', 'replace'), len(text) // 4
-    if len(text) % 4 or letters[::4] != b'\\' * count or letters[1::4] != b'x' * count:
+    escapes, count = text.encode('ascii', 'replace'), len(text) // 4
+    if len(text) % 4 or escapes[::4] != b'\\' * count or escapes[1::4] != b'x' * count:
         raise LogError
     digits = bytearray(2 * count)
-    digits[::2], digits[1::2] = letters[2::4], letters[3::4]
+    digits[::2], digits[1::2] = escapes[2::4], escapes[3::4]
     try:
         return unhexlify(digits)
     except ValueError:
@@ -82,9 +82,9 @@ def parse_escapes(text: str) -> bytes:
 
 
 def pack_word(word: str) -> str:
-    """A string argument, or a vector of strings, in a quarter of its size: PACKED, then a letter
-    for each byte. Returns the word unchanged if it is neither, if strace cut it, or if it isn't as
-    strace writes it."""
+    """A string argument, or a vector of strings, in a quarter of its size: PACKED, then a character
+    for each byte. Returns the word unchanged if it has no string, if strace doesn't show all its
+    bytes, or if they aren't in hexadecimal digits."""
     if '"' not in word:
         return word
     try:
@@ -102,11 +102,9 @@ def unpack_word(word: str) -> Optional[bytes]:
 def parse_bytes(word: str) -> Optional[bytes]:
     """The bytes of a string argument, packed or not. None if strace cut it, or printed something
     else, such as an address; LogError if its bytes aren't in hexadecimal digits."""
-    if word.startswith(PACKED):
-        return unpack_word(word)
-    if not word.startswith('"') or word.endswith('...'):
-        return None
-    return parse_escapes(word[1:-1])
+    if word.startswith('"') and not word.endswith('...'):
+        return parse_escapes(word[1:-1])
+    return unpack_word(word)
 
 
 def parse_path(word: str) -> Optional[str]:
@@ -117,33 +115,30 @@ def parse_path(word: str) -> Optional[str]:
 
 
 def parse_shown_text(shown: Optional[str]) -> Optional[str]:
-    """What strace shows between `<` and `>` after a descriptor: a path, which it prints in
-    hexadecimal digits, or a text such as `pipe:[7]`, which stays as it is. None for None; LogError
-    if the digits are cut."""
+    """What strace shows between `<` and `>` after a descriptor, None if it shows nothing: a path,
+    which it prints in hexadecimal digits, or a text such as `pipe:[7]`, which is returned
+    unchanged. LogError if only a part of a path is in such digits."""
     if not shown or not shown.startswith('\\x'):
         return shown
     return parse_escapes(shown).decode('utf-8', 'surrogateescape')
 
 
-def parse_shown_path(shown: Optional[str]) -> Optional[str]:
-    """The path that strace shows between `<` and `>` after a descriptor; None if it shows nothing
-    (None), or something else, such as a pipe. LogError as in parse_shown_text()."""
-    return Descriptor(-1, parse_shown_text(shown), is_deleted=False).path
-
-
 def parse_integer(word: str) -> int:
-    """The number in an argument, decimal or `0x..`; LogError for an argument that is none."""
-    try:
-        return int(word, 16) if word.startswith('0x') else int(word)
-    except ValueError:
-        raise LogError from None
+    """The number in an argument, decimal or `0x..`. LogError as in parse_digits()."""
+    return parse_digits(word, 16 if word.startswith('0x') else 10)
 
 
 def parse_octal(word: str) -> int:
-    """The number in an argument that is written in octal digits, such as a mode; LogError for an
-    argument that isn't."""
+    """The number in an argument that is written in octal digits, such as a mode. LogError as in
+    parse_digits()."""
+    return parse_digits(word, 8)
+
+
+def parse_digits(word: str, base: int) -> int:
+    """The number in an argument, in digits of this base, as int() reads it; LogError if int()
+    refuses it."""
     try:
-        return int(word, 8)
+        return int(word, base)
     except ValueError:
         raise LogError from None
 
@@ -163,16 +158,18 @@ def parse_vector(word: str) -> Optional[bytes]:
     """The bytes of all pieces in a vector, as writev takes it, packed or not; only of the first
     pieces if strace shows no others. Empty if it shows none; None if strace cut a piece, or printed
     its address. LogError as in parse_bytes()."""
-    if word.startswith(PACKED):
-        return unpack_word(word)
+    packed_bytes = unpack_word(word)
+    if packed_bytes is not None:
+        return packed_bytes
     pieces = [b'' if text == 'NULL' else parse_bytes(text) for text in PIECE.findall(word)]
     known_pieces = [piece for piece in pieces if piece is not None]
     return b''.join(known_pieces) if len(known_pieces) == len(pieces) else None
 
 
 def parse_messages(word: str) -> Optional[bytes]:
-    """The bytes of all messages in an argument of sendmmsg, each as far as it was sent. None if
-    strace cut one, or doesn't show how much of it was sent. LogError as in parse_bytes()."""
+    """The bytes of all messages in an argument of sendmmsg, each as far as it was sent. Empty if
+    strace shows no message. None if strace cut one, or doesn't show how much of one was sent.
+    LogError as in parse_bytes()."""
     sent = b''
     for message in word.split('msg_hdr=')[1:]:
         data, length = parse_vector(message), re.search(r'msg_len=(\d+)', message)
@@ -182,8 +179,8 @@ def parse_messages(word: str) -> Optional[bytes]:
     return sent
 
 
-def parse_cell(word: str) -> Optional[int]:
-    """The number that an address in an argument points to, as in `[42]`; of `[42] => [45]` the
-    first, which is the one before the call. None if strace shows no number, as for NULL."""
+def parse_pointed_integer(word: str) -> Optional[int]:
+    """The number to which an address in an argument points, as in `[42]`; in `[42] => [45]` the
+    first, which was there before the call. None if strace shows no number, as for NULL."""
     match = re.match(r'\[(\d+)', word)
     return int(match[1]) if match else None

@@ -12,27 +12,28 @@ from .recording import Recording
 
 class LateStart:
     """Begins the trace again after an acknowledged line: the one with a number, from 1, or the
-    first one that a pattern matches. has_begun is False until that line comes."""
+    first one that a pattern matches. has_begun is False until that line comes. It replaces the
+    recording's on_acknowledged."""
 
     def __init__(self, recording: Recording, number_or_pattern: str) -> None:
-        """Sets the recording's on_acknowledged, to count its lines. A text of digits only is a
-        number; any other is a pattern of fnmatch."""
+        """Makes count_line() the recording's on_acknowledged. A text of digits only is a number;
+        any other is a pattern of fnmatch."""
         self.recording, self.number_or_pattern = recording, number_or_pattern
         self.line_count = 0
         self.has_begun = False
         recording.on_acknowledged = self.count_line
 
     def count_line(self, line: Say) -> None:
-        """Counts an acknowledged line. After the wanted one it begins the trace again; after a
-        later one that the pattern matches it doesn't."""
+        """Counts an acknowledged line. If this is the first wanted line, the trace begins again;
+        later lines that the pattern matches change nothing."""
         self.line_count += 1
         if not self.has_begun and self.is_wanted(line.text):
             self.has_begun = True
             restart_trace(self.recording)
 
     def is_wanted(self, text: str) -> bool:
-        """Whether the line that was counted last, which has this text, is the wanted one: by its
-        number, or by the pattern, in which upper and lower case differ."""
+        """Whether the line that was counted last, which has this text, has the wanted number, or
+        matches the pattern, in which upper and lower case differ."""
         if self.number_or_pattern.isdecimal():
             return self.line_count == int(self.number_or_pattern)
         return fnmatch.fnmatchcase(text, self.number_or_pattern)
@@ -40,7 +41,8 @@ class LateStart:
 
 def restart_trace(recording: Recording) -> None:
     """Begins the trace again, with the recording's tree as its start tree: what wasn't synced
-    before counts as durable. Earlier troubles stay, but without their lines."""
+    before counts as durable. Earlier troubles stay, but without their lines. Sets the recording's
+    has_late_start; its tree and trace are new objects."""
     header, lines = start_lines(recording.tree.entries, recording.tree.files)
     recording.begin_trace(header)
     for line in lines:

@@ -2,8 +2,8 @@
 
 A change, and an acknowledged line, is placed where it begins; a sync, and anything else, where it
 ends. So a sync covers no change that began after it. A change that overlaps a sync of the same file
-may not be covered: it is placed where it ends, after the sync. LogError if an argument isn't as
-strace writes it.
+may not be covered: it is placed where it ends, after the sync. A function that reads arguments
+raises LogError if one isn't as strace writes it.
 """
 
 from __future__ import annotations
@@ -64,8 +64,9 @@ RIGHT_CHANGES = {
 }
 # An access control list sets the mode.
 LIST_CHANGES = {'setxattr', 'lsetxattr', 'fsetxattr'}
-# The changes of a descriptor's file, beside those of its bytes.
+# The changes of a descriptor's file: of its bytes, and others.
 DESCRIPTOR_CHANGES = DATA_CHANGES | {'fchmod', 'fchown', 'fchown32', 'fsetxattr'}
+CHANGES = DESCRIPTOR_CHANGES | NAME_CHANGES | RIGHT_CHANGES | LIST_CHANGES
 OPENS = {'open', 'openat', 'openat2', 'creat'}
 FILE_SYNCS = {'fsync', 'fdatasync', 'msync'}
 WHOLE_SYNCS = {'sync', 'syncfs'}
@@ -77,9 +78,9 @@ Moment = Tuple[int, int]
 
 
 def calls_in_order(calls: List[Call]) -> List[Tuple[int, Call]]:
-    """The calls, which are given in the log's order, in the order of their operations in the trace.
-    Before each is the number of the log's line at which it is placed: that of its beginning or of
-    its end. LogError if an argument isn't as strace writes it."""
+    """The calls of a log, which are given in the order of their last lines, in the order of their
+    operations in the trace. Before each is the number of the log's line at which it is placed: its
+    first or its last. LogError if an argument isn't as strace writes it."""
     moments: Dict[int, Moment] = {id(call): moment_of(call) for call in calls}
     changes = ChangeIndex([call for call in calls if is_change(call)])
     for sync in calls:
@@ -90,31 +91,32 @@ def calls_in_order(calls: List[Call]) -> List[Tuple[int, Call]]:
 
 
 def is_change(call: Call) -> bool:
-    """Whether a call changes bytes, names or rights, or sends bytes. Each setxattr does, as an
-    access control list sets the mode. An open that makes or truncates a file doesn't count."""
-    return call.name in DESCRIPTOR_CHANGES | NAME_CHANGES | RIGHT_CHANGES | LIST_CHANGES
+    """Whether a call, also one that failed, is of a kind that changes bytes, names or rights, or
+    sends bytes. setxattr is, as an access control list sets the mode. No open is, though it may
+    make or truncate a file."""
+    return call.name in CHANGES
 
 
 def moment_of(call: Call) -> Moment:
-    """The moment of a call in the trace, unless a sync and a change overlap: a change, or a close,
-    is placed where it begins, and anything else where it ends."""
-    is_at_begin = is_change(call) or call.name in ('close', 'close_range')
-    return (call.begin if is_at_begin else call.end, 1)
+    """The moment at which a call is placed in the trace, unless a sync and a change overlap: that
+    of its beginning for a change or a close, that of its end for any other call."""
+    is_placed_at_begin = is_change(call) or call.name in ('close', 'close_range')
+    return (call.begin if is_placed_at_begin else call.end, 1)
 
 
 class ChangeIndex:
-    """The changes of a log. Most are one line, and are found by a binary search; those of two lines
-    are all compared."""
+    """The changes of a log. Most are on one line of it, and are found by a binary search; those on
+    two lines are all compared."""
 
     def __init__(self, changes: List[Call]) -> None:
-        """The changes must be in the order of the log's lines."""
+        """The changes must be in the order of their last lines in the log."""
         self.long_changes = [call for call in changes if call.begin != call.end]
         self.short_changes = [call for call in changes if call.begin == call.end]
         self.short_lines = [call.begin for call in self.short_changes]
 
     def changes_during(self, sync: Call) -> List[Call]:
-        """The changes of other threads that ran while a sync did, at least in part, and that the
-        sync may cover."""
+        """The changes that may_cover_concurrent() accepts for a sync: those of other threads that
+        ran at the same time, at least in part, and that it may cover. LogError as there."""
         begin = bisect.bisect_left(self.short_lines, sync.begin)
         end = bisect.bisect_right(self.short_lines, sync.end)
         changes = self.short_changes[begin:end] + self.long_changes
@@ -122,9 +124,9 @@ class ChangeIndex:
 
 
 def may_cover_concurrent(sync: Call, change: Call) -> bool:
-    """Whether a change of another thread ran while a sync did, and the sync may cover it. A sync of
-    everything, or of an unknown path, may cover each change of a file; each sync may cover a change
-    of an unknown path."""
+    """Whether a change of another thread ran at the same time as a sync, which may cover it. A sync
+    of everything, or of an unknown path, may cover each change of a file; each sync may cover a
+    change of unknown paths. LogError if an argument isn't as strace writes it."""
     if sync.thread == change.thread or sync.end < change.begin or change.end < sync.begin:
         return False
     synced, changed = synced_path(sync), changed_paths(change)
@@ -135,23 +137,25 @@ def may_cover_concurrent(sync: Call, change: Call) -> bool:
 
 def order_sync_and_changes(sync: Call, changes: List[Call], moments: Dict[int, Moment]) -> None:
     """Sets the moments, by the ids of the calls, of a sync and of the changes that ran at the same
-    time: each change is placed where it ends, and the sync directly before the first of them,
-    unless it is before that already. Without changes the sync's moment stays."""
+    time. Each change is placed where it ends. The sync is placed directly before the first of these
+    ends, but stays if it is earlier already, or if there are no changes."""
     for change in changes:
         moments[id(change)] = (change.end, 1)
         moments[id(sync)] = min(moments[id(sync)], (change.end, 0))
 
 
 def synced_path(sync: Call) -> Optional[str]:
-    """The path of the file that an fsync or fdatasync covers. None if strace doesn't show it, and
-    for other syncs, which cover all files or a mapping."""
+    """The path of the file that an fsync or fdatasync covers. None if strace shows no path of it,
+    and for other syncs, which cover all files or a mapping. LogError if the path isn't as
+    strace writes it."""
     return sync.descriptor().path if sync.name in ('fsync', 'fdatasync') else None
 
 
 def changed_paths(change: Call) -> Optional[Set[str]]:
-    """The paths of the files whose syncs cover a change: that of a descriptor's file, or those of a
-    name and its directory. Symbolic links in them aren't followed. None if they aren't known; empty
-    if the change is of no file, as a write to a pipe."""
+    """The paths of the files whose syncs cover a change: that of a descriptor's file, or those of
+    each name and its directory. Symbolic links in them aren't followed. None if not all paths are
+    known; empty if the change is of no file, as a write to a pipe. LogError if a path isn't as
+    strace writes it."""
     if change.name in DESCRIPTOR_CHANGES:
         path = change.descriptor(TARGET_INDEXES.get(change.name, 0)).path
         return set() if path is None else {path}

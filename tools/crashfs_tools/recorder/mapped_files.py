@@ -104,7 +104,7 @@ class MappedFiles:
         opened only by its descriptor, others first by their path. A file that can't be opened is
         added to unopened_paths."""
         match = MAPPED.match(line)
-        path = arguments.parse_shown_path(match[3]) if match else None
+        path = arguments.parse_shown_text(match[3]) if match else None
         if match is None or path is None or not path.startswith(self.top.rstrip('/') + '/'):
             return
         path_below = path[len(self.top.rstrip('/')) :]

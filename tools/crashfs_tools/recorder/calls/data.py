@@ -42,7 +42,7 @@ def on_llseek(files: LiveFiles, process: Process, call: Call) -> None:
     strace shows the offset in the first argument such as `[42]`. If it shows none, the offset
     stays."""
     file = process.descriptors.files.get(call.descriptor().number)
-    cells = [arguments.parse_cell(word) for word in call.arguments]
+    cells = [arguments.parse_pointed_integer(word) for word in call.arguments]
     offsets = [cell for cell in cells if cell is not None]
     if file is not None and offsets:
         file.offset = offsets[0]
@@ -232,7 +232,7 @@ def on_sendfile(files: LiveFiles, process: Process, call: Call) -> None:
         call,
         source_index=1,
         target_index=0,
-        source_offset=arguments.parse_cell(call.argument(2)),
+        source_offset=arguments.parse_pointed_integer(call.argument(2)),
         target_offset=None,
     )
 
@@ -246,8 +246,8 @@ def on_copy_file_range(files: LiveFiles, process: Process, call: Call) -> None:
         call,
         source_index=0,
         target_index=2,
-        source_offset=arguments.parse_cell(call.argument(1)),
-        target_offset=arguments.parse_cell(call.argument(3)),
+        source_offset=arguments.parse_pointed_integer(call.argument(1)),
+        target_offset=arguments.parse_pointed_integer(call.argument(3)),
     )
 
 
