@@ -52,8 +52,12 @@ class Links(InFolder):
 class Attributes(unittest.TestCase):
     def test_only_the_very_path_of_a_trouble_is_left_out(self) -> None:
         changed: Dict[str, Dict[str, bytes]] = {path: {'user.a': b'1'} for path in ('/a', '/a:b')}
-        noted = [(path, 'its mode bits') for path in changed] + [('/a:b', 'another name')]
-        now = Scan(HEADER, notes=noted, attributes=changed)
+        now = Scan(
+            HEADER,
+            notes=[('/a:b', 'another name')],
+            extra_mode_bits={path: 0o4000 for path in changed},
+            attributes=changed,
+        )
         wanted = [
             '/a: its extended attributes differ, which no trace has',
             '/a:b: its extended attributes differ, which no trace has',

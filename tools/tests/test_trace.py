@@ -28,7 +28,12 @@ from crashfs_tools.common.trace_fields import TraceError
 from crashfs_tools.common.trace_read import read_trace, tree_at_end
 from crashfs_tools.common.trace_lines import parse_trace_text
 from crashfs_tools.common.tree import Tree
-from crashfs_tools.recorder.comparison import ProgramReader, ReplayReader, lines_on_differences
+from crashfs_tools.recorder.comparison import (
+    ProgramReader,
+    ReplayReader,
+    lines_of_file,
+    lines_on_differences,
+)
 from crashfs_tools.recorder.directory import Scan
 
 from .support import EXAMPLES, FAKE, InFolder
@@ -201,7 +206,8 @@ class Traces(unittest.TestCase):
         for name in EXAMPLE_TRACES:
             path = str(EXAMPLES / name)
             self.assertEqual(
-                ReplayReader().read_entries(path), ProgramReader(Crashfs(FAKE)).read_entries(path)
+                ReplayReader(lines_of_file(path)).read_entries(),
+                ProgramReader(Crashfs(FAKE), path).read_entries(),
             )
 
     def test_modes_and_owners_are_counted_where_they_change(self):
@@ -266,7 +272,7 @@ class Traces(unittest.TestCase):
         def scan(*entries: Start) -> Scan:
             return Scan(Header('u', 'u', 0o755), list(entries))
 
-        last = ReplayReader().read_entries(str(EXAMPLES / 'store.trace'))
+        last = ReplayReader(lines_of_file(str(EXAMPLES / 'store.trace'))).read_entries()
         self.assertEqual(sorted(last), ['/log', '/table'])
         log = Start('/log', 'kv', 'kv', 0o640, b'')
         table = Start('/table', 'kv', 'kv', 0o640, b'a=2\n')

@@ -4,7 +4,7 @@ recording."""
 from __future__ import annotations
 
 from abc import ABC, abstractmethod
-from typing import Dict, Iterable, List, Optional, Set
+from typing import Dict, Iterable, Iterator, List, Set
 
 from crashfs_tools.common.entry import Entries, Entry
 from crashfs_tools.common.program import Crashfs
@@ -22,28 +22,24 @@ class LastStateReader(ABC):
     name: str
 
     @abstractmethod
-    def read_entries(self, trace_path: str) -> Entries:
-        """The entries of the last state of the trace in a file, without the root."""
+    def read_entries(self) -> Entries:
+        """The entries of the last state, without the root; to be called once."""
 
 
 class ReplayReader(LastStateReader):
-    """Computes the last state by the recorder's own replay: of these lines, which are those of a
-    trace in no file, or else (None) of the trace's file."""
+    """Computes the last state by the recorder's own replay of a trace's lines."""
 
     name = "the recorder's replay"
 
-    def __init__(self, lines: Optional[Iterable[str]] = None) -> None:
+    def __init__(self, lines: Iterable[str]) -> None:
+        """Reads nothing yet. The lines may end in line feeds."""
         self.lines = lines
 
-    def read_entries(self, trace_path: str) -> Entries:
-        """The entries at the end of a replay, without the root. If there are lines, they are
-        replayed, which can be done once, and the file isn't read. ValueError or TraceError for a
-        trace that `crashfs` would refuse; OSError if the file can't be read."""
-        if self.lines is not None:
-            tree = tree_at_end(self.lines)
-        else:
-            with open(trace_path, encoding='utf-8', newline='\n') as lines:
-                tree = tree_at_end(lines)
+    def read_entries(self) -> Entries:
+        """The entries at the end of the replay, without the root; to be called once, as it reads
+        the lines. ValueError or TraceError for a trace that `crashfs` would refuse; any error that
+        the lines raise, as an OSError of lines_of_file()."""
+        tree = tree_at_end(self.lines)
         del tree.entries['/']
         return tree.entries
 
@@ -53,22 +49,30 @@ class ProgramReader(LastStateReader):
 
     name = 'crashfs tar'
 
-    def __init__(self, program: Crashfs) -> None:
-        self.program = program
+    def __init__(self, program: Crashfs, trace_path: str) -> None:
+        """Starts nothing yet."""
+        self.program, self.trace_path = program, trace_path
 
-    def read_entries(self, trace_path: str) -> Entries:
+    def read_entries(self) -> Entries:
         """The entries of the last state that the program writes, without the root. ProgramFault if
         it refuses the trace or can't be started."""
-        number = self.program.count_states(trace_path, with_holes=False) - 1
-        return self.program.tree_of_state(trace_path, number)
+        number = self.program.count_states(self.trace_path, with_holes=False) - 1
+        return self.program.tree_of_state(self.trace_path, number)
+
+
+def lines_of_file(path: str) -> Iterator[str]:
+    """Yields the lines of a trace's file, which is opened for the first of them and closed after
+    the last. OSError if it can't be read, ValueError for bytes that aren't UTF-8."""
+    with open(path, encoding='utf-8', newline='\n') as lines:
+        yield from lines
 
 
 def lines_on_differences(
     directory: Scan, last_state: Entries, reported_paths: Iterable[str]
 ) -> List[str]:
-    """A line for each difference between a scanned directory and the trace's last state, in the
-    order of their paths, except at and below the reported paths. The directory itself and hard
-    links aren't compared."""
+    """A line for each difference between a scanned directory and the trace's last state, sorted by
+    path, except at and below the reported paths. The directory itself, hard links and extended
+    attributes aren't compared."""
     reported = set(reported_paths)
     scanned = {entry.path: entry for entry in directory.entries}
     lines = []
@@ -86,7 +90,7 @@ def lines_on_differences(
 
 
 def tree_entry(scanned: ScannedEntry) -> Entry:
-    """A scanned entry in the form that the entries of a tree have, to be compared with one."""
+    """A scanned entry as an entry of a tree, with the same bytes, not a copy."""
     if isinstance(scanned, StartSymlink):
         return symlink_entry(scanned)
     return Entry(scanned.owner, scanned.group, scanned.mode, scanned.data)
@@ -100,15 +104,15 @@ def kind_text(entry: Entry) -> str:
 
 
 def is_at_or_below(path: str, others: Set[str]) -> bool:
-    """Whether a path is one of some others, or below one of them. No path is below the root
-    here."""
+    """Whether a path is one of some others, or below one of them. The root counts only for the path
+    `/` itself."""
     names = path.split('/')
     return any('/'.join(names[:count]) in others for count in range(2, len(names) + 1))
 
 
 def entry_differences(at_end: Entry, traced: Entry) -> List[str]:
-    """How an entry at the end differs from the one in the trace, a sentence for each difference;
-    empty if it doesn't. If their kinds differ, or the targets of symbolic links, nothing else is
+    """A sentence for each difference between an entry at the end and the one in the trace; empty if
+    there is none. If their kinds differ, or the targets of symbolic links, nothing else is
     compared."""
     if kind_text(at_end) != kind_text(traced):
         return [f'it is {kind_text(at_end)} at the end, and {kind_text(traced)} in the trace']
@@ -131,22 +135,28 @@ def entry_differences(at_end: Entry, traced: Entry) -> List[str]:
 
 
 def lines_on_links(directory: Scan, last_tree: Tree, reported_paths: Iterable[str]) -> List[str]:
-    """A line for each path that a scanned directory and the trace's last tree both have, if they
-    differ in whether it is a hard link, or to which path; sorted by path. None at and below the
-    reported paths."""
+    """A line for each path at which a scanned directory and the trace's last tree both have
+    something, if they differ in whether it is a hard link, or to which path; sorted by path. There
+    is no line on the reported paths and what is below them."""
     reported = set(reported_paths)
-    groups: Dict[int, List[str]] = {}
-    for path, number in last_tree.files.items():
-        groups.setdefault(number, []).append(path)
-    traced_links = {path: min(group, key=scan_order) for group in groups.values() for path in group}
+    traced_first_paths = first_paths_of_files(last_tree)
     lines = []
-    for path in sorted(traced_links.keys() & {entry.path for entry in directory.entries}):
-        first_path = directory.links.get(path, path)
-        if first_path != traced_links[path] and not is_at_or_below(path, reported):
+    for path in sorted(traced_first_paths.keys() & {entry.path for entry in directory.entries}):
+        first_path, traced_first_path = directory.links.get(path, path), traced_first_paths[path]
+        if first_path != traced_first_path and not is_at_or_below(path, reported):
             is_link = first_path != path
-            kind = f'a link to {first_path}' if is_link else f'no link to {traced_links[path]}'
+            kind = f'a link to {first_path}' if is_link else f'no link to {traced_first_path}'
             lines.append(f'{path}: it is {kind} at the end, and not so in the trace')
     return lines
+
+
+def first_paths_of_files(tree: Tree) -> Dict[str, str]:
+    """For each path of a tree the first of all paths of its file, in the order of a scan: the path
+    itself if the file has no other."""
+    first_paths: Dict[int, str] = {}
+    for path in sorted(tree.files, key=scan_order):
+        first_paths.setdefault(tree.files[path], path)
+    return {path: first_paths[number] for path, number in tree.files.items()}
 
 
 def scan_order(path: str) -> List[str]:
@@ -157,8 +167,8 @@ def scan_order(path: str) -> List[str]:
 
 def lines_on_attributes(at_start: Scan, at_end: Scan, troubles: List[Trouble]) -> List[str]:
     """A line for each path whose extended attributes changed during the session, and for each note
-    that only the scan at the end has, except on mode bits. None for a path that one of the troubles
-    has."""
+    that only the scan at the end has. There is no line on a path that one of the troubles has, but
+    what is below such a path has lines."""
     reported = {trouble.where for trouble in troubles}
     changed = [
         path
@@ -169,7 +179,7 @@ def lines_on_attributes(at_start: Scan, at_end: Scan, troubles: List[Trouble]) -
     changes += [
         (path, f'it has {note} at the end')
         for path, note in at_end.notes
-        if (path, note) not in at_start.notes and 'mode bits' not in note
+        if (path, note) not in at_start.notes
     ]
     return [f'not in the trace: {path}: {text}' for path, text in changes if path not in reported]
 
@@ -177,8 +187,8 @@ def lines_on_attributes(at_start: Scan, at_end: Scan, troubles: List[Trouble]) -
 def lines_on_new_omissions(
     at_start: Scan, at_end: Scan, reported_paths: Iterable[str]
 ) -> List[str]:
-    """A line for each omission, such as a device, that only the scan at the end has. None at and
-    below the reported paths."""
+    """A line for each omission, such as a device, that only the scan at the end has. There is no
+    line on the reported paths and what is below them."""
     reported = set(reported_paths)
     return [
         f'{path}: at the end it is {reason}, which no trace has'

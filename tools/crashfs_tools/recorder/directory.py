@@ -23,16 +23,18 @@ NEWEST = 4
 
 @dataclass
 class Scan:
-    """The entries of a directory, each after its own directory. links has, by each further path of
-    a file, its first one. omissions are entries that no trace has, each as a path and the reason;
-    notes are the same of what changes no verdict on a crash state. attributes has the extended ones
-    of each path that has some."""
+    """The entries of a directory, each after its own directory. links has the first path of a file
+    by each of its further paths. omissions has the path of each entry that no trace can have, with
+    the reason. notes has paths with what else no trace has of them, which changes no verdict on a
+    crash state. By path, extra_mode_bits has the bits of modes beyond 777, and attributes the
+    extended attributes, of the entries that have some."""
 
     header: Header
     entries: List[ScannedEntry] = field(default_factory=list)
     links: Dict[str, str] = field(default_factory=dict)
     omissions: List[Tuple[str, str]] = field(default_factory=list)
     notes: List[Tuple[str, str]] = field(default_factory=list)
+    extra_mode_bits: Dict[str, int] = field(default_factory=dict)
     attributes: Dict[str, Dict[str, bytes]] = field(default_factory=dict)
 
 
@@ -53,14 +55,14 @@ def group_name(number: int) -> str:
 
 
 def permission_bits(status: os.stat_result) -> int:
-    """The rights of owner, group and others, without the other bits of a mode."""
+    """The nine bits of a file's mode that are the rights of owner, group and others."""
     return status.st_mode & 0o777
 
 
 def scan_directory(top: str, is_ignored: IsIgnored, version: int = NEWEST) -> Scan:
     """What traces of a version can have of the directory `top`, and what they can't. Ignored paths,
-    and what is below them, are left out. OSError if an entry can't be read, or is removed
-    meanwhile."""
+    and what is below them, are left out. OSError if the directory isn't there, or if an entry can't
+    be read or is removed meanwhile."""
     return Scanner(top, is_ignored, version).scan_all()
 
 
@@ -102,16 +104,16 @@ class Scanner:
                 self.add_entry(path, os.lstat(self.top + path))
 
     def add_entry(self, path: str, status: os.stat_result) -> None:
-        """Adds the entry at a path, and what is below it; status is the entry's own. If a trace
-        can't have it, it is an omission, and nothing below it is added. Mode bits beyond 777 are
-        only noted. OSError as in scan_all()."""
+        """Adds the entry at a path, and what is below it. `status` is the entry's, not that of a
+        link's target. If a trace can't have the entry, it is added to the omissions, and nothing
+        below it is added. OSError as in scan_all()."""
         fault = path_fault(path) or self.kind_fault(path, status)
         if fault:
             self.scan.omissions.append((path, fault))
             return
         extra_bits = stat.S_IMODE(status.st_mode) & ~0o777
         if extra_bits:
-            self.scan.notes.append((path, f'its mode bits {extra_bits:o}, beyond 777'))
+            self.scan.extra_mode_bits[path] = extra_bits
         attributes = read_attributes(self.top + path)
         if attributes:
             self.scan.attributes[path] = attributes
@@ -122,8 +124,9 @@ class Scanner:
             self.scan_below(path)
 
     def kind_fault(self, path: str, status: os.stat_result) -> str:
-        """Why a trace of the version can't have a file of the kind and size in its status; empty if
-        it can. OSError if it is a symbolic link that was removed meanwhile."""
+        """Why a trace of the version can't have the entry at a path, because of the kind or size in
+        its status, or of a link's target; empty if it can. OSError if the entry is a symbolic link
+        that was removed meanwhile."""
         if stat.S_ISDIR(status.st_mode):
             return ''
         if stat.S_ISLNK(status.st_mode) and self.version >= NEWEST:
@@ -134,8 +137,8 @@ class Scanner:
         return f'a file of more than {most} bytes' if status.st_size > most else ''
 
     def note_link(self, path: str, status: os.stat_result) -> None:
-        """Counts a path of a file that has several names. A path that isn't the first is added to
-        the scan's links."""
+        """Counts a path of a file that has several names; to be called once for each path, in the
+        order of the scan. A path that isn't the file's first is added to the scan's links."""
         inode = status.st_dev, status.st_ino
         first_path = self.first_paths.setdefault(inode, path)
         self.unseen_names[inode] = self.unseen_names.get(inode, status.st_nlink) - 1
@@ -144,8 +147,8 @@ class Scanner:
 
 
 def read_attributes(path: str) -> Dict[str, bytes]:
-    """The extended attributes of a file, or of a symbolic link itself, by their names. Empty if one
-    of them can't be read, or if the file system has none."""
+    """The extended attributes of a file, or of a symbolic link itself, by their names. Empty also
+    if one of them can't be read, or if the file system has none."""
     try:
         names = os.listxattr(path, follow_symlinks=False)
         return {name: os.getxattr(path, name, follow_symlinks=False) for name in names}
@@ -174,8 +177,9 @@ def target_fault(target: str) -> str:
 
 
 def read_entry(top: str, path: str, status: os.stat_result) -> ScannedEntry:
-    """A file, directory or symbolic link of the directory `top` as a start line of a trace, with
-    all its bytes; status is its own. OSError if it can't be read."""
+    """The start line of a trace for a file, with all its bytes, a directory, or a symbolic link.
+    `path` is below the directory `top`, and `status` is the entry's, not that of a link's target.
+    OSError if it can't be read."""
     owner, group = user_name(status.st_uid), group_name(status.st_gid)
     if stat.S_ISLNK(status.st_mode):
         return StartSymlink(path, owner, group, os.readlink(top + path))

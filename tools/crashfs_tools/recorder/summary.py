@@ -18,6 +18,7 @@ from .comparison import (
     ProgramReader,
     LastStateReader,
     ReplayReader,
+    lines_of_file,
     lines_on_differences,
     lines_on_new_omissions,
     lines_on_links,
@@ -163,7 +164,7 @@ def compare_directory(
     reported = recording.troubles.reported_paths() | recording.differing_paths
     for reader in last_state_readers(options, recording):
         try:
-            entries = reader.read_entries(options.out)
+            entries = reader.read_entries()
         except ProgramFault:
             continue
         omitted = {path for path, _ in at_end.omissions}
@@ -187,12 +188,12 @@ def last_state_readers(options: RecordOptions, recording: Recording) -> List[Las
     OSError as in Crashfs.program_for_version()."""
     if not os.path.isfile(options.out):
         return [ReplayReader(recording.trace.lines())]
-    readers: List[LastStateReader] = [ReplayReader()]
+    readers: List[LastStateReader] = [ReplayReader(lines_of_file(options.out))]
     program = None if needs_windows(recording) else Crashfs.find(options.crashfs)
     if program is not None:
         program = program.program_for_version(recording.trace.version)
         if not program.is_unproved:
-            readers.insert(0, ProgramReader(program))
+            readers.insert(0, ProgramReader(program, options.out))
     return readers
 
 
