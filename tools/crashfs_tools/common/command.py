@@ -43,9 +43,9 @@ def parse_command_line(
     parser: argparse.ArgumentParser, words: List[str]
 ) -> Tuple[argparse.Namespace, List[str]]:
     """The options that a parser reads from the words before the first `--`, and COMMAND, the words
-    after it, which may be none. A wrong word (status 2), --help and --version (status 0) end the
-    program by SystemExit, after the text is printed. The status is NOT_PRINTED if the text of
-    --help or --version can't be printed."""
+    after it; COMMAND may be empty. A wrong word (status 2), --help and --version (status 0) end the
+    program by SystemExit, after the text is printed. If the text of --help or --version can't be
+    printed, the status is NOT_PRINTED."""
     own_words, command = split_command(words)
     help_text = io.StringIO()
     try:
@@ -64,7 +64,8 @@ def parse_command_line(
 
 def print_help(program: str, text: str) -> None:
     """Prints the text of --help or --version. If it can't be printed, prints a line on standard
-    error, and raises SystemExit with NOT_PRINTED: argparse itself would fail, or print nothing."""
+    error, and raises SystemExit with NOT_PRINTED: argparse itself would end with a traceback, or be
+    silent."""
     try:
         with flushed_output():
             print(text, end='')
@@ -84,7 +85,7 @@ def version_text(command: str) -> str:
 
 
 def with_program_path(command: List[str]) -> List[str]:
-    """COMMAND, which must have a word, with the absolute path of its program, since it is started
+    """COMMAND, which must not be empty, with the absolute path of its program: so it can be started
     in another directory. A name with a slash is a path from this directory; any other is looked up
     in PATH. Refused if the program isn't found, or may not be executed."""
     name = command[0]
@@ -97,8 +98,8 @@ def with_program_path(command: List[str]) -> List[str]:
 
 
 def relative_path_arguments(command: List[str]) -> List[str]:
-    """COMMAND's arguments that are the relative path of a file or directory here. COMMAND, which
-    runs in another directory, doesn't find it there."""
+    """COMMAND's arguments that are relative paths of files or directories in this directory: a
+    COMMAND that runs in another directory doesn't find them."""
     return [word for word in command[1:] if not os.path.isabs(word) and os.path.exists(word)]
 
 
@@ -132,9 +133,9 @@ def discard_output() -> None:
 
 
 def end_process(status: int) -> NoReturn:
-    """Ends this process with a status once its output is written, or can't be. Nothing that Python
-    or the caller's program would do at the end is done: to free the memory of a check takes as long
-    as ten states."""
+    """Ends this process with a status, once its output is written or can't be. It skips what Python
+    and the caller's program would do at the end: to free the memory of a check takes as long as ten
+    states."""
     try:
         for stream in filter(None, (sys.stdout, sys.stderr)):
             stream.flush()
@@ -143,8 +144,8 @@ def end_process(status: int) -> NoReturn:
 
 
 def ending_text(status: int) -> str:
-    """How a process ended, as `was ended by SIGKILL` or `ended with status 1`, from the status that
-    Popen has: it is negative for a signal."""
+    """How a process ended, as `was ended by SIGKILL` or `ended with status 1`, from its status as
+    Popen has it: negative for a signal."""
     if status >= 0:
         return f'ended with status {status}'
     try:
@@ -154,9 +155,9 @@ def ending_text(status: int) -> str:
 
 
 def print_line(program: str, text: str) -> None:
-    """Prints a line on standard error at once, after the program's name; shorten() cuts a long one.
-    Line feeds and control characters are printed as they are: escape_unprintable() is the caller's
-    task. Nothing happens if it can't be written."""
+    """Prints a line on standard error at once, after the program's name; shorten() cuts a long
+    text. Line feeds and control characters are printed as they are: a caller uses
+    escape_unprintable() before. If the line can't be written, nothing happens."""
     if sys.stderr is None:
         return
     try:
@@ -166,7 +167,7 @@ def print_line(program: str, text: str) -> None:
 
 
 def shorten(text: str) -> str:
-    """A text; if it is longer than LINE_CHARACTERS, its first and last characters, half as many of
-    each, with `...` between them."""
+    """A text of at most LINE_CHARACTERS; of a longer one its beginning and its end, half as many
+    characters each, with `...` between them."""
     half = LINE_CHARACTERS // 2
     return text if len(text) <= LINE_CHARACTERS else f'{text[:half]} ... {text[-half:]}'

@@ -10,7 +10,7 @@ from __future__ import annotations
 import os
 import signal
 import time
-from typing import AbstractSet, Callable, Dict, Iterator, Set
+from typing import AbstractSet, Callable, Dict, Iterable, Iterator, Set
 
 PR_SET_PDEATHSIG, PR_SET_CHILD_SUBREAPER = 1, 36
 # The name of a process that cleans up after another one, and then ends by itself.
@@ -47,7 +47,7 @@ def become_reaper() -> bool:
 def child_processes(process: int = 0) -> Set[int]:
     """The children of a process, or of this one (0), also those that have ended but weren't waited
     for; one may be missing if others end meanwhile. Empty if the process is gone. If the kernel has
-    no lists of children, all processes are read."""
+    no lists of children, it reads all processes."""
     folder = f'/proc/{process or "self"}/task'
     try:
         list_paths = [f'{folder}/{task}/children' for task in os.listdir(folder)]
@@ -77,7 +77,7 @@ def children_by_parents(process: int) -> Set[int]:
 
 
 def all_processes() -> Iterator[int]:
-    """The numbers of all processes."""
+    """The numbers of all processes. OSError without /proc."""
     return (int(name) for name in os.listdir('/proc') if name.isdigit())
 
 
@@ -92,13 +92,13 @@ def parent_process(process: int) -> int:
 
 
 def descendant_processes() -> Set[int]:
-    """The children of this process, their children, and so on. An orphan is among them only if this
-    process is a reaper. What is started meanwhile may be missing."""
+    """The children of this process, their children, and so on. Orphans are among them only if this
+    process is a reaper. A process that is started meanwhile may be missing."""
     descendants: Set[int] = set()
-    new = child_processes()
-    while new:
-        descendants |= new
-        new = {child for parent in new for child in child_processes(parent)} - descendants
+    parents = child_processes()
+    while parents:
+        descendants |= parents
+        parents = {child for parent in parents for child in child_processes(parent)} - descendants
     return descendants
 
 
@@ -113,8 +113,8 @@ def program_name(process: int) -> str:
 
 
 def become_cleaner() -> None:
-    """Names this process CLEANER, so that end_children() and end_processes_with_token() let it end
-    by itself first. Nothing happens if the system doesn't allow that."""
+    """Names this process CLEANER, so that kill_unless_cleaning() gives it time to end by itself.
+    Nothing happens if the system doesn't allow that."""
     try:
         with open('/proc/self/comm', 'w', encoding='ascii') as file:
             file.write(CLEANER)
@@ -125,24 +125,32 @@ def become_cleaner() -> None:
 def end_children(
     spared: AbstractSet[int] = frozenset(), seconds: float = ENDING_SECONDS
 ) -> Dict[int, str]:
-    """Kills the children of this process except the spared ones, each by kill_with_group(), and the
-    orphans that become its children then, until none remains. Waits for them: their statuses are
-    lost. Returns those that still run after `seconds`, each with the name of its program; empty if
-    none does. A cleaner has CLEANING_SECONDS to end by itself."""
+    """Kills the children of this process except the spared ones, each by kill_with_group(), and, if
+    it is a reaper, the orphans that become its children then, until none remains. Waits for them:
+    their statuses are lost. Returns those that still run after `seconds`, each with the name of its
+    program; empty if none does. A cleaner has CLEANING_SECONDS to end by itself."""
     started = time.monotonic()
     while True:
         remaining = child_processes() - spared
         if not remaining:
             return {}
         elapsed = time.monotonic() - started
-        for child in remaining:
-            if elapsed > CLEANING_SECONDS or program_name(child) != CLEANER:
-                kill_with_group(child)
+        kill_unless_cleaning(remaining, elapsed, kill_with_group)
         running = [child for child in remaining if not reap_if_ended(child)]
         if elapsed > seconds:
             return {child: program_name(child) for child in running}
         if len(running) == len(remaining):
             time.sleep(PAUSE_SECONDS)
+
+
+def kill_unless_cleaning(
+    processes: Iterable[int], elapsed: float, kill: Callable[[int], None]
+) -> None:
+    """Calls `kill` with each of these processes; with a cleaner only if more than CLEANING_SECONDS
+    have elapsed since the first try to end it."""
+    for process in processes:
+        if elapsed > CLEANING_SECONDS or program_name(process) != CLEANER:
+            kill(process)
 
 
 def kill_with_group(child: int) -> None:
@@ -154,13 +162,18 @@ def kill_with_group(child: int) -> None:
     except OSError:
         return
     if session != os.getsid(0) and group > 1:
-        kill_quietly(os.killpg, group)
-    kill_quietly(os.kill, child)
+        try_to_kill(os.killpg, group)
+    kill_process(child)
 
 
-def kill_quietly(kill: Callable[[int, int], None], target: int) -> None:
-    """Sends SIGKILL to a process by os.kill, or to a group by os.killpg, as `kill`. Nothing happens
-    if it is gone, or another user's."""
+def kill_process(process: int) -> None:
+    """Kills a process, which isn't waited for. Nothing happens if it is gone, or another user's."""
+    try_to_kill(os.kill, process)
+
+
+def try_to_kill(kill: Callable[[int, int], None], target: int) -> None:
+    """Sends SIGKILL to a target by `kill`: os.kill for a process, os.killpg for a process group. An
+    OSError is ignored: the target is gone, or another user's."""
     try:
         kill(target, signal.SIGKILL)
     except OSError:
@@ -168,8 +181,8 @@ def kill_quietly(kill: Callable[[int, int], None], target: int) -> None:
 
 
 def reap_if_ended(child: int) -> bool:
-    """Waits for a child if it has ended; otherwise nothing happens. Returns whether it is gone,
-    also if it was waited for before."""
+    """Waits for a child if it has ended; a child that runs is left alone. Returns whether it is
+    gone, also if it was waited for before."""
     try:
         return os.waitpid(child, os.WNOHANG)[0] != 0
     except ChildProcessError:

@@ -32,9 +32,9 @@ class Entry:
 
     def write(self, offset: int, data: bytes) -> None:
         """Puts bytes at an offset of a file, in place: entries that share its bytes change too, see
-        writable_bytes(). The file grows if they end past its end, also if there are none, with
-        zeros before them. No limit of its size is checked. Only a file may be written: any other
-        entry would become one."""
+        writable_bytes(). A file that ends before them grows, also for no bytes, with zeros up to
+        the offset. No limit of its size is checked. Only a file may be written: any other entry
+        would become one."""
         end = offset + len(data)
         content = self.writable_bytes(end)
         if isinstance(content, SparseBytes):
@@ -53,11 +53,11 @@ class Entry:
         del content[length:]
         content.extend(bytes(length - len(content)))
 
-    def writable_bytes(self, length: int = 0) -> Union[bytearray, SparseBytes]:
+    def writable_bytes(self, length: int) -> Union[bytearray, SparseBytes]:
         """The bytes of a file in a form that can be changed in place, which the entry has from now
         on: a copy of `bytes`, but the same bytearray or SparseBytes, which other entries may share.
-        If `length`, their size after the change, is above the limit of older traces, they become
-        SparseBytes."""
+        `length` is their size after the change: above the limit of older traces a copy as
+        SparseBytes takes their place."""
         if length > limits.FILE_BYTES and not isinstance(self.data, SparseBytes):
             self.data = SparseBytes.copy_of(bytes(self.data or b''))
         if not isinstance(self.data, (bytearray, SparseBytes)):
@@ -69,5 +69,5 @@ Entries = Dict[str, Entry]
 
 
 def parent_of(path: str) -> str:
-    """The path of the directory that has a path's last name; the root's is the root itself."""
+    """The path of the directory that has the last name of a path; `/` for the root itself."""
     return path.rpartition('/')[0] or '/'

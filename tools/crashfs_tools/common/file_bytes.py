@@ -6,7 +6,7 @@ import errno
 import os
 from typing import Iterator, Tuple, Union
 
-from .sparse import LARGE_BYTES, SparseBytes
+from .sparse import LARGE_BYTES, Part, SparseBytes
 
 PIECE_BYTES = 1 << 20
 Bytes = Union[bytes, SparseBytes]
@@ -15,28 +15,26 @@ Bytes = Union[bytes, SparseBytes]
 def read_file_bytes(descriptor: int) -> Bytes:
     """The bytes of an open file, from its beginning; those of a file of LARGE_BYTES or more as
     SparseBytes. If the file becomes shorter meanwhile, a small one has fewer bytes, and a large one
-    has zeros for them; what is added meanwhile isn't read. OSError if it can't be read. The
-    descriptor's own offset may change."""
+    zeros in their place; bytes that are added meanwhile aren't read. OSError if it can't be read.
+    The descriptor's own offset may change."""
     size = os.fstat(descriptor).st_size
     if size < LARGE_BYTES:
-        return b''.join(read_pieces(descriptor, 0, size))
-    sparse = SparseBytes(size)
-    for offset, end in data_ranges(descriptor, size):
-        for piece in read_pieces(descriptor, offset, end):
-            sparse.write(offset, piece)
-            offset += len(piece)
-    return sparse
+        return b''.join(piece for _, piece in read_pieces(descriptor, 0, size))
+    ranges = data_ranges(descriptor, size)
+    return SparseBytes(
+        size, (part for begin, end in ranges for part in read_pieces(descriptor, begin, end))
+    )
 
 
-def read_pieces(descriptor: int, begin: int, end: int) -> Iterator[bytes]:
+def read_pieces(descriptor: int, begin: int, end: int) -> Iterator[Part]:
     """The bytes of an open file from the offset `begin` to before `end`, in pieces of at most
-    PIECE_BYTES; fewer bytes if the file is shorter. OSError if it can't be read. The descriptor's
-    own offset stays."""
+    PIECE_BYTES, each after its offset. If the file is shorter, the pieces end with it. OSError if
+    it can't be read. The descriptor's own offset stays."""
     while begin < end:
         piece = os.pread(descriptor, min(PIECE_BYTES, end - begin), begin)
         if not piece:
             return
-        yield piece
+        yield begin, piece
         begin += len(piece)
 
 

@@ -7,7 +7,7 @@ import select
 import signal
 import sys
 from contextlib import ExitStack
-from typing import Any, BinaryIO, Dict, List, NoReturn, Tuple
+from typing import Any, BinaryIO, Dict, Iterator, List, NoReturn, Tuple
 
 from .descendants import die_with_parent
 from .pipes import open_pipe
@@ -53,8 +53,9 @@ class ForkedReading:
 
     def run_and_exit(self, words: List[str], out_writer: int, err_writer: int) -> NoReturn:
         """In the new process, which is killed when the thread that started it ends: runs the
-        command, with these pipes as its two outputs and no input, and ends the process with its
-        status. An error that isn't caught prints a traceback; the status is INTERNAL_ERROR then."""
+        command, with these pipes as its two outputs and no input, and ends the process with the
+        command's status. If an exception isn't caught, it prints a traceback, and the status is
+        INTERNAL_ERROR."""
         status = INTERNAL_ERROR
         try:
             die_with_parent()
@@ -79,30 +80,23 @@ class ForkedReading:
         only once."""
         with self.stdout, self.stderr:
             pieces: Dict[int, List[bytes]] = {self.stdout.fileno(): [], self.stderr.fileno(): []}
-            poll = select.poll()
-            for descriptor in pieces:
-                poll.register(descriptor, select.POLLIN)
-            open_count = len(pieces)
-            while open_count:
-                for descriptor, _ in poll.poll():
-                    pieces[descriptor].append(os.read(descriptor, PIECE_BYTES))
-                    if not pieces[descriptor][-1]:
-                        poll.unregister(descriptor)
-                        open_count -= 1
+            for descriptor, piece in read_pipes(*pieces):
+                pieces[descriptor].append(piece)
         self.wait()
         output, error_text = map(b''.join, pieces.values())
         return output, error_text
 
     def wait(self) -> int:
-        """Waits for the process to end, sets `returncode`, and returns that: its status, negative
-        for a signal; or -SIGKILL if something else in this process has waited for it. Its outputs
-        aren't read: the pipes must have room. Later calls return the same at once."""
+        """Waits for the process to end, sets `returncode`, and returns it: the status, negative for
+        a signal; or -SIGKILL if something else in this process has waited for the process. The
+        outputs aren't read: if more is printed than their pipes can have, it waits forever. Later
+        calls return the same at once."""
         if self.returncode is None:
             try:
                 wait_status = os.waitpid(self.process, 0)[1]
                 self.returncode = os.waitstatus_to_exitcode(wait_status)
             except ChildProcessError:
-                # Somebody else has waited for it: what is left behind is ended by all its children.
+                # end_children() waits for all children of this process, so it may have the status.
                 self.returncode = -signal.SIGKILL
         return int(self.returncode)
 
@@ -114,3 +108,20 @@ class ForkedReading:
                 os.kill(self.process, signal.SIGKILL)
             except ProcessLookupError:
                 pass
+
+
+def read_pipes(*pipes: int) -> Iterator[Tuple[int, bytes]]:
+    """Reads pipes to their ends, by their descriptors, and waits for them without limit. Yields
+    each piece when it has come, after its pipe's descriptor. The pipes stay open."""
+    poll = select.poll()
+    open_pipes = set(pipes)
+    for pipe in open_pipes:
+        poll.register(pipe, select.POLLIN)
+    while open_pipes:
+        pipe, _ = poll.poll()[0]
+        piece = os.read(pipe, PIECE_BYTES)
+        if piece:
+            yield pipe, piece
+        else:
+            poll.unregister(pipe)
+            open_pipes.remove(pipe)

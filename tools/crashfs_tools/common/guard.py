@@ -69,8 +69,8 @@ class Guard:
     def start_watcher(self) -> None:
         """Starts the watcher, waits until it has made the directory, and sets `watcher`,
         `alive_writer` and `directory`. OSError, with the name of the place, if the watcher can't
-        make one, or is killed before: it has ended then. OSError without a name if it can't be
-        started."""
+        make a directory, or is killed before: it has ended then. OSError without a name if it can't
+        be started: then no pipe stays open. The caller blocks the signals that stop a command."""
         with ExitStack() as opened:
             alive_reader, self.alive_writer = open_pipe(opened)
             answer_reader, answer_writer = open_pipe(opened)
@@ -92,7 +92,7 @@ class Guard:
 
     def report_other_folder(self) -> None:
         """Prints a line on standard error if the directory isn't in TMPDIR, because that can't be
-        written. Prints nothing if the guard has a `folder`."""
+        written. Prints nothing if TMPDIR isn't set, or if the guard has a `folder`."""
         named_folder, used_folder = os.environ.get('TMPDIR'), os.path.dirname(self.directory)
         if self.folder is None and named_folder and os.path.realpath(named_folder) != used_folder:
             print_line(
@@ -107,9 +107,9 @@ class Guard:
 
     def end_processes(self, spared: Iterable[int] = ()) -> Dict[int, str]:
         """Ends all that was started with `environment`; if this process is a reaper, also its other
-        children and orphans, except the spared ones: their statuses are lost. A process started
-        with `environment` can't be spared. Waits up to twice ENDING_SECONDS. Returns
-        `still_running`: what no call could end, each with its name; always empty without a
+        children and orphans, except the spared ones. The statuses of ended children are lost. A
+        process started with `environment` can't be spared. Waits up to twice ENDING_SECONDS.
+        Returns `still_running`: what no call could end, each with its name; always empty without a
         reaper."""
         end_processes_with_token(self.token)
         if self.is_reaper:
@@ -119,14 +119,14 @@ class Guard:
 
     def send_signal(self, signal_number: int, spared_process: int) -> int:
         """Sends a signal to all that was started with `environment`, and, if this process is a
-        reaper, to all its descendants, except one process. What is started meanwhile may not get
-        it. Returns how many processes got it: those that are gone, or another user's, don't."""
+        reaper, to all its descendants, but not to `spared_process`. What is started meanwhile may
+        not get it. Returns how many processes got it: those that are gone, or another user's,
+        don't."""
         sent_count = 0
-        processes = descendants.descendant_processes() if self.is_reaper else set()
-        for process in (processes | processes_with_token(self.token)) - {
-            self.watcher,
-            spared_process,
-        }:
+        processes = processes_with_token(self.token)
+        if self.is_reaper:
+            processes |= descendants.descendant_processes()
+        for process in processes - {self.watcher, spared_process}:
             try:
                 os.kill(process, signal_number)
                 sent_count += 1
@@ -136,8 +136,9 @@ class Guard:
 
     def __exit__(self, *_: object) -> None:
         """Lets the watcher end processes and remove the directory, waits for it without limit, and
-        prints on standard error what could not be removed. Exceptions go on. Children that weren't
-        started with `environment` aren't ended: end_processes() does that."""
+        prints on standard error what could not be removed. An exception of the `with` is raised
+        after that. Children that weren't started with `environment` aren't ended: end_processes()
+        does that."""
         os.close(self.alive_writer)
         os.waitpid(self.watcher, 0)
         for path in (self.directory, self.directory + TRASH_ENDING):
@@ -201,8 +202,8 @@ def make_directory(prefix: str, folder: Optional[str]) -> str:
 
 
 def with_token(environment: Mapping[str, str], token: str) -> Dict[str, str]:
-    """A copy of an environment with one more token: VARIABLE has it after the tokens of the guards
-    around it."""
+    """A copy of an environment whose VARIABLE has one more token, after those of the guards around
+    this one."""
     tokens = [*filter(None, environment.get(VARIABLE, '').split(':')), token]
     return {**environment, VARIABLE: ':'.join(tokens)}
 
@@ -232,15 +233,13 @@ def has_token(process: int, token: bytes) -> bool:
 
 def end_processes_with_token(token: str) -> None:
     """Kills all processes with a token, again and again until none is found, since one may have
-    just forked. They aren't waited for. After ENDING_SECONDS it returns, even if some are left. A
-    cleaner has CLEANING_SECONDS to end by itself. OSError without /proc."""
+    just forked. It doesn't wait for their ends. After ENDING_SECONDS it returns, even if some are
+    left. A cleaner has CLEANING_SECONDS to end by itself. OSError without /proc."""
     started = time.monotonic()
     while time.monotonic() < started + descendants.ENDING_SECONDS:
         processes = processes_with_token(token)
         if not processes:
             return
-        is_late = time.monotonic() > started + descendants.CLEANING_SECONDS
-        for process in processes:
-            if is_late or descendants.program_name(process) != descendants.CLEANER:
-                descendants.kill_quietly(os.kill, process)
+        elapsed = time.monotonic() - started
+        descendants.kill_unless_cleaning(processes, elapsed, descendants.kill_process)
         time.sleep(0.01)

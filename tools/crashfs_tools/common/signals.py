@@ -32,11 +32,11 @@ def stop_signals() -> Tuple[signal.Signals, ...]:
 
 def raise_on_stop_signals() -> None:
     """From here on the first of stop_signals() raises Stopped in the main thread, which must be the
-    caller's. Then a time limit ends, and the signals of STOPS are ignored, so that the command can
-    clean up; programs that are started then ignore them too."""
+    caller's. That signal also ends a time limit; later ones of STOPS are ignored, so that the
+    command can clean up. Programs that are started then ignore them too."""
 
     def raise_stopped(signal_number: int, _: object) -> None:
-        """A handler of the signals: ends a time limit, ignores STOPS from then on, and raises
+        """A handler of the stop signals: ends a time limit, ignores STOPS from then on, and raises
         Stopped."""
         signal.setitimer(signal.ITIMER_REAL, 0)
         for later_signal in STOPS:
@@ -50,9 +50,9 @@ def raise_on_stop_signals() -> None:
 @contextmanager
 def stop_signals_blocked() -> Iterator[Set[Union[int, signal.Signals]]]:
     """Within this the signals of STOPS and SIGALRM wait in this thread, since what a handler raises
-    in the hooks of a fork is lost. They come at its end, unless they were blocked before. Yields
-    the signals that were blocked before: a process forked within it must set these itself, once it
-    is ready for signals."""
+    in the hooks of a fork is lost. At the end of the `with` they arrive, unless they were blocked
+    before. Yields the signals that were blocked before: a process forked within it must set these
+    itself, once it is ready for signals."""
     blocked_before = signal.pthread_sigmask(signal.SIG_BLOCK, (*STOPS, signal.SIGALRM))
     try:
         yield blocked_before
@@ -67,8 +67,9 @@ class TimeUp(Exception):
 @contextmanager
 def time_limit(seconds: Optional[float]) -> Iterator[None]:
     """Within this, TimeUp is raised in the main thread after so many seconds; None or 0 is no
-    limit. Must be entered in the main thread, else ValueError. There is one timer: an inner limit
-    ends an outer one, also if it is 0, but not if it is None."""
+    limit. ValueError outside the main thread, unless `seconds` is None. Its handler of SIGALRM
+    stays after the `with`. There is one timer: a limit within another one ends that, also a limit
+    of 0, but not None."""
 
     def raise_time_up(_: int, __: object) -> None:
         raise TimeUp

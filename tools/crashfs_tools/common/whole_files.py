@@ -13,10 +13,10 @@ from .command import TEXT, Refused, flushed_output
 
 
 def folder_to_write(path: str) -> str:
-    """The directory in which write_whole_file() will write a path: that of its target if it is a
-    link, this directory for `-`. Refused if the path is a directory, or no file can be made there.
-    No right in the directory is needed for `-` and what is no plain file. refuse_foreign_file()
-    isn't called."""
+    """The directory in which write_whole_file() will write a path, or the target of a link at the
+    path; for `-` this directory. Refused if the path is a directory, or no file can be made there;
+    what is_written_in_place() needs no right in the directory. A foreign file isn't refused
+    here."""
     if path == '-':
         return os.getcwd()
     folder = os.path.dirname(os.path.realpath(path))
@@ -24,25 +24,29 @@ def folder_to_write(path: str) -> str:
         raise Refused(f'{path}: its directory is not there')
     if os.path.isdir(path):
         raise Refused(f'{path} is a directory')
-    in_place = os.path.exists(path) and not os.path.isfile(path)
-    if not in_place and not os.access(folder, os.W_OK):
+    if not is_written_in_place(path) and not os.access(folder, os.W_OK):
         raise Refused(f'{path}: its directory may not be written')
     return folder
 
 
+def is_written_in_place(path: str) -> bool:
+    """Whether write_whole_file() writes a path in place: standard output (`-`), or something that
+    is there and no plain file, such as a pipe or /dev/null."""
+    return path == '-' or os.path.exists(path) and not os.path.isfile(path)
+
+
 def write_whole_file(path: str, pieces: Iterable[str], mode: int = 0o666) -> None:
-    """Replaces a file, as replace_file() does; a link stays, and its target is replaced. `-`, which
-    is standard output, and what is no plain file are written in place, without a sync; a pipe waits
-    for its reader. An OSError, also one that `pieces` raises, has this path, or the name of
-    standard output. After any exception a plain file is as replace_file() leaves it, and what is
-    written in place may have a part."""
+    """Replaces a file, or the target of a link, by replace_file(). What is_written_in_place() isn't
+    synced, and gets no `mode`; a pipe waits for its reader. An OSError, also for a foreign file or
+    from `pieces`, has this path, or the name of standard output. After a failure a plain file is as
+    replace_file() leaves it; what is written in place may have a part."""
     if path == '-':
         with flushed_output():
             sys.stdout.writelines(pieces)
         return
     try:
         refuse_foreign_file(path)
-        if os.path.exists(path) and not os.path.isfile(path):
+        if is_written_in_place(path):
             with open(path, 'w', **TEXT) as file:
                 file.writelines(pieces)
         else:
@@ -52,10 +56,11 @@ def write_whole_file(path: str, pieces: Iterable[str], mode: int = 0o666) -> Non
 
 
 def replace_file(path: str, pieces: Iterable[str], mode: int) -> None:
-    """Writes a new file, renames it to the path, and returns once that is durable. Its owner is
-    this user; its mode is mode_of_replacement() without the bits that `mode` lacks; other names of
-    the old file keep the old bytes. After an exception, also one that `pieces` raises, the new file
-    is gone and the old one stays, unless only the sync of the directory failed."""
+    """Writes a new file, renames it to an absolute path, and returns once that is durable. A link
+    at the path is replaced, and other names of the old file keep its bytes. The new file is this
+    user's; its mode is mode_of_replacement() without the bits that `mode` lacks. After an
+    exception, also from `pieces`, it is gone and the old file stays, unless only the sync of the
+    directory failed."""
     folder = os.path.dirname(path)
     # A name has up to 255 bytes, and a letter up to four.
     descriptor, new_path = tempfile.mkstemp(prefix='.' + os.path.basename(path)[:50], dir=folder)
@@ -74,7 +79,8 @@ def replace_file(path: str, pieces: Iterable[str], mode: int) -> None:
 
 def mode_of_replacement(path: str) -> int:
     """The mode for a file that will replace what is at a path: that of the old file, without set-ID
-    bits, or that of a new file by the umask. To read the umask, the process has 0 for a moment."""
+    bits; if there is none, that of a new file by the umask. To read the umask, it is set to 0 for a
+    moment, in all threads."""
     if os.path.exists(path):
         return os.stat(path).st_mode & 0o777
     umask = os.umask(0)
@@ -83,9 +89,9 @@ def mode_of_replacement(path: str) -> int:
 
 
 def refuse_foreign_file(path: str) -> None:
-    """OSError (EACCES) if a path is a link, a pipe or another special file that neither this user
-    nor the directory's owner made, in a sticky directory that everybody may write, as /tmp. The
-    target of a link isn't looked at."""
+    """OSError (EACCES) if a path is a link, a pipe or another special file, in a sticky directory
+    that everybody may write, as /tmp, unless this user or the directory's owner made it. The target
+    of a link isn't looked at."""
     if not os.path.lexists(path):
         return
     status, folder = os.lstat(path), os.stat(os.path.dirname(path) or '.')
@@ -96,8 +102,8 @@ def refuse_foreign_file(path: str) -> None:
 
 
 def sync_directory(folder: str) -> None:
-    """Makes the names in a directory durable. Does nothing if this user may not read it, or its
-    file system can't sync directories; any other error is an OSError."""
+    """Makes the names in a directory durable. If this user may not read the directory, or its file
+    system can't sync directories, nothing happens; any other error is an OSError."""
     try:
         directory = os.open(folder, os.O_RDONLY | os.O_DIRECTORY | os.O_CLOEXEC)
     except PermissionError:
