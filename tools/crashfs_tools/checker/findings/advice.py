@@ -5,9 +5,11 @@ from __future__ import annotations
 from dataclasses import dataclass, field
 from typing import Dict, FrozenSet, List, NamedTuple, Optional, Tuple
 
+from crashfs_tools.common.printable import count_text
 from crashfs_tools.common.trace_lines import TraceLine
 
 from .sync_points import LinePairs, end_of_path, is_synced, sync_points
+from .wording import fail_verb, failing_states_text
 
 ATOMIC = 'write a new file, sync it, rename it, sync the directory'
 ONE_CHANGE = f'no sync helps: make these lines one change ({ATOMIC})'
@@ -26,11 +28,10 @@ class FailingCounts(NamedTuple):
     @property
     def text(self) -> str:
         """How many states fail after the change and before it, as `2 states fail, 5 before`; only
-        `none fails` if none fails after it."""
+        `none fails` if none fails after the change."""
         if not self.after:
             return 'none fails'
-        fail = 'state fails' if self.after == 1 else 'states fail'
-        return f'{self.after:,} {fail}, {self.before:,} before'
+        return f'{failing_states_text(self.after)}, {self.before:,} before'
 
 
 class AllSyncs(NamedTuple):
@@ -43,8 +44,8 @@ class AllSyncs(NamedTuple):
 
 @dataclass
 class AdviceResult:
-    """What an advice does, tried on a copy of the trace; all numbers count different states. Of the
-    group's states, group_states, a crash of the copy may still leave states_left. Of the copy's
+    """What an advice does, tried on a copy of the trace; all numbers count different states. The
+    group has group_states, of which a crash of the copy may still leave states_left. Of the copy's
     other states other_failures fail, of which earlier_failures failed without the advice too.
     before and after are how many fail in all, without the advice and with it."""
 
@@ -76,35 +77,41 @@ class AdviceResult:
         """A sentence on an advice of so many syncs, which must be helpful: how many of the group's
         states are left, and how many others fail."""
         syncs = 'that sync' if sync_count == 1 else f'those {sync_count:,} syncs'
-        if self.group_states == 1:
-            how = 'still' if self.states_left else 'not'
-            line = f'tried: with {syncs} this state is {how} left'
-        else:
-            states = f'{self.states_left:,} of these {self.group_states:,} states'
-            line = f'tried: with {syncs} {states} are left'
+        line = f'tried: with {syncs} {self.states_left_text}'
         if self.states_left:
             line += f', so {"one sync is" if sync_count == 1 else "they are"} not enough'
-        if self.other_failures == 0:
-            return f'{line}, and no other fails'
-        still = ' still' if self.earlier_failures == self.other_failures else ''
-        return (
-            f'{line}, and {self.other_failures:,} other{"s" if self.other_failures > 1 else ""}'
-            f'{still} fail{"" if self.other_failures > 1 else "s"}'
-        )
+        return f'{line}, and {self.other_failures_text}'
+
+    @property
+    def states_left_text(self) -> str:
+        """How many of the group's states are left, as `this state is not left` or `0 of these 3
+        states are left`."""
+        if self.group_states == 1:
+            return f'this state is {"still" if self.states_left else "not"} left'
+        return f'{self.states_left:,} of these {self.group_states:,} states are left'
+
+    @property
+    def other_failures_text(self) -> str:
+        """How many other states fail, as `no other fails` or `2 others fail`; `2 others still fail`
+        if all of them failed without the advice too."""
+        count = self.other_failures
+        if count == 0:
+            return 'no other fails'
+        still = ' still' if self.earlier_failures == count else ''
+        return f'{count_text(count, "other")}{still} {fail_verb(count)}'
 
     def not_enough_text(self, remedy: str) -> str:
         """A sentence on an advice that isn't helpful: the remedy, and how many states fail with it
         and without it, in all."""
-        return (
-            f'tried, and not enough alone: {remedy} ({self.after:,} '
-            f'state{" fails" if self.after == 1 else "s fail"} then, {self.before:,} before)'
-        )
+        failing = f'{failing_states_text(self.after)} then, {self.before:,} before'
+        return f'tried, and not enough alone: {remedy} ({failing})'
 
 
 @dataclass
 class Advice:
-    """text is the sentence, in lines, and remedy what to do. syncs has the path to sync after each
-    of these lines of the trace. result is None if the advice wasn't tried."""
+    """text is the sentence, in lines, and remedy what to do, or empty. syncs has the path to sync
+    after each line of the trace that is one of its keys. result is None if the advice wasn't
+    tried."""
 
     text: List[str] = field(default_factory=list)
     remedy: str = ''
@@ -113,7 +120,7 @@ class Advice:
 
     def lines(self) -> List[str]:
         """The lines of a report: the sentence, the remedy, and the result if the advice was tried.
-        If it isn't helpful, the remedy is only a part of the result."""
+        If the advice isn't helpful, the remedy is only a part of the result."""
         if self.result is None:
             return self.text + ([self.remedy] if self.remedy else [])
         if not self.result.is_helpful:
@@ -125,28 +132,26 @@ def loss_advice(
     kept: TraceLine, lost: TraceLine, pairs: LinePairs, lines: Dict[int, TraceLine]
 ) -> Advice:
     """The advice for states that have the line `kept` and lack the earlier line `lost`: a sync
-    between them. Its syncs are as few as serve all pairs, of which these lines should be one; the
-    remedy names the sync between these lines, and counts the others. `lines` has the trace's lines
-    by number. If no sync makes the lost line durable, there is no remedy."""
+    between the two. Its syncs are as few as serve all `pairs`, which should have these two lines;
+    the remedy names the sync between them, and counts the others. `lines` has the trace's lines by
+    number. If no sync makes the lost line durable, there is no remedy and no sync."""
     path = lost.path_to_fsync
     sentence = f'line {lost.number} ({lost.text}) was not durable when {kept_text(kept)}'
     if path is None:
         return Advice([sentence])
     syncs = sync_points(pairs, lines)
-    other_places = len(syncs) - 1
-    also = ''
-    if other_places > 0:
-        also = f' (and at {other_places:,} more place{"s" if other_places > 1 else ""})'
     end = end_of_path(path, range(lost.number + 1, kept.number), lines)
-    limit = f', before line {end.number} ({end.text})' if end else ''
-    remedy = f'{sync_text(path, lost, lines)} between them{limit}{also}'
+    end_text = f', before line {end.number} ({end.text})' if end else ''
+    other_count = len(syncs) - 1
+    others_text = f' (and at {count_text(other_count, "more place")})' if other_count > 0 else ''
+    remedy = f'{sync_text(path, lost, lines)} between them{end_text}{others_text}'
     return Advice([f'{sentence}:'], remedy, syncs)
 
 
 def sync_text(path: str, lost: TraceLine, lines: Dict[int, TraceLine]) -> str:
-    """The beginning of a remedy: to sync the path that makes a lost line durable, which is that of
-    the line itself or a directory. It says so if the session never syncs this directory; `lines`
-    has the trace's lines by number."""
+    """The beginning of a remedy: to sync the path that makes a lost line durable, that of the line
+    itself or of a directory. The text says if the session never syncs this directory; `lines` has
+    the trace's lines by number."""
     if lost.path == path:
         return f'fsync {path}'
     if is_synced(path, lines):
@@ -163,8 +168,8 @@ def kept_text(kept: TraceLine) -> str:
 
 
 def torn_advice(line: TraceLine, kept_part: str) -> Advice:
-    """The advice for a line of which a crash kept only a part. kept_part says in words what it kept
-    and what it lost. There are no syncs, since none helps."""
+    """The advice for a line of which a crash kept only a part. kept_part says in words what the
+    crash kept and what it lost. There are no syncs, since none helps."""
     remedy = f'a record that recovery may drop needs a checksum; for all else, {ATOMIC}'
     if line.word == 'rename':
         remedy = 'a rename within one directory is one change'
@@ -175,10 +180,10 @@ def torn_advice(line: TraceLine, kept_part: str) -> Advice:
 
 
 def no_loss_advice(kept: Optional[TraceLine], lost: Optional[TraceLine]) -> Advice:
-    """The advice for a failure that needs no loss, before another order is tried. States fail from
-    the line `kept` on, or from the beginning if it is None, until the line `lost` repairs them. If
-    that is None, they fail to the end, and there is no remedy. For an acknowledged line the remedy
-    is a question about COMMAND, else to make the lines one change. There are no syncs."""
+    """The advice for a failure that needs no loss, if no better remedy is known. States fail from
+    the line `kept` on (None: from the beginning) until the line `lost` repairs them (None: to the
+    end, and there is no remedy). If `lost` is an acknowledged line, the remedy is a question about
+    COMMAND, else to make the lines one change. There are no syncs."""
     begin = f'line {kept.number} ({kept.text})' if kept else 'the beginning'
     if lost is None:
         return Advice([f'from {begin} on it fails, though nothing is lost'])

@@ -8,7 +8,7 @@ from collections import Counter
 from typing import Dict, Iterable, List, Optional, Tuple
 
 from crashfs_tools.checker.running.results import Results
-from crashfs_tools.checker.running.runner import GOOD, Outcome
+from crashfs_tools.checker.running.runner import Outcome
 from crashfs_tools.checker.running.trials import Trials
 from crashfs_tools.checker.states.place_sets import places_of
 from crashfs_tools.checker.states.plan import Offsets, Plan, PlannedTrace
@@ -19,6 +19,7 @@ from crashfs_tools.common.trace_lines import SYNCS, TraceLine
 
 from .advice import FailingCounts
 from .groups import Findings, Group
+from .set_outcomes import count_failing_states, outcomes_by_set
 
 # So many entries have the other order tried, of so many states at most.
 ENTRIES, MOST_STATES = 3, 2_000
@@ -26,8 +27,8 @@ ENTRIES, MOST_STATES = 3, 2_000
 
 def add_swaps(trials: Trials, planner: Planner, findings: Findings, swappable: List[Group]) -> None:
     """Tries the other order of lines for the first ENTRIES of some swappable groups, finds out
-    whether their kept line overwrites bytes in use, and sets their advice again. Further groups
-    stay as they are, and so do the next ones after an exception."""
+    whether their kept line overwrites bytes in use, and sets their advice again. After an exception
+    the groups before keep what was set. Exceptions as in Swap.run() and is_overwriting()."""
     for group in swappable[:ENTRIES]:
         group.swap_counts = Swap(trials, planner, findings, group).run()
         group.is_overwriting = is_overwriting(trials, findings, group)
@@ -49,94 +50,107 @@ class Swap:
     def run(self) -> Optional[FailingCounts]:
         """Writes the copy and tries its states; returns how many different states fail in the trace
         and in the copy. Those that --fail-fast left untried don't count. None, and nothing is
-        tried, if the lines can't change places, or the copy has more than MOST_STATES states."""
+        tried, if the lines can't change places, or the copy has more than MOST_STATES states.
+        Exceptions as in Trials.try_states(); OSError also if a file can't be read or written."""
         moved_numbers = lines_to_move(self.kept_line, self.lost_line, self.findings.head.lines)
         planned = self.plan_copy(moved_numbers) if moved_numbers else None
         if planned is None or len(planned.plan.states) > MOST_STATES:
             return None
-        outcomes = self.try_copy(planned)
-        before = count_failing_states(self.findings.plan, self.findings.outcomes_by_state)
-        return FailingCounts(before, count_failing_states(planned.plan, outcomes))
+        session_plan = self.findings.plan
+        session_outcomes = outcomes_by_set(session_plan, self.findings.outcomes_by_state)
+        copy_outcomes = self.try_copy(planned, session_outcomes)
+        return FailingCounts(
+            count_failing_states(session_plan, session_outcomes),
+            count_failing_states(planned.plan, copy_outcomes),
+        )
 
     def plan_copy(self, moved_numbers: List[int]) -> Optional[PlannedTrace]:
-        """Writes the copy, in which the lines of these numbers come before the kept one, and after
-        them a sync of the lost one's path; then plans it. None if the window lacks one of the
-        lines, or has one of these numbers in parts, or if the program refuses this order. A later
-        copy replaces the file."""
-        offsets = self.trials.planned.offsets
-        with open(self.trials.planned.trace, **TEXT) as file:
-            text = file.read().rstrip('\n').split('\n')
-        numbered = list(zip(offsets.lines or range(1, len(text) + 1), text))
-        numbers = [number for number, _ in numbered]
-        moved = [(number, line) for number, line in numbered if number in moved_numbers]
+        """Writes the copy, with the lines of lines_of_copy(), and plans it; a later copy replaces
+        the file. None if there are no such lines, or if the program refuses this order."""
+        lines = self.lines_of_copy(moved_numbers)
+        if lines is None:
+            return None
+        path = os.path.join(self.trials.guard.directory, 'swap.trace')
+        with open(path, 'w', **TEXT) as file:
+            file.write('\n'.join(line for _, line in lines))
+        session_numbers = tuple(number for number, _ in lines)
+        offsets = Offsets(says=self.trials.planned.offsets.says, lines=session_numbers)
+        try:
+            return self.planner.plan(path, offsets)
+        except Refused:
+            return None
+
+    def lines_of_copy(self, moved_numbers: List[int]) -> Optional[List[Tuple[int, str]]]:
+        """The lines of the copy, each after its number in the session. The lines of moved_numbers
+        come before the kept one, and after them a sync of the lost line's path, with the number 0.
+        None if the window lacks one of the lines, or has one of moved_numbers in parts."""
+        planned = self.trials.planned
+        with open(planned.trace, **TEXT) as file:
+            text_lines = file.read().rstrip('\n').split('\n')
+        lines = list(zip(planned.offsets.lines or range(1, len(text_lines) + 1), text_lines))
+        numbers = [number for number, _ in lines]
+        moved = [(number, line) for number, line in lines if number in moved_numbers]
         if len(moved) != len(moved_numbers) or self.kept_line.number not in numbers:
             return None
         sync = {'op': 'fsync', 'path': self.lost_line.path_to_fsync}
         # Of a kept line in parts this is the first: all parts come after the sync.
-        place = numbers.index(self.kept_line.number)
-        lines: List[Tuple[int, str]] = [
-            *numbered[:place],
+        kept_place = numbers.index(self.kept_line.number)
+        return [
+            *lines[:kept_place],
             *moved,
             (0, json.dumps(sync, ensure_ascii=False)),
-            *((number, line) for number, line in numbered[place:] if number not in moved_numbers),
+            *((number, line) for number, line in lines[kept_place:] if number not in moved_numbers),
         ]
-        path = os.path.join(self.trials.guard.directory, 'swap.trace')
-        with open(path, 'w', **TEXT) as file:
-            file.write('\n'.join(line for _, line in lines))
-        try:
-            return self.planner.plan(
-                path, Offsets(says=offsets.says, lines=tuple(number for number, _ in lines))
-            )
-        except Refused:
-            return None
 
-    def try_copy(self, planned: PlannedTrace) -> Dict[int, Outcome]:
-        """Tries the copy's states, and returns the outcomes of all of them by their numbers. A
-        state with the same micro-operations as a tried one of the session is equal to it, and not
-        tried. Those that --fail-fast left untried have no outcome."""
-        plan, session_plan = planned.plan, self.findings.plan
-        outcomes = self.findings.outcomes_by_state.items()
-        known = {session_plan.kept[number]: outcome for number, outcome in outcomes}
-        session_places = matching_places(plan, session_plan)
+    def try_copy(
+        self, planned: PlannedTrace, session_outcomes: Dict[int, Outcome]
+    ) -> Dict[int, Outcome]:
+        """Tries the states of the planned copy, and returns the outcomes of its sets. A set with
+        the same micro-operations as one of session_outcomes, which has those of the session's sets,
+        gets its outcome, and isn't tried. Sets that --fail-fast left untried have none."""
+        plan = planned.plan
+        session_places = matching_places(plan, self.findings.plan)
         results = Results(plan)
         for state in plan.states:
             session_set = set_at_places(plan.kept[state.number], session_places)
-            if session_set is not None and session_set in known:
-                results.outcomes[results.tried_numbers[state.trial]] = known[session_set]
+            if session_set is not None and session_set in session_outcomes:
+                number = results.tried_numbers[state.trial]
+                results.outcomes[number] = session_outcomes[session_set]
 
         def on_outcome(number: int, outcome: Outcome) -> None:
             results.outcomes[number] = outcome
 
         new_numbers = set(results.own_numbers.values()) - set(results.outcomes)
         Trials(self.trials.workplace, planned).try_states([new_numbers], on_outcome)
-        return results.outcomes_by_state({})
+        return outcomes_by_set(plan, results.outcomes_by_state({}))
 
 
 def lines_to_move(kept: TraceLine, lost: TraceLine, lines: Dict[int, TraceLine]) -> List[int]:
     """The ascending numbers of the lines that must be moved before the line `kept`: the later line
-    `lost`, and those between them that must be moved with it (must_move_with). Empty if a path of
-    `kept` is, or is below or above, one of theirs; syncs among them don't count."""
+    `lost`, and those between the two for which must_move_with() is true. Empty if they can't be
+    moved: a path of `kept` is, or is below or above, a path of a moved line that is no sync.
+    `lines` has the trace's lines by number."""
     moved = [lost]
     for number in range(lost.number - 1, kept.number, -1):
         line = lines.get(number)
         if line is not None and must_move_with(moved, line):
             moved.insert(0, line)
-    are_apart = all(kept.is_apart_from(line) for line in moved if line.word not in SYNCS)
-    return [line.number for line in moved] if are_apart else []
+    may_move = all(kept.is_apart_from(line) for line in moved if line.word not in SYNCS)
+    return [line.number for line in moved] if may_move else []
 
 
 def must_move_with(moved: Iterable[TraceLine], line: TraceLine) -> bool:
-    """Whether a line must be moved together with the moved lines, because a path of it is, or is
-    below or above, one of theirs; syncs among these don't count. A sync must be moved only with a
-    line of its own file."""
+    """Whether a line must be moved together with some later moved lines, because a path of the line
+    is, or is below or above, a path of a moved line that is no sync. A line that is a sync must be
+    moved only with a line of its own file."""
     if line.word in SYNCS:
         return any(line.path in (other.path, other.target) for other in moved)
     return not all(line.is_apart_from(other) for other in moved if other.word not in SYNCS)
 
 
 def matching_places(plan: Plan, other: Plan) -> Dict[int, int]:
-    """The places in `plan` of the micro-operations that `other` has too, each with the place there.
-    Micro-operations of one line and kind are matched in their order."""
+    """The places in `plan` of the micro-operations that `other` has too, each with its place in
+    `other`. Micro-operations of one line and kind are matched in their order."""
     other_places = places_by_rank(other)
     places = places_by_rank(plan).items()
     return {place: other_places[key] for key, place in places if key in other_places}
@@ -155,8 +169,8 @@ def places_by_rank(plan: Plan) -> Dict[Tuple[int, str, int], int]:
 
 
 def set_at_places(kept_set: int, places: Dict[int, int]) -> Optional[int]:
-    """A set with each place replaced by that which `places` has for it; None if it has none for one
-    of them."""
+    """A set with each place replaced by the one that `places` has for it; None if `places` lacks
+    one of the set's places."""
     replaced = 0
     for place in places_of(kept_set):
         if place not in places:
@@ -165,22 +179,11 @@ def set_at_places(kept_set: int, places: Dict[int, int]) -> Optional[int]:
     return replaced
 
 
-def count_failing_states(plan: Plan, outcomes: Dict[int, Outcome]) -> int:
-    """How many different states of a plan aren't good, by the outcomes of states' numbers. A state
-    without an outcome doesn't count."""
-    return len(
-        {
-            state.trial
-            for state in plan.states
-            if state.number in outcomes and outcomes[state.number].result != GOOD
-        }
-    )
-
-
 def is_overwriting(trials: Trials, findings: Findings, group: Group) -> bool:
-    """Whether the kept micro-operation of a group is a write that replaces bytes of a file, other
-    than zeros, by different ones. False if the group kept none. The trees of the prefixes before
-    and after it are compared, also if these weren't tried. Errors as in Trials.trees()."""
+    """Whether the micro-operation that a group's pair kept is a write that replaces bytes of a
+    file, other than zeros, by different ones. False if the pair kept none. The trees of the
+    prefixes before and after it are compared, also if they weren't tried. Exceptions as in
+    Trials.trees()."""
     plan, place = findings.plan, group.pair.kept
     if place is None or plan.operations[place].kind != 'write_block':
         return False
@@ -194,8 +197,9 @@ def is_overwriting(trials: Trials, findings: Findings, group: Group) -> bool:
 
 
 def has_replaced_bytes(before: SparseBytes, after: SparseBytes) -> bool:
-    """Whether a file has other bytes `after` a change in the place of bytes that weren't zeros
-    `before` it. Bytes past the new end don't count."""
+    """Whether a change replaced bytes of a file, other than zeros, by different ones: `before` has
+    the file's bytes before the change, `after` those after it. Bytes past the new end don't
+    count."""
     for number, old_page in before.data_pages():
         new_page = after.read(number * PAGE_BYTES, PAGE_BYTES)
         is_same = old_page == new_page

@@ -122,10 +122,8 @@ class Results:
     @property
     def is_part(self) -> bool:
         """Whether all crash states were asked for, but only some are tried."""
-        all_states = self.plan.all_states
-        return all_states is not None and (
-            self.chosen_numbers is not None or not all_states.are_listed
-        )
+        has_all = self.plan.has_all_states and self.chosen_numbers is None
+        return self.plan.all_states is not None and not has_all
 
     @property
     def wanted_numbers(self) -> List[int]:

@@ -222,6 +222,11 @@ class Plan:
         return self.listed[: self.all_states.families] if self.all_states else self.listed
 
     @property
+    def has_all_states(self) -> bool:
+        """Whether each different crash state is listed. False if only families were asked for."""
+        return self.all_states is not None and self.all_states.are_listed
+
+    @property
     def first_place(self) -> int:
         """The session's place of the first micro-operation; 0 if the plan has none."""
         return self.operations[0].place if self.operations else 0

@@ -1,0 +1,83 @@
+"""The outcomes of sets of micro-operations: of sets that were tried, and of sets that leave what a
+tried state leaves, for which COMMAND isn't run."""
+
+from __future__ import annotations
+
+from typing import Dict, Optional, Tuple
+
+from crashfs_tools.checker.running.runner import GOOD, Outcome
+from crashfs_tools.checker.states.plan import Plan, PlannedTrace
+from crashfs_tools.reading import parse_trace
+from crashfs_tools.reading.states import Digest, States
+
+from .groups import Findings
+
+
+class EqualSets:
+    """The outcomes of a plan's sets by what they leave, for plans of which all crash states were
+    asked for. If these are listed and the check was not stopped, each allowed set leaves a tree
+    that was tried."""
+
+    def __init__(self, planned: PlannedTrace, findings: Findings) -> None:
+        """Reads the plan's trace by the second reading, and computes what each tried state leaves,
+        of equal states once. Outcomes that the findings get later aren't seen. ReadingFault if the
+        second reading refuses the trace, OSError if its file is gone."""
+        self.plan = findings.plan
+        with open(planned.trace, 'rb') as file:
+            self.trees = States(parse_trace(file.read()))
+        # What each set leaves, if it was asked before; and the outcomes of what was tried.
+        self.left_by_sets: Dict[int, Tuple[Digest, int]] = {}
+        self.outcomes: Dict[Tuple[Digest, int], Outcome] = {}
+        first_numbers = {state.trial: state.number for state in reversed(self.plan.states)}
+        for number in first_numbers.values():
+            outcome = findings.outcomes_by_state.get(number)
+            if outcome is not None:
+                self.outcomes[self.tree_and_says(self.plan.kept[number])] = outcome
+
+    def outcome(self, kept_set: int) -> Optional[Outcome]:
+        """The outcome of a tried state that is equal to what an allowed set leaves; None if no
+        tried state is."""
+        return self.outcomes.get(self.tree_and_says(kept_set))
+
+    def tree_and_says(self, kept_set: int) -> Tuple[Digest, int]:
+        """What a set leaves: its tree, as a digest, and how many lines are acknowledged. It is
+        computed once for each set."""
+        if kept_set not in self.left_by_sets:
+            tree = self.trees.digest(kept_set)
+            self.left_by_sets[kept_set] = tree, self.trees.count_says(kept_set)
+        return self.left_by_sets[kept_set]
+
+
+def find_equal_sets(planned: PlannedTrace, findings: Findings) -> Optional[EqualSets]:
+    """The EqualSets of a plan and its findings, if all crash states were asked for, else None.
+    Exceptions as in EqualSets()."""
+    return None if findings.plan.all_states is None else EqualSets(planned, findings)
+
+
+def outcomes_by_set(plan: Plan, outcomes_by_state: Dict[int, Outcome]) -> Dict[int, Outcome]:
+    """A new map of outcomes by the sets of a plan, from outcomes by the numbers of its states."""
+    return {plan.kept[number]: outcome for number, outcome in outcomes_by_state.items()}
+
+
+def outcome_of_set(
+    kept_set: int, outcomes: Dict[int, Outcome], equal_sets: Optional[EqualSets]
+) -> Optional[Outcome]:
+    """The outcome that `outcomes` has for a set or, if equal_sets is given, that of a tried state
+    that is equal to what the set leaves. None if neither is known."""
+    if kept_set in outcomes or equal_sets is None:
+        return outcomes.get(kept_set)
+    return equal_sets.outcome(kept_set)
+
+
+def is_failing(kept_set: int, outcomes: Dict[int, Outcome]) -> bool:
+    """Whether a set was tried, and COMMAND failed or gave no answer, by the outcomes of sets."""
+    outcome = outcomes.get(kept_set)
+    return outcome is not None and outcome.result != GOOD
+
+
+def count_failing_states(plan: Plan, outcomes: Dict[int, Outcome]) -> int:
+    """How many different states of a plan fail or gave no answer, by the outcomes of sets. States
+    whose set has no outcome don't count."""
+    return len(
+        {state.trial for state in plan.states if is_failing(plan.kept[state.number], outcomes)}
+    )
