@@ -3,13 +3,14 @@
 from __future__ import annotations
 
 import argparse
+import sys
 from pathlib import Path
 from typing import Dict, List, Optional
 
 from .completions import completion_files
+from .made_files import outdated_lines, write_outdated_files
 from .pages import PRINTED_LISTS, page_with_part
 from .results import PAGE, results_part
-from .sources import TOP
 
 ABOUT = """\
 Writes what is made from the sources: tools/completions, from the options of the commands, and the
@@ -21,27 +22,23 @@ Exit status 0, or 1 with --check if a file is missing or older than the sources.
 
 
 def current_texts() -> Dict[Path, str]:
-    """The text that each file that is made from the sources should have now, by its path.
-    ValueError if docs/RESULTS.md doesn't have its marks. OSError, KeyError or ValueError if a
-    source isn't there, or isn't as completion_files() and results_part() read it."""
+    """The text that each file that is made from the sources should have now, by its path. Nothing
+    is written. ValueError if docs/RESULTS.md doesn't have its marks; OSError, KeyError or
+    ValueError as completion_files() and results_part()."""
     return {**completion_files(), PAGE: page_with_part(PAGE.read_text('utf-8'), results_part())}
 
 
-def outdated_files(texts: Dict[Path, str]) -> List[Path]:
-    """The paths of `texts` at which there is no file, or one with another text; in its order.
-    UnicodeDecodeError for a file that isn't UTF-8."""
-    return [
-        path
-        for path, text in texts.items()
-        if not path.exists() or path.read_text(encoding='utf-8') != text
-    ]
+def outdated_source_lines() -> List[str]:
+    """A line for each file that is missing, or isn't as current_texts() has it. Errors as
+    current_texts() and outdated_lines()."""
+    return outdated_lines(current_texts(), 'the sources', 'inventories')
 
 
 def main(words: Optional[List[str]] = None) -> int:
     """Runs `inventories` with these words, or with those of its command line if they are None.
-    Returns the status: 1 only if --check finds a file that differs. With --print it ignores
-    --check. A file that is as it should be isn't written again. A wrong word ends the program
-    (SystemExit). Errors as current_texts(), before anything is written."""
+    Returns the status: 1 only if --check finds an outdated file. With --print, --check is ignored.
+    A wrong word ends the program (SystemExit). Errors as current_texts() before anything is
+    written, and as write_outdated_files()."""
     parser = argparse.ArgumentParser(
         prog='inventories', description=ABOUT, formatter_class=argparse.RawDescriptionHelpFormatter
     )
@@ -53,11 +50,9 @@ def main(words: Optional[List[str]] = None) -> int:
     if options.print:
         print(PRINTED_LISTS[options.print]())
         return 0
-    texts = current_texts()
-    outdated = outdated_files(texts)
-    for path in outdated:
-        if options.check:
-            print(f'{path.relative_to(TOP)} is older than the sources: run tools/inventories')
-        else:
-            path.write_text(texts[path], encoding='utf-8')
-    return 1 if options.check and outdated else 0
+    if not options.check:
+        write_outdated_files(current_texts())
+        return 0
+    lines = outdated_source_lines()
+    sys.stdout.writelines(f'{line}\n' for line in lines)
+    return 1 if lines else 0

@@ -6,7 +6,7 @@ from __future__ import annotations
 import argparse
 import re
 from dataclasses import dataclass
-from typing import Dict, List, Optional, Tuple
+from typing import Dict, Iterator, List, Optional, Tuple
 
 from crashfs_tools.campaign import options as campaign_options
 from crashfs_tools.checker import command_line as check_options
@@ -19,6 +19,15 @@ from .sources import TOP
 SOURCE = TOP / 'crates' / 'cs_command_line' / 'src' / 'commands.rt'
 # The values of options that have a list of them in the source.
 CHOICES = {'client': ('plan9', 'linux'), 'profile': ('blocks', 'ordered', 'journal')}
+ARGUMENT = r'(?P<about>"[^"]*"|\w+)'
+# The calls of SOURCE that add an option, as patterns of its name, of the name of its value and of
+# the argument for its help. What a call doesn't have as an argument is after its pattern.
+OPTION_CALLS: Tuple[Tuple[str, Dict[str, str]], ...] = (
+    (rf'flag\(alloc, "(?P<name>[\w-]+)", {ARGUMENT}', {}),
+    (rf'value_argument\(alloc, "(?P<name>[\w-]+)", "(?P<value>[\w-]+)", {ARGUMENT}', {}),
+    (rf'count_argument\(alloc, "(?P<name>[\w-]+)", {ARGUMENT}', {'value': 'N'}),
+    (rf'users_argument\(alloc, {ARGUMENT}', {'name': 'users', 'value': 'FILE'}),
+)
 TOOLS = {
     'crashfs-campaign': campaign_options.make_parser,
     'crashfs-check': check_options.make_parser,
@@ -28,8 +37,8 @@ TOOLS = {
 
 @dataclass(frozen=True)
 class Option:
-    """An option: its names and its help; if it takes a value, the name of this in the help, and the
-    only values that are accepted, if there are such."""
+    """An option: its names and its help. If it takes a value, `value` is the name of the value in
+    the help, and `choices` has the only values that are accepted; any is if it is empty."""
 
     names: Tuple[str, ...]
     help: str
@@ -42,8 +51,8 @@ VERSION = Option(('-V', '--version'), 'Prints the version')
 
 
 def options_of_tool(command: str) -> List[Option]:
-    """The options that the parser of a command of TOOLS takes, in the order of its --help, without
-    those that this hides. KeyError for any other command."""
+    """The options that a command of TOOLS has in its --help, in their order there. KeyError for any
+    other command."""
     # argparse has no public list of a parser's options. A test looks for each in --help.
     actions = TOOLS[command]()._actions
     return [
@@ -54,8 +63,8 @@ def options_of_tool(command: str) -> List[Option]:
 
 
 def option_from_action(action: argparse.Action) -> Option:
-    """An option from the action by which a parser has it. Its value is named as in --help, by the
-    metavar or else by the attribute in which it is kept, in capitals; a flag has no value."""
+    """The option of an action of a parser. The name of its value is the metavar or, without one,
+    the attribute for the value, in capitals; a flag has no value."""
     value = str(action.metavar or action.dest).upper() if action.nargs != 0 else None
     choices = tuple(str(choice) for choice in action.choices or ())
     return Option(tuple(action.option_strings), first_help_sentence(action), value, choices)
@@ -71,46 +80,47 @@ def first_help_sentence(action: argparse.Action) -> str:
 
 def functions_of_program() -> Dict[str, str]:
     """The functions of SOURCE by name, each with the text from its name to the head of the next
-    function; the comment above that head is a part of it. OSError if there is no such file."""
+    function, the next one's comment included. OSError if there is no such file."""
     parts = re.split(r'^(?:pub )?fn (\w+)', SOURCE.read_text('utf-8'), flags=re.M)
     return dict(zip(parts[1::2], parts[2::2]))
 
 
 def text_of_argument(body: str, argument: str) -> str:
     """The text that an argument means in a function's body. The argument is a literal, with its
-    quotes, or the name of a variable that the body sets to one: the first such line counts. Empty
-    if the body sets no such variable."""
+    quotes, or a variable that the body sets to a literal: the first such line counts. Empty if the
+    body doesn't set the variable so."""
     if argument.startswith('"'):
         return argument.strip('"')
     literal = re.search(rf'let {argument} =\s*"([^"]*)"', body)
     return literal[1] if literal else ''
 
 
+def own_options(body: str) -> Iterator[Option]:
+    """The options that a function of SOURCE adds in its own body, not by the functions that it
+    calls; in the order of OPTION_CALLS, then of the body."""
+    found = (
+        {**fixed, **match.groupdict()}
+        for pattern, fixed in OPTION_CALLS
+        for match in re.finditer(pattern, body)
+    )
+    for parts in found:
+        name, help_text = parts['name'], text_of_argument(body, parts['about'])
+        yield Option((f'--{name}',), help_text, parts.get('value'), CHOICES.get(name, ()))
+
+
 def options_in(function: str, functions: Dict[str, str]) -> List[Option]:
-    """The options that a function of SOURCE adds, by itself and by the functions `with_..` that it
-    calls: those come last, and the others are in the order of the four kinds below. `functions` are
-    those of functions_of_program(). KeyError if they lack the function, or one that it calls."""
-    body, options = functions[function], []
-    argument = r'("[^"]*"|\w+)'
-    for name, about in re.findall(rf'flag\(alloc, "([\w-]+)", {argument}', body):
-        options.append(Option((f'--{name}',), text_of_argument(body, about)))
-    for name, value, about in re.findall(
-        rf'value_argument\(alloc, "([\w-]+)", "([\w-]+)", {argument}', body
-    ):
-        choices = CHOICES.get(name, ())
-        options.append(Option((f'--{name}',), text_of_argument(body, about), value, choices))
-    for name, about in re.findall(rf'count_argument\(alloc, "([\w-]+)", {argument}', body):
-        options.append(Option((f'--{name}',), text_of_argument(body, about), 'N'))
-    for about in re.findall(rf'users_argument\(alloc, {argument}', body):
-        options.append(Option(('--users',), text_of_argument(body, about), 'FILE'))
-    for called in re.findall(r'\b(with_\w+)\(', body):
-        options += options_in(called, functions) if called != function else []
-    return options
+    """The options that a function of SOURCE adds: own_options(), then those of the functions
+    `with_..` that it calls. `functions` are those of functions_of_program(). KeyError if they lack
+    the function, or one that it calls; RecursionError if two call each other."""
+    body = functions[function]
+    called = [name for name in re.findall(r'\b(with_\w+)\(', body) if name != function]
+    shared_options = [option for name in called for option in options_in(name, functions)]
+    return [*own_options(body), *shared_options]
 
 
 def command_help(command: str) -> str:
-    """What the program's help says of a command; empty if it says nothing. KeyError if there is no
-    such command. SOURCE is read each time."""
+    """What the program's help says of a command; empty if it says nothing. SOURCE is read each
+    time. KeyError if it has no such command, OSError if it can't be read."""
     about = re.search(r'\.about\("([^"]*)"\)', functions_of_program()[f'{command}_command'])
     return about[1] if about else ''
 

@@ -2,6 +2,7 @@
 
 from __future__ import annotations
 
+import textwrap
 from pathlib import Path
 from typing import Dict, List
 
@@ -28,21 +29,22 @@ def option_names(options: List[Option]) -> str:
 
 
 def wrapped_lines(words: str, indent: str) -> str:
-    """A text of words as lines that begin with the indent. A line has at most COLUMNS letters,
-    unless a single word needs more. Without words it is the indent."""
-    lines, line = [], ''
-    for word in words.split():
-        if line and len(indent) + len(line) + 1 + len(word) > COLUMNS:
-            lines.append(indent + line)
-            line = ''
-        line = f'{line} {word}'.strip()
-    return '\n'.join([*lines, indent + line])
+    """A text of words as lines that begin with the indent. A line has at most COLUMNS characters,
+    unless a single word needs more. Empty without words."""
+    return textwrap.fill(
+        words,
+        COLUMNS,
+        initial_indent=indent,
+        subsequent_indent=indent,
+        break_long_words=False,
+        break_on_hyphens=False,
+    )
 
 
 def bash_value_branches(options: List[Option]) -> str:
-    """The branches of a `case` of bash on the word before the one to complete, for options that
-    take a value. A branch offers the only values that are accepted; if an option has no such list,
-    its branch returns, and bash offers files. Empty if no option takes a value."""
+    """The branches of a `case` of bash for options that take a value; the `case` is on the word
+    before the word to complete. The branch of an option with choices offers these; the branch of
+    the others returns, and bash offers files. Empty if no option takes a value."""
     branches = [
         f'        {" | ".join(option.names)}) words=\'{" ".join(option.choices)}\' ;;'
         for option in options
@@ -57,8 +59,9 @@ def bash_value_branches(options: List[Option]) -> str:
 
 
 def bash_of_tool(command: str) -> str:
-    """The text of the completion file of a command of TOOLS for bash; KeyError for any other
-    command. It offers the command's options; after `--` files only."""
+    """The text of the completion file of a command of TOOLS for bash: it offers the command's
+    options, after an option its choices, and after `--` only files. KeyError for any other
+    command."""
     options, name = options_of_tool(command), command.replace('-', '_')
     return f'''\
 # Completion for bash of {command}. {MADE}
@@ -84,8 +87,8 @@ complete -o default -F _{name} {command}
 
 def bash_of_program() -> str:
     """The text of the completion file of crashfs for bash: first it offers the commands, then the
-    options of the command that is given. After an option it offers the values that the last command
-    with an option of this name accepts. Errors as commands_of_program()."""
+    options of the command that is given, and after an option its choices. If commands have options
+    of one name, the choices are those of the last command. Errors as commands_of_program()."""
     commands = commands_of_program()
     option_by_name = {
         name: option for options in commands.values() for option in options for name in option.names
@@ -122,14 +125,14 @@ complete -o default -F _crashfs crashfs
 
 
 def quoted_text(text: str) -> str:
-    """A text as it is within single quotes of zsh and fish, without these quotes: a backslash is
+    """A text as zsh and fish take it between single quotes; without the quotes. A backslash is
     doubled. An apostrophe would end the quotes, so it becomes a typographic one."""
     return text.replace('\\', '\\\\').replace("'", "’")
 
 
 def zsh_option(option: Option) -> str:
-    """An option as `_arguments` of zsh takes it: after one of its names the others aren't offered.
-    Square brackets of the help become round ones. A value without a list of choices is completed as
+    """An option as `_arguments` of zsh takes it: after one of its names the other names aren't
+    offered. Square brackets of the help become round ones. A value without choices is completed as
     a file."""
     help_text = quoted_text(option.help).replace('[', '(').replace(']', ')').replace(':', '\\:')
     value_text = ''
@@ -143,27 +146,34 @@ def zsh_option(option: Option) -> str:
 
 
 def zsh_of_tool(command: str) -> str:
-    """The text of the completion file of a command of TOOLS for zsh; KeyError for any other
-    command. After `--` it offers files only, by the option -S of `_arguments`."""
+    """The text of the completion file of a command of TOOLS for zsh: it offers the command's
+    options and files, after `--` only files, by the option -S of `_arguments`. KeyError for any
+    other command."""
     lines = ' \\\n    '.join(map(zsh_option, options_of_tool(command)))
     return f"#compdef {command}\n# {MADE}\n_arguments -S \\\n    {lines} \\\n    '*:file:_files'\n"
 
 
+def zsh_command_branch(command: str, options: List[Option]) -> str:
+    """The branch of a `case` of zsh for a command of crashfs: it offers these options and --help,
+    and files as TRACE."""
+    lines = ' \\\n                '.join(map(zsh_option, [HELP, *options]))
+    return (
+        f"        {command})\n            _arguments \\\n                {lines} \\\n"
+        f"                '1:TRACE:_files' ;;"
+    )
+
+
 def zsh_of_program() -> str:
-    """The text of the completion file of crashfs for zsh. The first word is a command; after any
-    command but `help`, a file is offered as TRACE. Errors as commands_of_program()."""
+    """The text of the completion file of crashfs for zsh. It offers the commands as the first word;
+    after a command, but not after `help`, its options, and files as TRACE. Errors as
+    commands_of_program()."""
     commands = commands_of_program()
-    branches = []
-    for command, options in commands.items():
-        lines = ' \\\n                '.join(map(zsh_option, [HELP, *options]))
-        branches.append(
-            f"        {command})\n            _arguments \\\n                {lines} \\\n"
-            f"                '1:TRACE:_files' ;;"
-        )
     command_lines = '\n'.join(
         f"        '{command}:{quoted_text(command_help(command))}'" for command in commands
     )
-    branch_lines = '\n'.join(branches)
+    branch_lines = '\n'.join(
+        zsh_command_branch(command, options) for command, options in commands.items()
+    )
     return f'''\
 #compdef crashfs
 # {MADE}
@@ -185,9 +195,9 @@ fi
 
 
 def fish_option(command: str, option: Option, condition: str = '') -> str:
-    """A line for fish that offers an option of a command. The condition is a text ` -n ..` that
-    says when the option is offered; always if it is empty. A value without a list of choices is
-    completed as a file."""
+    """A line for fish that offers an option of a command. The condition, a text ` -n ..`, says when
+    the option is offered; if it is empty, always. A value without choices is completed as a
+    file."""
     names = ' '.join(
         f'-l {name[2:]}' if name.startswith('--') else f'-s {name[1:]}' for name in option.names
     )
@@ -198,15 +208,15 @@ def fish_option(command: str, option: Option, condition: str = '') -> str:
 
 
 def fish_of_tool(command: str) -> str:
-    """The text of the completion file of a command of TOOLS for fish: a line for each option.
-    KeyError for any other command."""
+    """The text of the completion file of a command of TOOLS for fish: a comment, and a line for
+    each option. KeyError for any other command."""
     lines = [fish_option(command, option) for option in options_of_tool(command)]
     return '\n'.join([f'# {MADE}', *lines]) + '\n'
 
 
 def fish_of_program() -> str:
-    """The text of the completion file of crashfs for fish. It offers the commands until one is
-    given, then the options of that command. Errors as commands_of_program()."""
+    """The text of the completion file of crashfs for fish. It offers the commands until the line
+    has one, then the options of that command; --help always. Errors as commands_of_program()."""
     lines = [
         f'# {MADE}',
         fish_option('crashfs', HELP),
@@ -223,8 +233,8 @@ def fish_of_program() -> str:
 
 
 def completion_files() -> Dict[Path, str]:
-    """The texts of the completion files, for each command and each shell, by their paths. No file
-    is written. KeyError or OSError as commands_of_program()."""
+    """The texts of the completion files of all four commands for each shell, by their paths. No
+    file is written. KeyError or OSError as commands_of_program()."""
     texts = {
         FOLDER / 'crashfs.bash': bash_of_program(),
         FOLDER / 'crashfs.zsh': zsh_of_program(),

@@ -28,7 +28,7 @@ MOST_CALLS = 4
 
 
 def table_cell(text: str) -> str:
-    """A text as a cell of a Markdown table."""
+    """A text as a cell of a Markdown table, which a `|` would end."""
     return text.replace('|', '\\|')
 
 
@@ -59,7 +59,8 @@ def lines_of_tool_tests() -> List[str]:
 
 
 def lines_of_cases() -> List[str]:
-    """The lines that list tools/tests/data/cases: a heading and a table for each folder."""
+    """The lines that list tools/tests/data/cases: a heading and a table for each folder. OSError if
+    it isn't there."""
     lines: List[str] = []
     for area in case_areas():
         lines += ['', f'### tools/tests/data/cases/{area}', '', '| Example | File |', '|---|---|']
@@ -69,7 +70,7 @@ def lines_of_cases() -> List[str]:
 
 def lines_of_edits() -> List[str]:
     """The lines that list the must-fail edits: a heading, and a table with a row for each crate
-    that has some."""
+    that has edits. OSError as crate_names()."""
     lines = [
         '',
         '## Wrong bodies that the prover refuses',
@@ -85,26 +86,26 @@ def lines_of_edits() -> List[str]:
 
 
 def tests_list() -> str:
-    """The list of all tests and of must-fail edits, as Markdown: the crates' tests first, then
-    those that are data, those of the tools, and the edits. StopIteration as tests_in(), SyntaxError
-    as tests_of_tools()."""
+    """The list of all tests and of must-fail edits, as Markdown: the tests of the crates first,
+    then the cases, the tests of the tools, and the edits. StopIteration as tests_in(), SyntaxError
+    as tests_of_tools(), OSError if a source can't be read."""
     lines = [line for crate in crate_names() for line in lines_of_crate_tests(crate)]
     lines += [*lines_of_cases(), *lines_of_tool_tests(), *lines_of_edits()]
     return '\n'.join(lines).strip()
 
 
 def calls_text(calls: List[str]) -> str:
-    """The names of the first MOST_CALLS of some calls, and how many more there are; empty if there
-    are no calls."""
+    """The names of the first MOST_CALLS calls, and how many more there are; empty if there are no
+    calls."""
     names = ', '.join(f'`{call}`' for call in calls[:MOST_CALLS])
     count_left = len(calls) - MOST_CALLS
     return f'{names} and {count_left} more' if count_left > 0 else names
 
 
 def words_list() -> str:
-    """The list of the words of `specs/` of all crates, as Markdown: what each says, its file, and
-    the calls whose contracts cite it. Crates without words are left out; words that nothing cites
-    aren't."""
+    """The list of the words of `specs/` of all crates, as Markdown: what each word says, its file,
+    and the calls whose contracts cite it, if any do. Crates without words are left out. OSError if
+    a source can't be read."""
     calls_by_crate, lines = citations(), []
     for crate in crate_names():
         words, calls = words_of(crate), calls_by_crate.get(crate, {})
@@ -125,8 +126,8 @@ def words_list() -> str:
 
 
 def page_with_part(page: str, part: str) -> str:
-    """A page with this part between its marks BEGIN and END, in the place of what is there.
-    ValueError if it doesn't have each mark once, in this order."""
+    """A page with this part between the marks BEGIN and END, in the place of what is there.
+    ValueError unless the page has each mark once, BEGIN first."""
     made_part = re.compile(f'{re.escape(BEGIN)}.*{re.escape(END)}', re.DOTALL)
     new_page, count = made_part.subn(lambda _: f'{BEGIN}\n\n{part}\n\n{END}', page)
     if (count, page.count(BEGIN), page.count(END)) != (1, 1, 1):

@@ -20,9 +20,9 @@ Row = Dict[str, Any]
 
 
 def results_part() -> str:
-    """The part of the page that is made from DATA: the table of all sessions, and the first failure
-    of each store. OSError if DATA can't be read, ValueError if it is no JSON, KeyError if a row
-    lacks a key that is used."""
+    """The part of PAGE that is made from DATA: the table of all sessions, and the first failure of
+    each store. OSError if DATA can't be read, ValueError if it is no JSON, KeyError if a row lacks
+    a key that is used."""
     rows: List[Row] = json.loads(DATA.read_text('utf-8'))
     return '\n'.join([*table_lines(rows), *failure_lines(rows)])
 
@@ -47,29 +47,24 @@ def row_cells(row: Row) -> Iterator[str]:
     yield states_cell(row)
     yield failing_cell(row)
     for profile in PROFILES:
-        yield number_text(row['profiles'].get(profile, 0)) if row['failing'] else ''
+        yield f'{row["profiles"].get(profile, 0):,}' if row['failing'] else ''
     for file_system in DISKS:
         yield disk_cell(row, file_system)
 
 
-def number_text(count: int) -> str:
-    """A number as the page writes it."""
-    return f'{count:,}'
-
-
 def states_cell(row: Row) -> str:
-    """How many different states a session has, and in brackets how many sets leave them, or
-    `uncounted`. If not all states were tried, it says how many were."""
-    sets = 'uncounted' if row['sets'] is None else number_text(row['sets'])
+    """How many different states were tried of a session, which is all of them unless the cell has
+    the word `tried`; in brackets how many sets leave a state, or `uncounted`."""
+    sets = 'uncounted' if row['sets'] is None else f'{row["sets"]:,}'
     if row['is_whole']:
         return f'{row["tried"]:,} ({sets})'
     return f'{row["tried"]:,} tried (of {sets})'
 
 
 def failing_cell(row: Row) -> str:
-    """In how many different states the recovery fails, with the first word of the cause; if there
-    are several such words, with how many states have each, the commonest first. `none` if it fails
-    in no state."""
+    """In how many different states the recovery fails, with the first word of the cause. If causes
+    have different first words, each word is there with its number of states, the commonest first.
+    `none` if the recovery fails in no state."""
     if not row['failing']:
         return 'none'
     causes = sorted(row['causes'].items(), key=lambda word_and_count: -int(word_and_count[1]))
@@ -80,8 +75,8 @@ def failing_cell(row: Row) -> str:
 
 def disk_cell(row: Row, file_system: str) -> str:
     """In how many of the different trees on disks of a file system the recovery fails, or `none`;
-    in brackets how many of the failing ones are outside the model, if any are. Empty if the session
-    wasn't tried on it."""
+    in brackets how many of the failing trees are outside the model, if any are. Empty if the
+    session wasn't tried on this file system."""
     counts = row['disks'].get(file_system)
     if counts is None:
         return ''
@@ -90,8 +85,8 @@ def disk_cell(row: Row, file_system: str) -> str:
 
 
 def failure_lines(rows: List[Row]) -> Iterator[str]:
-    """The lines below the table: for each store with a session that fails, the report of the first
-    such session, as far as DATA has it. A store that doesn't fail isn't named."""
+    """The lines below the table: a heading, and for each store with a failing session the report of
+    the first such session, as far as DATA has the report. Other stores aren't named."""
     yield from ('', '## The first failure of each store', '')
     stores: Set[str] = set()
     for row in rows:

@@ -48,15 +48,15 @@ def crate_names() -> List[str]:
 
 
 def crate_files(crate: str, folder: str, suffix: str) -> List[Path]:
-    """The files whose names end in a suffix, in a folder of a crate and the folders in it; sorted.
-    Empty if the crate has no such folder."""
+    """The files whose names end in a suffix, in a folder of a crate and the folders below it;
+    sorted. Empty if the crate has no such folder."""
     return sorted((CRATES / crate / folder).rglob(f'*{suffix}'))
 
 
 def comment_above(lines: List[str], index: int, mark: str) -> str:
-    """The comment that ends above the line with this index, as one text; each line of the comment
-    begins with the mark. Attributes of one line between the two are passed over. Empty if there is
-    no comment."""
+    """The comment that ends above the line with this index, as one text, without the mark with
+    which each of its lines begins. Attributes of one line between the comment and that line are
+    passed over. Empty if there is no comment."""
     comment: List[str] = []
     for line in reversed(lines[:index]):
         text = line.strip()
@@ -81,8 +81,8 @@ def tests_in(path: Path) -> List[DescribedTest]:
 
 
 def read_head_comment(path: Path) -> str:
-    """The comment `//!` that a source file begins with, as one text; empty if it begins otherwise.
-    OSError if it can't be read."""
+    """The comment `//!` that a source file begins with, as one text; empty if the file begins
+    otherwise. OSError if it can't be read."""
     comment: List[str] = []
     for line in path.read_text(encoding='utf-8').splitlines():
         if not line.startswith('//!'):
@@ -92,8 +92,8 @@ def read_head_comment(path: Path) -> str:
 
 
 def tests_of_tools() -> List[DescribedTest]:
-    """The files of the tools' tests, sorted, each with its docstring as one line; the sentence is
-    empty if it has none. SyntaxError if one isn't Python."""
+    """The files of the tools' tests, sorted, each with its docstring, as one line, as its sentence;
+    a file without a docstring has an empty sentence. SyntaxError if a file isn't Python."""
     tests: List[DescribedTest] = []
     for path in sorted(TOOLS_TESTS.glob('test_*.py')):
         text = ast.get_docstring(ast.parse(path.read_text(encoding='utf-8'))) or ''
@@ -102,7 +102,8 @@ def tests_of_tools() -> List[DescribedTest]:
 
 
 def case_areas() -> List[str]:
-    """The names of the folders of CASES, sorted: each is an area of what is tested."""
+    """The names of the folders of CASES, sorted: each is an area of what is tested. OSError if
+    CASES isn't there."""
     return sorted(path.name for path in CASES.iterdir() if path.is_dir())
 
 
@@ -122,8 +123,9 @@ def edits_of(crate: str) -> List[str]:
 
 
 def words_in(path: Path, file: str) -> List[Word]:
-    """The public words of a file of specs/, in their order, with `file` as the name of their file.
-    The sentence of a word without a comment is empty. OSError if the file can't be read."""
+    """The public words of the file of specs/ at a path, in their order; `file` is the name of the
+    file that they get. The sentence of a word without a comment is empty. OSError if the file can't
+    be read."""
     lines = path.read_text(encoding='utf-8').splitlines()
     words: List[Word] = []
     for index, line in enumerate(lines):
@@ -134,8 +136,8 @@ def words_in(path: Path, file: str) -> List[Word]:
 
 
 def words_of(crate: str) -> List[Word]:
-    """The public words of a crate's `specs/`: files are sorted, and words in the order of their
-    file. Empty if the crate has no such folder."""
+    """The public words of a crate's `specs/`, by file, sorted, and in the order of the file. Empty
+    if the crate has no such folder."""
     folder = CRATES / crate / 'specs'
     return [
         word
@@ -173,30 +175,41 @@ def contract_text(lines: List[str], indent: str) -> str:
     return '\n'.join(clauses)
 
 
+def citations_in(path: Path, crate: str) -> Iterator[Tuple[str, str, str]]:
+    """Each citation of a word by a contract in a file of a crate: the word's crate, the word, and
+    the call with this contract. A call that cites a word of another crate has the name of its own
+    crate before it. A contract may cite a word more than once. OSError as contracts_in()."""
+    word_crates = crates_of_words(crate, path.read_text(encoding='utf-8'))
+    cited = ((call, word) for call, text in contracts_in(path) for word in IDENTIFIER.findall(text))
+    for call, word in cited:
+        if word in word_crates:
+            word_crate = word_crates[word]
+            yield word_crate, word, call if word_crate == crate else f'{crate} {call}'
+
+
 def citations() -> Dict[str, Dict[str, List[str]]]:
-    """By crate and by its word, the calls of all crates whose contracts cite the word. A call of
-    another crate has that crate's name before it. What a contract cites by a module's name, and not
-    by the word's own, isn't found. All sources are read: OSError if one can't be."""
+    """By crate and by its word, the calls of all crates whose contracts cite the word, each once,
+    as citations_in() has them. A word that a contract has behind a module's name isn't found. All
+    sources are read: OSError if one can't be read."""
+    found = (
+        citation
+        for crate in crate_names()
+        for path in crate_files(crate, 'src', '.rt')
+        for citation in citations_in(path, crate)
+    )
     calls: Dict[str, Dict[str, List[str]]] = {}
-    for crate in crate_names():
-        for path in crate_files(crate, 'src', '.rt'):
-            word_crates = crates_of_words(crate, path.read_text(encoding='utf-8'))
-            for call, contract in contracts_in(path):
-                for word in dict.fromkeys(IDENTIFIER.findall(contract)):
-                    if word in word_crates:
-                        word_calls = calls.setdefault(word_crates[word], {}).setdefault(word, [])
-                        name = call if word_crates[word] == crate else f'{crate} {call}'
-                        if name not in word_calls:
-                            word_calls.append(name)
+    for word_crate, word, call in dict.fromkeys(found):
+        calls.setdefault(word_crate, {}).setdefault(word, []).append(call)
     return calls
 
 
 def crates_of_words(crate: str, text: str) -> Dict[str, str]:
-    """The crate of each word that a source file of a crate imports by its name, as `ghost use
-    ..{word, word}`. Words that are imported in any other way are left out."""
-    word_crates: Dict[str, str] = {}
-    for match in re.finditer(r'ghost use (?:Rattle\.)?(\w+)[.:]+specs[\w.:]*\.\{([^}]*)\}', text):
-        word_crate = crate if match.group(1) == 'crate' else match.group(1)
-        for word in match.group(2).split(','):
-            word_crates[word.strip()] = word_crate
-    return word_crates
+    """The crate of each word that a source file imports by its name, as `ghost use ..{word, word}`.
+    `text` is that of the file, and `crate` the file's own crate. Words that are imported in any
+    other way are left out."""
+    imports = re.findall(r'ghost use (?:Rattle\.)?(\w+)[.:]+specs[\w.:]*\.\{([^}]*)\}', text)
+    return {
+        word.strip(): crate if word_crate == 'crate' else word_crate
+        for word_crate, words in imports
+        for word in words.split(',')
+    }

@@ -4,19 +4,10 @@ from __future__ import annotations
 
 from typing import List
 
-from inventory.command import current_texts, outdated_files
+from inventory.command import outdated_source_lines
 from inventory.sources import crate_names, edits_of, tests_in, tests_of_tools
 
 from .sources import CRATES, path_from_top
-
-
-def outdated_file_faults() -> List[str]:
-    """A sentence for each file that is missing, or isn't as `tools/inventories` would write it now.
-    Errors as current_texts() and outdated_files()."""
-    return [
-        f'{path_from_top(path)} is older than the sources: run tools/inventories'
-        for path in outdated_files(current_texts())
-    ]
 
 
 def undescribed_test_faults() -> List[str]:
@@ -44,6 +35,7 @@ def stray_edit_faults() -> List[str]:
 
 
 def made_page_faults() -> List[str]:
-    """A sentence for each fault of what is made from the sources, or of the sources that it is made
-    from. Errors as the three functions above."""
-    return [*outdated_file_faults(), *undescribed_test_faults(), *stray_edit_faults()]
+    """A sentence for each outdated file of tools/inventories, each test without a sentence, and
+    each stray edit. Errors as outdated_source_lines(), undescribed_test_faults() and
+    stray_edit_faults()."""
+    return [*outdated_source_lines(), *undescribed_test_faults(), *stray_edit_faults()]

@@ -1,12 +1,13 @@
 """The parts of pages that are made from the sources."""
 
+import os
 import pathlib
 import tempfile
 import unittest
 
-from inventory.command import outdated_files
+from inventory.made_files import outdated_files, outdated_lines, write_outdated_files
 from inventory.pages import BEGIN, END, calls_text, page_with_part, table_cell
-from inventory.sources import Word, contracts_in, tests_in, words_in
+from inventory.sources import TOP, Word, contracts_in, tests_in, words_in
 
 TESTS = '''\
 //! Lists.
@@ -112,6 +113,22 @@ class Inventories(unittest.TestCase):
         missing = older.with_name('missing')
         found = outdated_files({older: 'new', same: 'same', missing: ''})
         self.assertEqual(found, [older, missing])
+
+    def test_only_outdated_files_are_written_and_their_folder_is_made(self):
+        older, same = self.written('old'), self.written('same')
+        new = older.parent / 'folder' / 'new'
+        os.utime(same, (100, 100))
+        write_outdated_files({older: 'new', same: 'same', new: 'text'})
+        self.assertEqual([path.read_text('utf-8') for path in (older, new)], ['new', 'text'])
+        self.assertEqual(same.stat().st_mtime, 100)
+        self.assertEqual(outdated_files({older: 'new', same: 'same', new: 'text'}), [])
+
+    def test_a_line_names_the_command_that_writes_an_outdated_file(self):
+        page, readme = TOP / 'docs' / 'no-such-page.md', (TOP / 'README.md').read_text('utf-8')
+        self.assertEqual(
+            outdated_lines({page: 'text', TOP / 'README.md': readme}, 'a', 'b'),
+            ['docs/no-such-page.md is older than a: run tools/b'],
+        )
 
 
 if __name__ == '__main__':

@@ -1,0 +1,36 @@
+"""Files that are made from others: which are outdated, and writing these."""
+
+from __future__ import annotations
+
+from pathlib import Path
+from typing import Dict, List
+
+from .sources import TOP
+
+
+def outdated_files(texts: Dict[Path, str]) -> List[Path]:
+    """The paths of `texts` at which there is no file, or one with another text than `texts` has for
+    it; in its order. UnicodeDecodeError for a file that isn't UTF-8."""
+    return [
+        path
+        for path, text in texts.items()
+        if not path.exists() or path.read_text(encoding='utf-8') != text
+    ]
+
+
+def outdated_lines(texts: Dict[Path, str], sources: str, command: str) -> List[str]:
+    """A line for each path of outdated_files(): it is older than `sources`, so the command of
+    tools/ must be run. ValueError if a path isn't below the repository; errors as
+    outdated_files()."""
+    return [
+        f'{path.relative_to(TOP)} is older than {sources}: run tools/{command}'
+        for path in outdated_files(texts)
+    ]
+
+
+def write_outdated_files(texts: Dict[Path, str]) -> None:
+    """Writes the files of outdated_files(), and makes the folder of a file if only this folder is
+    missing. Other files aren't written again. After an OSError the files before are written."""
+    for path in outdated_files(texts):
+        path.parent.mkdir(exist_ok=True)
+        path.write_text(texts[path], encoding='utf-8')
