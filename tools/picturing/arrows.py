@@ -2,7 +2,7 @@
 
 from __future__ import annotations
 
-from typing import Dict, List, Tuple
+from typing import Dict, Iterable, List, Tuple
 
 from .session import ModelledSession
 from .svg import MARGIN, Picture, path_element, rectangle, text_element
@@ -25,9 +25,9 @@ STYLE = """.arrow { fill: none; stroke-width: 1.3 }
 
 
 def bent_arrow(top: float, bottom: float, classes: str) -> str:
-    """An arrow from the row at the height `bottom` up to the row at `top`. A longer arrow bends
-    further to the right, so that arrows of one row differ. classes name its colour, as STYLE has
-    it."""
+    """An arrow, as an element, from the row at the height `bottom` up to the row at `top`. A longer
+    arrow bends further to the right, so that arrows of one row differ. classes name the colour of
+    the arrow, one of those in STYLE."""
     bend = ARROWS + 14 + (bottom - top) * 0.85
     curve = f'M{ARROWS} {bottom:g}C{bend:g} {bottom:g} {bend:g} {top:g} {ARROWS} {top:g}'
     arrowhead = 'm5 -3l-5 3l5 3'
@@ -36,8 +36,8 @@ def bent_arrow(top: float, bottom: float, classes: str) -> str:
 
 def missing_need(session: ModelledSession) -> Tuple[int, int]:
     """The places of the last acknowledged line and of the session's only rename, which the line
-    should need and doesn't. ValueError if it does, if there is no acknowledged line, or if there
-    isn't exactly one rename."""
+    should need and doesn't. ValueError if the line needs the rename, if there is no acknowledged
+    line, or if there isn't exactly one rename."""
     operations = list(enumerate(session.operations))
     last_line = max(place for place, operation in operations if operation.kind == 'say')
     (rename,) = (place for place, operation in operations if operation.kind == 'move_dir_entry')
@@ -47,9 +47,9 @@ def missing_need(session: ModelledSession) -> Tuple[int, int]:
 
 
 def draw_rows(picture: Picture, session: ModelledSession) -> Dict[int, float]:
-    """Adds the rows of the session below what is there, each with its place. Returns the height at
-    which arrows touch a row, by the place of its micro-operation. A line that syncs has a row too,
-    with a dash instead of a number, and no arrows."""
+    """Adds the rows of the session below what is there, each with its place. Returns the heights at
+    which arrows touch the rows, by place. A line that syncs has a row too, with a dash instead of a
+    place, and no height."""
     heights: Dict[int, float] = {}
     for row in session.rows():
         picture.add_line(row.words, f'code {"sync" if row.place is None else "ink"}', WORDS)
@@ -62,9 +62,9 @@ def draw_rows(picture: Picture, session: ModelledSession) -> Dict[int, float]:
 
 
 def alternative_text(arrows: List[Tuple[int, int, str]], last_line: int, rename: int) -> str:
-    """The alternative text of the picture of needs: its arrows, each a place, an earlier one that
-    it needs and the rule, and the missing arrow, between the places of the last acknowledged line
-    and of the rename."""
+    """The alternative text of the picture of needs. An arrow is a place, an earlier place that it
+    needs, and the rule. last_line and rename are the places of the last acknowledged line and of
+    the rename, between which an arrow is missing."""
     needed: Dict[int, List[str]] = {}
     for later, earlier, rule in arrows:
         needed.setdefault(later, []).append(f'{earlier} ({rule})')
@@ -76,9 +76,21 @@ def alternative_text(arrows: List[Tuple[int, int, str]], last_line: int, rename:
     )
 
 
+def draw_key(picture: Picture, rules: Iterable[str], missing: str) -> None:
+    """Adds, below what is there, what the arrows of these rules mean, and `missing`, what the
+    missing arrow means. KeyError if RULES lacks a rule."""
+    picture.y += 6
+    for rule in rules:
+        meaning, colour = RULES[rule]
+        picture.add(rectangle(MARGIN, picture.y + 13, 18, 2, colour))
+        picture.add_line(f'{rule}: {meaning}', x=WORDS)
+    picture.add(path_element(f'M{MARGIN} {picture.y + 14:g}h18', 'arrow bad'))
+    picture.add_line(missing, 'bad', WORDS)
+
+
 def arrows_picture(session: ModelledSession) -> str:
     """The picture of a session's needs, as SVG, in which the missing need is an arrow too.
-    ValueError as missing_need(); KeyError if RULES doesn't have the rule of a need."""
+    ValueError as missing_need(); KeyError if RULES lacks the rule of a need."""
     arrows, (last_line, rename) = list(session.direct_needs()), missing_need(session)
     alternative = alternative_text(arrows, last_line, rename)
     picture = Picture('Which micro-operation needs which', alternative)
@@ -87,12 +99,6 @@ def arrows_picture(session: ModelledSession) -> str:
     for later, earlier, rule in arrows:
         picture.add(bent_arrow(heights[earlier], heights[later], RULES[rule][1]))
     picture.add(bent_arrow(heights[rename], heights[last_line], 'bad'))
-    picture.y += 6
-    for rule in dict.fromkeys(rule for _, _, rule in arrows):
-        meaning, colour = RULES[rule]
-        picture.add(rectangle(MARGIN, picture.y + 13, 18, 2, colour))
-        picture.add_line(f'{rule}: {meaning}', x=WORDS)
-    picture.add(path_element(f'M{MARGIN} {picture.y + 14:g}h18', 'arrow bad'))
     missing = f'missing: nothing makes {last_line} need {rename}, the rename'
-    picture.add_line(missing, 'bad', WORDS)
+    draw_key(picture, dict.fromkeys(rule for _, _, rule in arrows), missing)
     return picture.svg_file(STYLE)

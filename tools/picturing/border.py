@@ -21,8 +21,8 @@ ALTERNATIVE = (
 
 
 class Box(NamedTuple):
-    """A part of the tools: its name, what it is, and what it passes to the next one. The last two
-    are empty if there is nothing to say."""
+    """A part of the tools: its name, what it is, and what it passes to the next part. `about` and
+    `passes` are empty if there is nothing to say."""
 
     name: str
     about: str
@@ -40,8 +40,8 @@ BOXES: Sequence[Box] = (
 
 
 def draw_box(picture: Picture, box: Box) -> None:
-    """Adds a box below what is there, with an arrow to the next box if it passes something. Moves
-    the picture's y to the place where the next box begins."""
+    """Adds a box below what is there, and if its part passes something, an arrow to the next box.
+    Moves the picture's y to where the next box begins, or to the bottom of the last box."""
     top, middle = picture.y, LEFT + WIDE / 2
     picture.add(rectangle(LEFT, top, WIDE, HIGH, 'box'))
     name_bottom = top + (17 if box.about else 25)
@@ -55,16 +55,22 @@ def draw_box(picture: Picture, box: Box) -> None:
     picture.y += HIGH + (GAP if box.passes else 0)
 
 
+def draw_border(picture: Picture) -> None:
+    """Adds the border of what is proved, and its words, around the place of the next box; doesn't
+    change the picture's y."""
+    frame = f'x="{MARGIN}" y="{picture.y - 6:g}" width="{WIDTH - 2 * MARGIN}"'
+    picture.add(f'<rect {frame} height="{HIGH + 12}" rx="6" class="proved"/>')
+    picture.add(text_element(MARGIN + 10, picture.y + 17, 'proved:', 'title'))
+    picture.add(text_element(MARGIN + 10, picture.y + 34, 'by the rules'))
+
+
 def border_picture() -> str:
-    """The picture of the tools, as SVG. It depends on no check: all its words are in this
+    """The picture of the tools, as SVG. No check is needed for it: all its words are in this
     module."""
     picture = Picture('The tools, and the border of what is proved', ALTERNATIVE)
     picture.y = MARGIN + 4
     for box in BOXES:
         if box.name == 'crashfs':
-            frame = f'x="{MARGIN}" y="{picture.y - 6:g}" width="{WIDTH - 2 * MARGIN}"'
-            picture.add(f'<rect {frame} height="{HIGH + 12}" rx="6" class="proved"/>')
-            picture.add(text_element(MARGIN + 10, picture.y + 17, 'proved:', 'title'))
-            picture.add(text_element(MARGIN + 10, picture.y + 34, 'by the rules'))
+            draw_border(picture)
         draw_box(picture, box)
     return picture.svg_file(STYLE)

@@ -17,8 +17,8 @@ from crashfs_tools.checker.running.trials import Trials
 
 
 class CheckedExample(NamedTuple):
-    """What a check of an example found, its report, and the files of the state that is the example
-    of the report's first entry."""
+    """What a check of an example found, its report, and the tree of the state that is the example
+    of the report's first entry, as entries by path."""
 
     findings: Findings
     report: CheckReport
@@ -26,10 +26,10 @@ class CheckedExample(NamedTuple):
 
 
 def check_example(trace: str, command: Sequence[str]) -> CheckedExample:
-    """Checks a trace of one window by the second reading, so that pictures don't depend on a built
+    """Checks a trace, which must have one window, by the second reading: so pictures need no built
     program. The command runs in all states, as crashfs-check would run it. ValueError if no state
-    fails, OSError if the trace can't be read, and what Check.run() or read_options()
-    raises otherwise, such as Refused or SystemExit."""
+    fails, OSError if the trace can't be read. What ends the check early is raised, and what
+    Check.run() and read_options() raise, such as Refused or SystemExit."""
     words = ['--unproved', '--html', os.devnull, trace, '--', *command]
     options = read_options(words)
     program = Crashfs.find_or_second_reading(None, is_unproved=True)

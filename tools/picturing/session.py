@@ -5,7 +5,7 @@ from __future__ import annotations
 
 from dataclasses import dataclass
 from pathlib import Path
-from typing import Iterator, Optional, Set, Tuple
+from typing import Iterator, List, Optional, Set, Tuple
 
 from crashfs_tools.checker.states.place_sets import places_of
 from crashfs_tools.common.trace_lines import SYNCS, TraceLine
@@ -19,8 +19,8 @@ from .checked import CheckedExample
 
 @dataclass(frozen=True)
 class Row:
-    """A row of a picture of a session: a micro-operation with its place, or a line that syncs, with
-    none. words say what it does, to which file."""
+    """A row of a picture of a session: a micro-operation with its place, or a line that syncs,
+    whose place is None. `words` say what it does, and to which file."""
 
     line: TraceLine
     place: Optional[int]
@@ -33,8 +33,7 @@ class ModelledSession:
 
     def __init__(self, checked: CheckedExample, trace: Path) -> None:
         """Reads the trace, which must be that of the check, and short, since all its sets are
-        listed. `sets` has them in the order of every_set(), and failing_sets those of
-        find_failing_sets(). OSError if the trace can't be read."""
+        listed: `sets` has them in the order of every_set(). OSError if the trace can't be read."""
         self.reading = parse_trace(trace.read_bytes())
         self.order = Order(self.reading)
         self.operations = checked.findings.plan.operations
@@ -49,37 +48,51 @@ class ModelledSession:
         plan, states = checked.findings.plan, States(self.reading)
 
         def tree_and_says(kept_set: int) -> Tuple[object, int]:
+            """The tree that a set leaves, as its digest, and how many acknowledged lines it has."""
             return states.digest(kept_set), states.count_says(kept_set)
 
         numbers = (state.number for group in checked.report.groups() for state in group.states)
         failing = {tree_and_says(plan.kept[number]) for number in numbers}
         return {kept_set for kept_set in self.sets if tree_and_says(kept_set) in failing}
 
-    def rows(self) -> Iterator[Row]:
-        """The rows of a picture, in the order of the session: each micro-operation, and each line
-        that syncs. No line makes both, and a line that makes neither has no row."""
-        for number, line in self.lines.items():
-            if line.word in SYNCS:
-                yield Row(line, None, line.text)
-            for place, operation in enumerate(self.operations):
-                if operation.line == number:
-                    yield Row(line, place, row_words(operation.kind, line))
+    def rows_of_line(self, line: TraceLine) -> List[Row]:
+        """The rows of a line: one without a place if the line syncs, else one for each of its
+        micro-operations, which may be none."""
+        if line.word in SYNCS:
+            return [Row(line, None, line.text)]
+        return [
+            Row(line, place, row_words(operation.kind, line))
+            for place, operation in enumerate(self.operations)
+            if operation.line == line.number
+        ]
+
+    def rows(self) -> List[Row]:
+        """The rows of all lines, in the order of the session."""
+        return [row for line in self.lines.values() for row in self.rows_of_line(line)]
+
+    def directly_needed(self, later: int) -> List[int]:
+        """The earlier places that a place needs, ascending, without those that it needs only
+        because a place between them needs them."""
+        needs = self.order.needs
+        between_sets = [needs[between] for between in places_of(needs[later])]
+        return [
+            earlier
+            for earlier in places_of(needs[later])
+            if not any(between_set >> earlier & 1 for between_set in between_sets)
+        ]
 
     def direct_needs(self) -> Iterator[Tuple[int, int, str]]:
-        """Each place with an earlier one that it needs, and the rule of this need; sorted by the
-        later place, then by the earlier one. A need that follows from two others, through a place
-        between them, is left out."""
-        needs = self.order.needs
-        for later, needed_set in enumerate(needs):
-            for earlier in places_of(needed_set):
-                if not any(needs[between] >> earlier & 1 for between in places_of(needed_set)):
-                    yield later, earlier, self.rule_of_need(later, earlier)
+        """Each place with each of its directly_needed() places and the rule of this need; sorted by
+        the place, then by the needed place."""
+        for later in range(len(self.order.needs)):
+            for earlier in self.directly_needed(later):
+                yield later, earlier, self.rule_of_need(later, earlier)
 
     def rule_of_need(self, later: int, earlier: int) -> str:
-        """The rule by which a place needs an earlier one; it must need that. The first of these: P5
-        if a sync between them covers the earlier one, P9 if that is an acknowledged line, P2 or P7
-        if both change one name, directory or rights, P1 if they change the same other thing, P3.
-        This is so in traces of version 3 with the profile `blocks` and no link."""
+        """The rule by which a place needs an earlier place, which it must need: P5 if a sync
+        between them covers the earlier one; else P9 if the earlier one is an acknowledged line;
+        else P2, P7 or P1 if both change one name or directory, one file's rights, or another thing;
+        else P3. True of traces of version 3 with the profile `blocks` and no link."""
         operations = self.reading.operations
         if self.order.synced_sets[later] >> earlier & 1:
             return 'P5'
@@ -93,6 +106,6 @@ class ModelledSession:
 
 
 def row_words(kind: str, line: TraceLine) -> str:
-    """The words of a micro-operation's row: its kind, then the text that its line acknowledges or
-    the path of the line, without its first slash."""
+    """The words of a micro-operation's row: its kind, and then the text that its line acknowledges
+    or, if it is no say, the path of the line without the first slash."""
     return f'{kind} {line.details if kind == "say" else line.path.lstrip("/")}'

@@ -9,37 +9,48 @@ from .svg import LINE, MARGIN, WIDTH, Picture, rectangle, text_element
 
 # Where the numbers of lines end, and where words and cells begin.
 NUMBER, WORDS, SETS = MARGIN + 18, MARGIN + 26, 240
-# So many characters of the text below fit a line.
+# So many characters of the explanation fit a line.
 COLUMNS = 62
+EXPLANATION = (
+    'A coloured cell: the crash left this micro-operation on the disk. A set that has one '
+    'below a sync has all that the sync covers. In the red sets line 14 is kept and '
+    'acknowledged, but the rename of line 13 is lost: recovery fails.'
+)
 STYLE = '.none { fill: var(--edge); opacity: .45 }\n'
 
 
 def column_width(session: ModelledSession) -> float:
-    """The width of the column of a set, so that all fill the picture."""
+    """The width of the column of a set, with which the columns of all sets fill the picture."""
     return (WIDTH - MARGIN - SETS) / len(session.sets)
 
 
+def draw_cells(picture: Picture, session: ModelledSession, place: int) -> None:
+    """Adds a cell for each set in the row that was added last, of the micro-operation at a place.
+    The cell is faint if the set lacks the place, else red if recovery fails with the set, or green.
+    Doesn't change the picture's y."""
+    width = column_width(session)
+    for column, kept_set in enumerate(session.sets):
+        colour = 'bad' if kept_set in session.failing_sets else 'good'
+        classes = colour if kept_set >> place & 1 else 'none'
+        x = SETS + column * width
+        picture.add(rectangle(x, picture.y - 12, width - 1, LINE - 4, classes))
+
+
 def draw_row(picture: Picture, session: ModelledSession, row: Row, *, has_number: bool) -> None:
-    """Adds the row of a micro-operation, with a cell for each set: faint if the set lacks it, else
-    red or green, if recovery fails with the set or doesn't. The row of a line that syncs has a rule
-    across all columns instead. has_number says whether the row shows the number of its line."""
+    """Adds a row: its words, with has_number the number of its line, and for a micro-operation the
+    cells of draw_cells(). A line that syncs has a rule across all columns instead of cells."""
     picture.add_line(row.words, f'code {"sync" if row.place is None else "ink"}', WORDS)
     if has_number:
         picture.add(text_element(NUMBER, picture.y, str(row.line.number), 'code end grey'))
     if row.place is None:
         picture.add(rectangle(SETS, picture.y - 5, WIDTH - MARGIN - SETS, 1, 'sync'))
-        return
-    width = column_width(session)
-    for column, kept_set in enumerate(session.sets):
-        colour = 'bad' if kept_set in session.failing_sets else 'good'
-        classes = colour if kept_set >> row.place & 1 else 'none'
-        x = SETS + column * width
-        picture.add(rectangle(x, picture.y - 12, width - 1, LINE - 4, classes))
+    else:
+        draw_cells(picture, session, row.place)
 
 
 def alternative_text(session: ModelledSession, row_count: int) -> str:
-    """The alternative text of the picture of sets, which has so many rows. Its last sentence is
-    true only of the tutorial's session."""
+    """The alternative text of the picture of sets, which has this number of rows. Its last sentence
+    is true only of the tutorial's session."""
     operation_count = len(session.operations)
     lines = {operation.line for operation in session.operations}
     return (
@@ -54,8 +65,8 @@ def alternative_text(session: ModelledSession, row_count: int) -> str:
 
 def sets_picture(session: ModelledSession) -> str:
     """The picture of a session's sets, as SVG. The number of a line is shown only at its first row.
-    The words below are true only of the tutorial's session."""
-    rows = list(session.rows())
+    The sentences below the rows are true only of the tutorial's session."""
+    rows = session.rows()
     picture = Picture('What a crash may leave of a session', alternative_text(session, len(rows)))
     picture.add_line('Line, micro-operations', 'title')
     picture.add(text_element(SETS, picture.y, f'{len(session.sets)} sets, a column each', 'title'))
@@ -64,11 +75,5 @@ def sets_picture(session: ModelledSession) -> str:
         draw_row(picture, session, row, has_number=row.line.number != previous_number)
         previous_number = row.line.number
     picture.y += 6
-    for words in textwrap.wrap(
-        'A coloured cell: the crash left this micro-operation on the disk. A set that has one '
-        'below a sync has all that the sync covers. In the red sets line 14 is kept and '
-        'acknowledged, but the rename of line 13 is lost: recovery fails.',
-        COLUMNS,
-    ):
-        picture.add_line(words)
+    picture.add_lines(textwrap.wrap(EXPLANATION, COLUMNS))
     return picture.svg_file(STYLE)

@@ -25,8 +25,8 @@ STYLE = f""".cells {{ fill: none; stroke-width: {CELL - 1}; stroke-dasharray: {C
 
 def rows_of_holes(drawing: Drawing) -> List[str]:
     """The signs of prefixes and of states with one hole, as rows: the prefixes first, then for each
-    micro-operation the states that lack it. A column is how many micro-operations had begun; a
-    blank means that there is no such state."""
+    micro-operation the states that lack it. The column of a state is how many micro-operations had
+    begun; a blank means that there is no such state."""
     lengths = range(len(drawing['prefixes']))
     holes: List[str] = drawing['holes']
     rows = [
@@ -37,8 +37,8 @@ def rows_of_holes(drawing: Drawing) -> List[str]:
 
 
 def runs_of(row: str, sign: str) -> List[range]:
-    """The columns at which a row has the sign, as the fewest ranges, from the left; empty if it has
-    none."""
+    """The columns at which a row has the sign, as the fewest ranges, from the left; empty if the
+    row doesn't have it."""
     runs: List[range] = []
     for column in (column for column, other in enumerate(row) if other == sign):
         if runs and runs[-1].stop == column:
@@ -49,8 +49,9 @@ def runs_of(row: str, sign: str) -> List[range]:
 
 
 def paths_of_results(rows: List[str], y: float) -> List[str]:
-    """For each sign of RESULTS a path, as SVG, whose dashes are the states with that sign, in rows
-    that begin at the height y. States with other signs, which weren't tried, are not drawn."""
+    """For each sign of RESULTS a path, as an element, whose dashes are the states with that sign,
+    in rows that begin at the height y. States with other signs, which weren't tried, aren't
+    drawn."""
     return [
         f'<path class="cells {RESULTS[sign][0]}" d="{path_steps(rows, sign, y)}"/>'
         for sign in RESULTS
@@ -59,8 +60,8 @@ def paths_of_results(rows: List[str], y: float) -> List[str]:
 
 def path_steps(rows: List[str], sign: str, y: float) -> str:
     """The steps of a path along the states with the sign, in rows that begin at the height y; empty
-    if there are none. STYLE's dashes divide the path into squares with gaps, so each run of states
-    ends before its last gap."""
+    without such states. The dashes in STYLE divide the path into squares with gaps: a run of states
+    has no gap after its last square."""
     return ''.join(
         f'M{MARGIN + run.start * CELL:g} {y + (number + 0.5) * CELL:g}h{len(run) * CELL - 1}'
         for number, row in enumerate(rows)
@@ -72,8 +73,11 @@ def acknowledged_columns(checked: CheckedExample) -> Dict[int, str]:
     """The text of each acknowledged line, by the first column of rows_of_holes() in which it had
     been printed."""
     lines = checked.report.head.lines
-    operations = enumerate(checked.findings.plan.operations, 1)
-    return {column: lines[one.line].details for column, one in operations if one.kind == 'say'}
+    return {
+        column: lines[operation.line].details
+        for column, operation in enumerate(checked.findings.plan.operations, 1)
+        if operation.kind == 'say'
+    }
 
 
 def draw_holes(picture: Picture, checked: CheckedExample, drawing: Drawing) -> None:
@@ -102,9 +106,9 @@ def draw_picks(picture: Picture, drawing: Drawing) -> None:
 
 
 def rows_by_loss(drawing: Drawing) -> List[str]:
-    """The signs of the states with other losses, as rows. States that lack equally many
-    micro-operations begin a row, and fill several if one isn't wide enough. Rows are in the order
-    of the drawing's picks, in which states that lack the fewest come first."""
+    """The signs of the states with other losses, as rows: those that lack the fewest
+    micro-operations first, as in the drawing's picks. States that lack the same number of
+    micro-operations begin a row, and go on in further rows if they don't fit."""
     width = (WIDTH - 2 * MARGIN) // CELL
     signs: Dict[int, str] = {}
     for _, sign, lost_count in drawing['picks']:
@@ -115,8 +119,9 @@ def rows_by_loss(drawing: Drawing) -> List[str]:
 
 
 def draw_key(picture: Picture) -> None:
-    """Adds what rows, columns and colours mean, in the corner that has no states: it must follow
-    draw_holes(), whose last rows have states only at the right. y stays."""
+    """Adds what rows, columns and colours mean, in the corner that has no states. Must be called
+    right after draw_holes(), whose last rows have states only at the right. Doesn't change the
+    picture's y."""
     bottom, picture.y = picture.y, picture.y - 5 * LINE - 8
     for sign, (colour, words) in RESULTS.items():
         picture.add(rectangle(MARGIN, picture.y + 9, 11, 11, colour))
@@ -128,8 +133,8 @@ def draw_key(picture: Picture) -> None:
 
 
 def alternative_text(checked: CheckedExample, drawing: Drawing) -> str:
-    """The alternative text of the picture of states: how many there are, and which fail. The
-    report's first entry must have a lost line."""
+    """The alternative text of the picture of states: how many states there are, and which fail.
+    IndexError if the report has no entry, AssertionError if its first entry has no lost line."""
     groups = checked.report.groups()
     lost_line = groups[0].lost_line
     assert lost_line is not None
@@ -147,21 +152,17 @@ def alternative_text(checked: CheckedExample, drawing: Drawing) -> str:
 
 def states_picture(checked: CheckedExample) -> str:
     """The picture of a check's states, as SVG, with the report's summary above the states, and the
-    cause and the details of the first entry below. IndexError if there is no entry, AssertionError
-    if it has no lost line."""
+    cause and the details of the first entry below. Errors as alternative_text()."""
     drawing = drawing_of(checked.findings)
     title = f'The crash states of {checked.report.head.trace}'
     picture = Picture(title, alternative_text(checked, drawing))
-    for line in textwrap.wrap(ReportText(checked.report).summary(), COLUMNS):
-        picture.add_line(line, 'title')
+    picture.add_lines(textwrap.wrap(ReportText(checked.report).summary(), COLUMNS), 'title')
     draw_holes(picture, checked, drawing)
     draw_key(picture)
     draw_picks(picture, drawing)
     group = checked.report.groups()[0]
     picture.y += 8
-    for line in textwrap.wrap(group.cause, COLUMNS):
-        picture.add_line(line, 'title bad')
+    picture.add_lines(textwrap.wrap(group.cause, COLUMNS), 'title bad')
     for detail in ReportText(checked.report).details(group):
-        for line in textwrap.wrap(detail, COLUMNS, subsequent_indent='  '):
-            picture.add_line(line)
+        picture.add_lines(textwrap.wrap(detail, COLUMNS, subsequent_indent='  '))
     return picture.svg_file(STYLE)

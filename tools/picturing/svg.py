@@ -4,7 +4,7 @@ from __future__ import annotations
 
 from dataclasses import dataclass, field
 from html import escape
-from typing import List
+from typing import Iterable, List
 
 # A page shows the picture at this width, and a phone at three quarters of it.
 WIDTH = 460
@@ -40,29 +40,28 @@ def common_style() -> str:
 
 
 def text_element(x: float, y: float, words: str, classes: str = '') -> str:
-    """A line of text as an element. It begins at x, or with the class `middle` it is centred there,
-    or with the class `end` it ends there; y is the bottom of its letters. Other classes name its
-    font and colour; the default is those of `text`."""
+    """A line of text as an element. The line begins at x, or with the class `middle` is centred
+    there, or with the class `end` ends there; y is the bottom of its letters. Other classes name
+    its font and colour; without them it has those of FONTS for `text`."""
     attribute = f' class="{classes}"' if classes else ''
     return f'<text x="{x:g}" y="{y:g}"{attribute}>{escape(words)}</text>'
 
 
 def rectangle(x: float, y: float, width: float, height: float, classes: str) -> str:
-    """A rectangle as an element, of which (x, y) is the top left corner; classes name its
-    colour."""
+    """A rectangle as an element, whose top left corner is at (x, y); classes name its colour."""
     return f'<rect x="{x:g}" y="{y:g}" width="{width:g}" height="{height:g}" class="{classes}"/>'
 
 
 def path_element(steps: str, classes: str) -> str:
-    """A line along a path as an element; steps are in SVG's notation, and classes name its
-    colour."""
+    """A line along a path as an element. The steps of the path are in SVG's notation, and classes
+    name the line's colour."""
     return f'<path d="{steps}" class="{classes}"/>'
 
 
 @dataclass
 class Picture:
-    """A picture that is drawn from top to bottom: y is the bottom of what is there. title names it,
-    alternative says in words what it shows, and parts are its elements."""
+    """A picture that is drawn from top to bottom: y is the bottom of what is there. title names the
+    picture, alternative says in words what it shows, and parts are its elements."""
 
     title: str
     alternative: str
@@ -70,19 +69,24 @@ class Picture:
     parts: List[str] = field(default_factory=list)
 
     def add(self, element: str) -> None:
-        """Adds an element, which has its own place in the picture; y stays."""
+        """Adds an element, which has its own place in the picture; doesn't change y."""
         self.parts.append(element)
 
     def add_line(self, words: str, classes: str = '', x: float = MARGIN) -> None:
-        """Adds a line of text below what is there, and moves y to its bottom. It isn't wrapped; x
-        and classes are as in text_element()."""
+        """Adds a line of text below what is there, and moves y to the bottom of the line. A long
+        line isn't wrapped; x and classes are as in text_element()."""
         self.y += LINE
-        self.parts.append(text_element(x, self.y, words, classes))
+        self.add(text_element(x, self.y, words, classes))
+
+    def add_lines(self, lines: Iterable[str], classes: str = '', x: float = MARGIN) -> None:
+        """Adds lines of text below each other, each as add_line() does."""
+        for words in lines:
+            self.add_line(words, classes, x)
 
     def svg_file(self, more_style: str = '') -> str:
-        """The text of the whole file: a picture of the width WIDTH, and as high as y, on a
-        background that makes it legible on a page of any colour. more_style has the classes of this
-        picture only."""
+        """The text of the whole file: a picture as wide as WIDTH, and as high as y and a margin, on
+        a background that makes it legible on a page of any colour. more_style has the CSS classes
+        that only this picture uses."""
         height = self.y + MARGIN + 4
         paper = (
             f'<rect x=".5" y=".5" width="{WIDTH - 1}" height="{height - 1:g}" rx="6" '

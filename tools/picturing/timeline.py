@@ -5,6 +5,7 @@ from __future__ import annotations
 import textwrap
 from typing import Dict, List, Set
 
+from crashfs_tools.checker.states.place_sets import places_of
 from crashfs_tools.common.trace_lines import SYNCS, TraceLine
 
 from .checked import CheckedExample
@@ -24,13 +25,12 @@ def lost_or_later_lines(checked: CheckedExample) -> Set[int]:
     IndexError if the report has no entry."""
     plan = checked.findings.plan
     kept_set = plan.kept[checked.report.groups()[0].example.number]
-    operations = enumerate(plan.operations)
-    return {operation.line for place, operation in operations if not kept_set >> place & 1}
+    return {plan.operations[place].line for place in places_of(plan.needs.full & ~kept_set)}
 
 
 def result_of(line: TraceLine, lost: Set[int]) -> str:
-    """What became of a line, as a key of COLOUR_OF: of acknowledged lines and syncs that they are
-    such. `lost` has the numbers of lines that are lost, wholly or in part."""
+    """What became of a line, as a key of COLOUR_OF. A line that acknowledges or syncs is never
+    called lost. `lost` has the numbers of lines that are lost, wholly or in part."""
     if line.word == 'say':
         return 'acknowledged'
     if line.word in SYNCS:
@@ -39,8 +39,8 @@ def result_of(line: TraceLine, lost: Set[int]) -> str:
 
 
 def draw_line(picture: Picture, line: TraceLine, result: str) -> None:
-    """Adds a line of the session: its number, what it did, and its result, as result_of() returns
-    it. A lost line has a coloured background."""
+    """Adds a line of the session: its number, what it did, and its result, which is that of
+    result_of(). A lost line has a coloured background."""
     if result == LOST:
         picture.add(rectangle(1, picture.y + 5, WIDTH - 2, LINE, 'tint'))
     colour = COLOUR_OF[result]
@@ -60,40 +60,42 @@ def lines_of_files(checked: CheckedExample) -> Dict[str, List[str]]:
 
 
 def draw_files(picture: Picture, files: Dict[str, List[str]]) -> None:
-    """Adds the path of each file, in their order, and its lines below. An empty file has only its
-    path."""
+    """Adds the path of each file, in the order of `files`, and below it the file's lines. An empty
+    file has only its path."""
     for path, lines in files.items():
         picture.add_line(f'{path}:', 'code')
-        for line in lines:
-            picture.add_line(line, 'code', WORDS)
+        picture.add_lines(lines, 'code', WORDS)
 
 
-def alternative_text(checked: CheckedExample, shown: List[TraceLine], verdict: str) -> str:
-    """The alternative text of the picture of the lines `shown`: what became of each line, the files
-    after the crash, and the verdict."""
-    number, lost = checked.report.groups()[0].example.number, lost_or_later_lines(checked)
-    steps = '; '.join(f'{line.number} {line.text}: {result_of(line, lost)}' for line in shown)
-    contents = lines_of_files(checked)
-    files = '. '.join(f'{path} has {", ".join(rows)}' for path, rows in contents.items())
-    return f'State {number}. {steps}. Then the power fails. {files}. {verdict}'
+def alternative_text(results: Dict[TraceLine, str], files: Dict[str, List[str]]) -> str:
+    """The alternative text of what the picture shows of the session and the disk: the result of
+    each line of `results`, and the lines of each of the files after the crash."""
+    steps = '; '.join(f'{line.number} {line.text}: {result}' for line, result in results.items())
+    contents = '. '.join(f'{path} has {", ".join(lines)}' for path, lines in files.items())
+    return f'{steps}. Then the power fails. {contents}.'
 
 
 def timeline_picture(checked: CheckedExample, first_number: int, verdict: str) -> str:
     """The picture of the example of the report's first entry, as SVG: the session from line number
     first_number on, and the files after the crash. The verdict is a sentence on what recovery makes
     of these files. Errors as lost_or_later_lines() and lines_of_files()."""
-    group, lost = checked.report.groups()[0], lost_or_later_lines(checked)
-    shown = [line for number, line in checked.report.head.lines.items() if number >= first_number]
-    title = f'State {group.example.number} of {checked.report.head.trace}'
-    picture = Picture(title, alternative_text(checked, shown, verdict))
-    picture.add_line(f'{title}: line by line', 'title')
-    for line in shown:
-        draw_line(picture, line, result_of(line, lost))
+    group, head, lost = (
+        checked.report.groups()[0],
+        checked.report.head,
+        lost_or_later_lines(checked),
+    )
+    shown = [line for number, line in head.lines.items() if number >= first_number]
+    results, files = {line: result_of(line, lost) for line in shown}, lines_of_files(checked)
+    state = f'State {group.example.number}'
+    alternative = f'{state}. {alternative_text(results, files)} {verdict}'
+    picture = Picture(f'{state} of {head.trace}', alternative)
+    picture.add_line(f'{picture.title}: line by line', 'title')
+    for line, result in results.items():
+        draw_line(picture, line, result)
     picture.y += 6
     picture.add_line('The power fails. The disk has:', 'title')
-    draw_files(picture, lines_of_files(checked))
+    draw_files(picture, files)
     picture.y += 6
     picture.add_line(group.cause, 'title bad')
-    for words in textwrap.wrap(verdict, COLUMNS):
-        picture.add_line(words)
+    picture.add_lines(textwrap.wrap(verdict, COLUMNS))
     return picture.svg_file()

@@ -20,8 +20,13 @@ LARGEST = 24
 ROWS, TABLE_ROW = 14, 5
 # The side of a micro-operation's square, with the gap after it.
 CELL = 8
-# So many characters of a text fit a line.
+# So many characters of the explanation fit a line.
 COLUMNS = 62
+EXPLANATION = (
+    f'A window takes {LARGEST - 1} here, and 1,024 in a check. The next one begins at the '
+    'first operation that no sync has made durable, but at least half a window after this '
+    'one began.'
+)
 HEADER = '{"trace":3,"profile":"blocks","block":4096,"owner":"u","group":"u","mode":"755"}\n'
 RIGHTS = '"owner":"u","group":"u","mode":"644"'
 
@@ -37,7 +42,8 @@ class Window(NamedTuple):
 
 def session_text() -> str:
     """The trace of a session that appends ROWS rows to a log, each with a sync and an acknowledged
-    line. Before the row TABLE_ROW it makes a file, whose directory it never syncs afterwards."""
+    line. Before the row TABLE_ROW the session makes a file, whose directory it never syncs
+    afterwards."""
     lines = [HEADER, f'{{"op":"creat","path":"/log",{RIGHTS}}}\n', '{"op":"fsync","path":"/"}\n']
     for row in range(ROWS):
         if row == TABLE_ROW:
@@ -50,7 +56,7 @@ def session_text() -> str:
 
 def plan_windows() -> List[Window]:
     """The windows into which a check divides the session of session_text(), in their order. No
-    state is tried."""
+    state is tried, and no file is left."""
     windows = []
     with tempfile.TemporaryDirectory() as folder, Guard('crashfs-picture') as guard:
         trace = Path(folder, 'session.trace')
@@ -61,10 +67,22 @@ def plan_windows() -> List[Window]:
         )
         for planned in checked.all_planned():
             plan, begin = planned.plan, planned.offsets.operations
-            operations = enumerate(plan.operations, begin)
-            creates = [place for place, one in operations if one.kind == 'create_dir_entry']
+            creates = [
+                place
+                for place, operation in enumerate(plan.operations, begin)
+                if operation.kind == 'create_dir_entry'
+            ]
             windows.append(Window(begin, begin + len(plan.operations), creates))
     return windows
+
+
+def draw_places(picture: Picture, place_count: int, unsynced: int) -> None:
+    """Adds a row of squares below what is there, one for each place of a session. The square of
+    the place `unsynced` is red."""
+    picture.y += LINE + 2
+    for place in range(place_count):
+        colour = 'bad' if place == unsynced else 'sync'
+        picture.add(rectangle(MARGIN + place * CELL, picture.y - 12, CELL - 1, 14, colour))
 
 
 def draw_window(picture: Picture, number: int, window: Window) -> None:
@@ -77,8 +95,8 @@ def draw_window(picture: Picture, number: int, window: Window) -> None:
 
 
 def alternative_text(windows: List[Window], place_count: int, unsynced: int) -> str:
-    """The alternative text of the picture of windows, for a session of so many places. `unsynced`
-    is the place that is never synced."""
+    """The alternative text of the picture of windows, for a session of this number of places.
+    `unsynced` is the place of the file that is never synced."""
     parts = '; '.join(
         f'window {number} has {window.begin} to {window.end - 1}'
         for number, window in enumerate(windows, 1)
@@ -91,9 +109,9 @@ def alternative_text(windows: List[Window], place_count: int, unsynced: int) -> 
 
 
 def windows_picture() -> str:
-    """The picture of the windows of the session of session_text(), as SVG. ValueError if the second
-    window doesn't begin at the file that is never synced, as the picture's words say; IndexError if
-    there is only one window."""
+    """The picture of the windows of plan_windows(), as SVG. ValueError if the second window doesn't
+    begin at the file that is never synced, as the picture's words say; IndexError if there is only
+    one window."""
     windows = plan_windows()
     place_count, unsynced = windows[-1].end, windows[0].creates[-1]
     if windows[1].begin != unsynced:
@@ -101,19 +119,10 @@ def windows_picture() -> str:
     alternative = alternative_text(windows, place_count, unsynced)
     picture = Picture('The windows of a long session', alternative)
     picture.add_line('Micro-operations of a session, and windows', 'title')
-    picture.y += LINE + 2
-    for place in range(place_count):
-        colour = 'bad' if place == unsynced else 'sync'
-        picture.add(rectangle(MARGIN + place * CELL, picture.y - 12, CELL - 1, 14, colour))
+    draw_places(picture, place_count, unsynced)
     for number, window in enumerate(windows, 1):
         draw_window(picture, number, window)
     picture.y += 6
     picture.add_line('Red: a file is made, and its directory is never synced.', 'bad')
-    for words in textwrap.wrap(
-        f'A window takes {LARGEST - 1} here, and 1,024 in a check. The next one begins at the '
-        'first operation that no sync has made durable, but at least half a window after this '
-        'one began.',
-        COLUMNS,
-    ):
-        picture.add_line(words)
+    picture.add_lines(textwrap.wrap(EXPLANATION, COLUMNS))
     return picture.svg_file()
