@@ -44,8 +44,8 @@ LINTERS: Dict[str, Callable[[], Faults]] = {
 
 
 def summary_line(faults_by_linter: Dict[str, Faults]) -> str:
-    """The last line that is printed: how many linters passed, which failed, and which were skipped
-    because they aren't installed."""
+    """The last line that is printed: how many linters passed, how many and which failed, and how
+    many and which were skipped because they aren't installed."""
     failed = [name for name, faults in faults_by_linter.items() if faults]
     skipped = [name for name, faults in faults_by_linter.items() if faults is None]
     passed_count = len(faults_by_linter) - len(failed) - len(skipped)
@@ -56,21 +56,21 @@ def summary_line(faults_by_linter: Dict[str, Faults]) -> str:
 
 
 def run_linters(linters: Dict[str, Callable[[], Faults]]) -> int:
-    """Runs linters, by their names, prints what they find, and returns the status: 1 if one found a
-    fault. A linter that isn't installed doesn't change the status. Nothing is printed before all
-    have run, so nothing if one raises an exception."""
+    """Runs linters, by their names, prints what they find, and returns the status: 1 if a linter
+    found a fault. A linter that isn't installed doesn't change the status. Nothing is printed
+    before all have run: if a linter raises an exception, nothing is."""
     faults_by_linter = {name: linter() for name, linter in linters.items()}
-    for name, faults in faults_by_linter.items():
-        for fault in faults or []:
-            print(f'{name}: {fault}')
-    print(summary_line(faults_by_linter), flush=True)
+    lines = [
+        f'{name}: {fault}' for name, faults in faults_by_linter.items() for fault in faults or []
+    ]
+    print(*lines, summary_line(faults_by_linter), sep='\n', flush=True)
     return 1 if any(faults_by_linter.values()) else 0
 
 
 def main(words: Optional[List[str]] = None) -> int:
-    """Runs lint with these words, or those of its command line, and returns its status. With
-    --install it tries to install what is missing first; if that fails, those linters are skipped. A
-    wrong word ends the program (SystemExit)."""
+    """Runs lint with these words, or with those of its command line if they are None, and returns
+    its status, that of run_linters(). With --install it first tries to install the linters that are
+    missing; they are skipped if that fails. A wrong word ends the program (SystemExit)."""
     parser = argparse.ArgumentParser(
         prog='lint', description=ABOUT, formatter_class=argparse.RawDescriptionHelpFormatter
     )

@@ -19,7 +19,7 @@ def page_section(page: str, title: str) -> str:
     return page.split(f'\n## {title}\n', 1)[1].split('\n## ', 1)[0]
 
 
-def table_rows(page: str) -> List[List[str]]:
+def crate_rows(page: str) -> List[List[str]]:
     """The cells of each row of the page's table of crates, without its head and the line below
     that. IndexError if the page lacks the section of the table."""
     rows = [line for line in page_section(page, 'The crates').splitlines() if line.startswith('|')]
@@ -27,9 +27,9 @@ def table_rows(page: str) -> List[List[str]]:
 
 
 def crates_in_picture(page: str) -> List[Tuple[str, int]]:
-    """Each crate of the page's picture with its layer, as often as it is there: the layer is that
-    of the nearest row, its own or one above, that has a number of one digit; 0 if none has.
-    IndexError if the page lacks the section of the picture."""
+    """Each crate of the page's picture with its layer, as often as it is there. A row that begins
+    with a number of one digit begins the layer of this number; above the first such row the layer
+    is 0. IndexError if the page lacks the section of the picture."""
     crates, layer = [], 0
     for line in page_section(page, 'The layers').splitlines():
         number = re.match(r'\| (\d) ', line)
@@ -40,11 +40,11 @@ def crates_in_picture(page: str) -> List[Tuple[str, int]]:
 
 
 def crates_in_table(page: str) -> List[Tuple[str, int]]:
-    """Each crate of the page's table with its layer, as often as it is there: the layer is that of
-    the nearest heading row above; 0 if there is none, or if it has no number. IndexError if the
-    page lacks the section of the table."""
+    """Each crate of the page's table with its layer, as often as it is there. The layer is the
+    number of the nearest heading row above, or 0 if there is no such row, or no number in it.
+    IndexError if the page lacks the section of the table."""
     crates, layer = [], 0
-    for name, *_ in table_rows(page):
+    for name, *_ in crate_rows(page):
         number = re.match(r'\*\*(\d) ', name)
         if name.startswith('**'):
             layer = int(number[1]) if number else 0
@@ -62,31 +62,53 @@ def occurrence_faults(place: str, names: List[str], expected: List[str]) -> Iter
             yield f'{name} is {count} times in {place}, not {expected_count} times'
 
 
-def crate_page_faults(page: str, uses: Dict[str, List[str]]) -> Iterator[str]:
-    """A sentence for each fault of the page. `uses` has the crates of crates.txt with those that
-    each uses. A crate of the program must be once in the picture and once in the table, in one
-    layer, and use none of a higher layer. A row of the table must have three cells, none empty
-    unless it is a heading. IndexError if the page lacks the picture or the table."""
+def layer_faults(layers: Dict[str, int], table: List[Tuple[str, int]]) -> Iterator[str]:
+    """A sentence for each crate of the table that is in another layer of the picture. `layers` has
+    the layer of each crate of the picture: a crate that isn't there is left out."""
+    for name, layer in table:
+        if layers.get(name, layer) != layer:
+            yield f'{name} is in layer {layers[name]} of the picture, {layer} of the table'
+
+
+def row_faults(rows: List[List[str]]) -> Iterator[str]:
+    """A sentence for each row of the table that doesn't have three cells, or has an empty cell and
+    is no heading."""
+    for cells in rows:
+        if len(cells) != 3 or not (all(cells) or cells[0].startswith('**')):
+            yield f'{cells[0]}: its row must say what it is and what it promises'
+
+
+def use_faults(layers: Dict[str, int], uses: Dict[str, List[str]]) -> List[str]:
+    """A sentence for each use of a crate by a crate of a lower layer. `layers` has the layer of
+    each crate of the picture: uses of other crates are left out."""
+    return [
+        f'{name} uses {used_name} of a higher layer'
+        for name, layer in layers.items()
+        for used_name in uses.get(name, [])
+        if layers.get(used_name, layer) > layer
+    ]
+
+
+def crate_page_faults(page: str, uses: Dict[str, List[str]]) -> List[str]:
+    """A sentence for each fault of the page. `uses` has the crates of crates.txt, each with those
+    that it uses: a crate of the program must be in the picture and in the table, each time once.
+    The other faults are those of layer_faults(), row_faults() and use_faults(). IndexError if the
+    page lacks the picture or the table."""
     picture, table = crates_in_picture(page), crates_in_table(page)
     layers = dict(picture)
     program_crates = [name for name in uses if not NOT_OF_THE_PROGRAM.search(name)]
-    yield from occurrence_faults('the table', [name for name, _ in table], program_crates)
-    yield from occurrence_faults('the picture', [name for name, _ in picture], program_crates)
-    for name, layer in table:
-        if layers.get(name, 0) != layer:
-            yield f'{name} is in layer {layers.get(name, 0)} of the picture, {layer} of the table'
-    for cells in table_rows(page):
-        if len(cells) != 3 or not (all(cells) or cells[0].startswith('**')):
-            yield f'{cells[0]}: its row must say what it is and what it promises'
-    for name in layers:
-        for used_name in uses.get(name, []):
-            if layers.get(used_name, 0) > layers[name]:
-                yield f'{name} uses {used_name} of a higher layer'
+    return [
+        *occurrence_faults('the table', [name for name, _ in table], program_crates),
+        *occurrence_faults('the picture', [name for name, _ in picture], program_crates),
+        *layer_faults(layers, table),
+        *row_faults(crate_rows(page)),
+        *use_faults(layers, uses),
+    ]
 
 
 def architecture_faults() -> List[str]:
-    """A sentence for each fault that crate_page_faults() finds in ARCHITECTURE, with the page's
-    name before it. IndexError if the page lacks the picture or the table."""
+    """The sentences of crate_page_faults() for ARCHITECTURE, each after the page's name. IndexError
+    as there; OSError if the page or crates.txt can't be read."""
     page = (TOP / 'docs' / 'internals' / 'ARCHITECTURE.md').read_text('utf-8')
     uses = uses_by_crate((TOP / 'crates.txt').read_text('utf-8'))
     return [f'docs/internals/ARCHITECTURE.md: {fault}' for fault in crate_page_faults(page, uses)]

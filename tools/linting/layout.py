@@ -4,6 +4,7 @@ from __future__ import annotations
 
 import ast
 import re
+from pathlib import Path
 from typing import Iterator, List
 
 from .sources import CRATES, TOOLS, crate_sources, path_from_top, program_files, python_files
@@ -18,8 +19,8 @@ FUNCTION = (ast.FunctionDef, ast.AsyncFunctionDef)
 
 
 def long_lines(text: str, columns: int) -> List[str]:
-    """The lines of the text of a crate's file that have more than so many columns. Those that match
-    MAY_BE_LONG are left out, unless they are comments."""
+    """The lines of the text of a crate's file that have more than this number of columns. A line
+    that matches MAY_BE_LONG is left out, unless it is a comment."""
     return [
         line
         for line in text.splitlines()
@@ -42,8 +43,8 @@ def is_option_row(node: ast.stmt) -> bool:
 
 def long_function_faults(source: str) -> Iterator[str]:
     """A sentence for each function of a Python source that has more than MOST_LINES_OF_FUNCTION
-    lines, not counting the statements of its body that add options. The lines of a nested function
-    count for both. SyntaxError if the source isn't Python."""
+    lines, not counting is_option_row() statements of its body. The lines of a nested function count
+    for both functions. SyntaxError if the source isn't Python."""
     for node in ast.walk(ast.parse(source)):
         if isinstance(node, FUNCTION):
             option_rows = filter(is_option_row, node.body)
@@ -52,24 +53,36 @@ def long_function_faults(source: str) -> Iterator[str]:
                 yield f'{node.name} has {lines} lines: {MOST_LINES_OF_FUNCTION} at most'
 
 
-def wide_line_faults() -> Iterator[str]:
-    """A sentence for each line that is too wide: in crates those of long_lines(), which may have
-    PROOF_COLUMNS in proofs and laws; in Python every line above CODE_COLUMNS, also a long text.
+def most_columns(path: Path) -> int:
+    """How many columns a line of a crate's file may have: more in proofs and in laws, which are
+    proved lemmas that crates above use. ValueError if the file isn't below crates/."""
+    is_proof = bool({'proofs', 'Laws'} & set(path.relative_to(CRATES).parts[1:-1]))
+    return PROOF_COLUMNS if is_proof else CODE_COLUMNS
+
+
+def wide_crate_line_faults() -> List[str]:
+    """A sentence for each line of a crate's file that long_lines() finds with most_columns().
     UnicodeDecodeError if a file isn't UTF-8."""
-    for path in crate_sources():
-        # Laws are proved lemmas that crates above use.
-        is_proof = bool({'proofs', 'Laws'} & set(path.relative_to(CRATES).parts[1:-1]))
-        columns = PROOF_COLUMNS if is_proof else CODE_COLUMNS
-        for line in long_lines(path.read_text('utf-8'), columns):
-            yield f'{path_from_top(path)}: longer than {columns} columns: {line.strip()}'
-    for path in python_files():
-        for number, line in enumerate(path.read_text('utf-8').splitlines(), 1):
-            if len(line) > CODE_COLUMNS:
-                yield f'{path_from_top(path)}:{number}: longer than {CODE_COLUMNS} columns'
+    return [
+        f'{path_from_top(path)}: longer than {most_columns(path)} columns: {line.strip()}'
+        for path in crate_sources()
+        for line in long_lines(path.read_text('utf-8'), most_columns(path))
+    ]
+
+
+def wide_python_line_faults() -> List[str]:
+    """A sentence for each line of Python that has more than CODE_COLUMNS, also if a long text is
+    the reason. UnicodeDecodeError if a file isn't UTF-8."""
+    return [
+        f'{path_from_top(path)}:{number}: longer than {CODE_COLUMNS} columns'
+        for path in python_files()
+        for number, line in enumerate(path.read_text('utf-8').splitlines(), 1)
+        if len(line) > CODE_COLUMNS
+    ]
 
 
 def long_file_faults() -> Iterator[str]:
-    """A sentence for each file of the crates, and each module of tools/, also of the tests, that
+    """A sentence for each file of crate_sources(), and each module of tools/, tests included, that
     has more than MOST_LINES lines. UnicodeDecodeError if a file isn't UTF-8."""
     for path in [*crate_sources(), *TOOLS.rglob('*.py')]:
         lines = len(path.read_text('utf-8').splitlines())
@@ -78,12 +91,17 @@ def long_file_faults() -> Iterator[str]:
 
 
 def layout_faults() -> List[str]:
-    """A sentence for each line, function and file that is too long. Functions are those of Python
-    in tools/, but not of the tests. SyntaxError as long_function_faults(), UnicodeDecodeError if a
-    file isn't UTF-8."""
+    """A sentence for each line, function and file that is too long. Only functions of Python in
+    tools/ are looked at, and none of the tests. SyntaxError as long_function_faults(),
+    UnicodeDecodeError if a file isn't UTF-8."""
     function_faults = (
         f'{path_from_top(path)}: {fault}'
         for path in program_files()
         for fault in long_function_faults(path.read_text('utf-8'))
     )
-    return [*wide_line_faults(), *function_faults, *long_file_faults()]
+    return [
+        *wide_crate_line_faults(),
+        *wide_python_line_faults(),
+        *function_faults,
+        *long_file_faults(),
+    ]

@@ -24,8 +24,9 @@ def missing_linters() -> List[str]:
 
 
 def install_packages(names: List[str]) -> None:
-    """Installs Debian's packages by apt-get, if this user is root and apt-get is there; else it
-    does nothing. Waits for it without limit. If apt-get fails, only its own errors are shown."""
+    """Installs Debian's packages by apt-get, and waits for it without limit. Does nothing if there
+    is no name, if this user isn't root, or if apt-get isn't there. If apt-get fails, only its own
+    errors are shown."""
     if names and os.geteuid() == 0 and shutil.which('apt-get'):
         words = ['apt-get', 'install', '--yes', '--no-install-recommends', *names]
         environment = {**os.environ, 'DEBIAN_FRONTEND': 'noninteractive'}
@@ -33,9 +34,9 @@ def install_packages(names: List[str]) -> None:
 
 
 def run_linter(words: List[str], files: List[Path]) -> Optional[List[str]]:
-    """Runs a linter, its name with its options, on files of the repository, in the top folder. If
-    its status is 0, returns an empty list; else the lines that it prints on both outputs, or its
-    status if it prints none; None if it isn't installed. Waits for it without limit."""
+    """Runs a linter on files of the repository, and waits for it without limit; `words` are its
+    name and its options. Returns an empty list if its status is 0, else the lines that it prints on
+    both outputs, or its status if it prints none; None if it isn't installed."""
     if shutil.which(words[0]) is None:
         return None
     process = subprocess.run(
@@ -68,9 +69,9 @@ def mypy_faults() -> Optional[List[str]]:
 
 
 def unknown_name_faults() -> Optional[List[str]]:
-    """What mypy finds in the tests of names, attributes and arguments that nothing has; None if it
-    isn't installed. Its other lines are dropped, since the tests aren't typed: also one that says
-    that mypy itself failed."""
+    """What mypy finds in the tests of names, attributes and arguments that nothing has; None if
+    mypy isn't installed. Its other lines are dropped, since the tests aren't typed: also a line
+    that says that mypy itself failed."""
     # The tests of the proved program run last: without this a changed name would be found late.
     words = ['mypy', '--check-untyped-defs', '--implicit-reexport']
     lines = run_linter(words, test_files())
@@ -78,8 +79,9 @@ def unknown_name_faults() -> Optional[List[str]]:
 
 
 def unexplained_comments_in(sources: Dict[str, str]) -> List[str]:
-    """A sentence for each line with a comment that silences a linter without its code and its
-    reason, as `# type: ignore[code]  # reason`. `sources` has the texts of files by their names."""
+    """A sentence for each line with a comment that silences a linter, but lacks the code or the
+    reason: `# type: ignore[code]  # reason` has both. `sources` has the texts of files by their
+    names."""
     return [
         f'{name}:{number}: {comment[0]}: give the code, and the reason in a comment behind it'
         for name, text in sources.items()
@@ -89,6 +91,7 @@ def unexplained_comments_in(sources: Dict[str, str]) -> List[str]:
 
 
 def unexplained_comment_faults() -> List[str]:
-    """The sentences of unexplained_comments_in() for all Python files, also the tests."""
+    """The sentences of unexplained_comments_in() for all Python files, tests included.
+    UnicodeDecodeError if a file isn't UTF-8."""
     sources = {path_from_top(path): path.read_text('utf-8') for path in python_files()}
     return unexplained_comments_in(sources)

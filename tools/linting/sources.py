@@ -3,7 +3,7 @@
 from __future__ import annotations
 
 from pathlib import Path
-from typing import Iterator, List
+from typing import List
 
 TOP = Path(__file__).resolve().parent.parent.parent
 TOOLS = TOP / 'tools'
@@ -15,8 +15,8 @@ CRATE_FOLDERS = ('src', 'specs', 'proofs')
 
 def is_python(path: Path) -> bool:
     """Whether a path is a module of Python, by its suffix, or a script of Python: a file without a
-    suffix whose first line begins with `#!` and has `python`. OSError if such a file can't be
-    read."""
+    suffix whose first line begins with `#!` and has `python`. OSError if a file without a suffix
+    can't be read."""
     if path.suffix == '.py':
         return True
     if path.suffix or not path.is_file():
@@ -48,12 +48,15 @@ def test_files() -> List[Path]:
     return [path for path in python_files() if is_test(path)]
 
 
-def crate_sources() -> Iterator[Path]:
-    """The files of all crates that the prover reads: .rt and .antt, in their CRATE_FOLDERS."""
-    for folder in CRATE_FOLDERS:
-        for path in sorted(CRATES.glob(f'*/{folder}/**/*')):
-            if path.suffix in ('.rt', '.antt'):
-                yield path
+def crate_sources() -> List[Path]:
+    """The files of all crates that the prover reads, .rt and .antt below their CRATE_FOLDERS;
+    sorted within each of these."""
+    return [
+        path
+        for folder in CRATE_FOLDERS
+        for path in sorted(CRATES.glob(f'*/{folder}/**/*'))
+        if path.suffix in ('.rt', '.antt')
+    ]
 
 
 def path_from_top(path: Path) -> str:

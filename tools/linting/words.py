@@ -5,8 +5,9 @@ from __future__ import annotations
 
 import ast
 import re
+from itertools import chain
 from pathlib import Path
-from typing import Iterator, List, NamedTuple, Set, Tuple
+from typing import Iterator, List, NamedTuple, Tuple
 
 from inventory.pages import BEGIN, END
 
@@ -37,8 +38,8 @@ class Line(NamedTuple):
 
 
 def numbered_lines(path: Path, text: str, first_number: int = 1) -> Iterator[Line]:
-    """The lines of a text that begins in a file at the line with this number, as str.splitlines()
-    ends them. ValueError if the file isn't of the repository."""
+    """The lines of a text, whose first line is that of this number in a file; str.splitlines()
+    divides them. ValueError if the file isn't of the repository."""
     for number, line in enumerate(text.splitlines(), first_number):
         yield Line(path_from_top(path), number, line)
 
@@ -51,8 +52,8 @@ def without_made_parts(page: str) -> str:
 
 def lines_of_pages() -> Iterator[Line]:
     """The lines of all pages, of the manual pages, and of the examples that print something or were
-    printed, as without_made_parts() leaves them. OSError if README, CHANGELOG or SECURITY isn't
-    there."""
+    printed; without the made parts, as without_made_parts() leaves them out. OSError if README,
+    CHANGELOG or SECURITY isn't there."""
     pages = [TOP / name for name in ('README.md', 'CHANGELOG.md', 'SECURITY.md')]
     pages += sorted((TOP / 'docs').rglob('*.md')) + sorted((TOP / 'docs' / 'man').iterdir())
     pages += sorted((TOP / 'helpers').glob('*/README.md'))
@@ -109,28 +110,46 @@ def programs_to_read() -> List[Path]:
     return [path for path in program_files() if path_from_top(path) != TABLES]
 
 
-def lines_of_programs() -> Iterator[Line]:
-    """The lines of all texts of the commands and modules of tools/, documentation too, and of the
-    texts of all crates, but for tests; comments aren't read. SyntaxError if a file of tools/ isn't
-    Python."""
-    for path in programs_to_read():
-        for number, text in texts_in_python(path.read_text('utf-8')):
-            yield from numbered_lines(path, text, number)
-    for path in sorted(filter(may_print, CRATES.glob('*/src/**/*.rt'))):
-        for number, text in texts_in_rattle(path.read_text('utf-8')):
-            yield from numbered_lines(path, text, number)
+def lines_of_tools() -> Iterator[Line]:
+    """The lines of all texts of programs_to_read(), documentation too; comments aren't read.
+    SyntaxError if a file isn't Python."""
+    return (
+        line
+        for path in programs_to_read()
+        for number, text in texts_in_python(path.read_text('utf-8'))
+        for line in numbered_lines(path, text, number)
+    )
 
 
-def names_of_programs() -> Iterator[Line]:
-    """The names of names_in_python() for all modules and commands of tools/ but the tests, each as
-    the text of a line. SyntaxError if one isn't Python."""
-    for path in programs_to_read():
-        for number, name in names_in_python(path.read_text('utf-8')):
-            yield Line(path_from_top(path), number, name)
+def lines_of_crates() -> Iterator[Line]:
+    """The lines of all texts of the crates' files that may_print() accepts; comment lines aren't
+    read."""
+    return (
+        line
+        for path in sorted(filter(may_print, CRATES.glob('*/src/**/*.rt')))
+        for number, text in texts_in_rattle(path.read_text('utf-8'))
+        for line in numbered_lines(path, text, number)
+    )
+
+
+def all_lines() -> Iterator[Line]:
+    """All lines in which words are checked: lines_of_pages(), lines_of_tools() and
+    lines_of_crates(). Errors as in these three."""
+    return chain(lines_of_pages(), lines_of_tools(), lines_of_crates())
+
+
+def names_of_tools() -> Iterator[Line]:
+    """The names of names_in_python() for programs_to_read(), each as the text of a line.
+    SyntaxError if a file isn't Python."""
+    return (
+        Line(path_from_top(path), number, name)
+        for path in programs_to_read()
+        for number, name in names_in_python(path.read_text('utf-8'))
+    )
 
 
 def is_allowed(line: Line) -> bool:
-    """Whether a line may have retired words: ALLOWED has its file with a text that is in the
+    """Whether a line may have retired words: ALLOWED has the line's file with a text that is in the
     line."""
     return any(line.file == file and text in line.text for file, text in ALLOWED)
 
@@ -156,26 +175,21 @@ def name_faults(line: Line) -> List[str]:
 
 
 def unused_allowance_faults() -> List[str]:
-    """A sentence for each entry of ALLOWED whose text is in no line of its file any more.
-    SyntaxError as lines_of_programs()."""
-    used_allowances: Set[Tuple[str, str]] = {
-        (line.file, text)
-        for line in (*lines_of_pages(), *lines_of_programs())
-        for file, text in ALLOWED
-        if file == line.file
-        if text in line.text
-    }
+    """A sentence for each entry of ALLOWED whose text is in no line of its file any more. Errors as
+    all_lines()."""
+    lines = list(all_lines())
     return [
         f'{file}: "{text}" is allowed, and no longer there'
-        for file, text in set(ALLOWED) - used_allowances
+        for file, text in ALLOWED
+        if not any(line.file == file and text in line.text for line in lines)
     ]
 
 
 def retired_word_faults() -> List[str]:
     """A sentence for each retired word in the pages, in what is printed, and in documentation and
-    names, unless ALLOWED has it, which has no names; and for each entry of ALLOWED that nothing
-    needs. SyntaxError if a file of tools/ isn't Python."""
-    lines = [line for line in (*lines_of_pages(), *lines_of_programs()) if not is_allowed(line)]
+    names of Python; but none for the words of a line that is_allowed(), and one for each entry of
+    ALLOWED that nothing needs. Errors as all_lines()."""
+    lines = [line for line in all_lines() if not is_allowed(line)]
     faults = [fault for line in lines for fault in word_faults(line)]
-    faults += [fault for line in names_of_programs() for fault in name_faults(line)]
+    faults += [fault for line in names_of_tools() for fault in name_faults(line)]
     return [*dict.fromkeys(faults), *unused_allowance_faults()]

@@ -151,6 +151,10 @@ class CratesPage(unittest.TestCase):
         ):
             self.assertIn(fault, self.faults(old, new), new)
 
+    def test_a_crate_that_the_picture_lacks_is_one_fault(self) -> None:
+        fault = 'cs_b is 0 times in the picture, not 1 times'
+        self.assertEqual(self.faults('| 2 above | cs_b |\n'), fault)
+
 
 class Command(unittest.TestCase):
     def linted(self, **linters: Faults) -> Tuple[int, str]:
