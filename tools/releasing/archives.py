@@ -12,7 +12,7 @@ import tempfile
 from datetime import datetime, timezone
 from email.utils import formatdate
 from pathlib import Path
-from typing import List, Set
+from typing import List
 
 from .layout import DOCUMENTS, Item, Items
 
@@ -59,38 +59,41 @@ SCRIPTS = {
 def folders_of(items: Items) -> List[str]:
     """All folders above the items, except the top itself; sorted, so that each comes after the
     folder that it is in."""
-    folders: Set[str] = set()
-    for path in items:
-        folders.update(str(folder) for folder in Path(path).parents if str(folder) != '.')
-    return sorted(folders)
+    folders = {str(folder) for path in items for folder in Path(path).parents}
+    return sorted(folders - {'.'})
 
 
 def member_header(path: str, kind: bytes, mode: int, seconds: int) -> tarfile.TarInfo:
     """The header of a tar member that belongs to root. `kind` is a type of tarfile, such as
-    DIRTYPE, and `seconds` a time since 1970. The size and the target of a link aren't set."""
+    DIRTYPE, and `seconds` the member's time, since 1970. The caller sets the size of a file and the
+    target of a link."""
     info = tarfile.TarInfo(path)
     info.type, info.mode, info.mtime = kind, mode, seconds
     info.uname = info.gname = 'root'
     return info
 
 
+def add_item(archive: tarfile.TarFile, path: str, item: Item, seconds: int) -> None:
+    """Adds an item to an archive, with its path there and its time, in seconds since 1970."""
+    kind = tarfile.SYMTYPE if item.target else tarfile.REGTYPE
+    header = member_header(path, kind, 0o777 if item.target else item.mode, seconds)
+    header.linkname, header.size = item.target, len(item.content)
+    archive.addfile(header, io.BytesIO(item.content))
+
+
 def add_items(archive: tarfile.TarFile, top: str, items: Items, seconds: int) -> None:
     """Adds items to an archive, below a folder `top`: first this folder and those of the items,
     then the items in their order. All members have the same time."""
-    for folder in ['', *folders_of(items)]:
-        name = f'{top}/{folder}'.rstrip('/')
-        archive.addfile(member_header(name, tarfile.DIRTYPE, 0o755, seconds))
-    for name, item in items.items():
-        kind = tarfile.SYMTYPE if item.target else tarfile.REGTYPE
-        info = member_header(f'{top}/{name}', kind, 0o777 if item.target else item.mode, seconds)
-        info.linkname, info.size = item.target, len(item.content)
-        archive.addfile(info, io.BytesIO(item.content))
+    for folder in [top, *(f'{top}/{folder}' for folder in folders_of(items))]:
+        archive.addfile(member_header(folder, tarfile.DIRTYPE, 0o755, seconds))
+    for path, item in items.items():
+        add_item(archive, f'{top}/{path}', item, seconds)
 
 
 def write_tarball(path: Path, items: Items, seconds: int) -> None:
-    """Writes a tar.gz, in the place of a file that is there. All items are below a folder of the
-    archive's own name: the path must end in `.tar.gz`. The same items and seconds give the same
-    bytes. After an OSError a part of the file may be there."""
+    """Writes a tar.gz, in the place of a file that is there. All items are below a folder that has
+    the name of the archive without its ending, which must be `.tar.gz`. The same items and seconds
+    give the same bytes. After an OSError a part of the file may be there."""
     tar = io.BytesIO()
     with tarfile.open(fileobj=tar, mode='w', format=tarfile.GNU_FORMAT) as archive:
         add_items(archive, path.name[: -len('.tar.gz')], items, seconds)
@@ -99,8 +102,8 @@ def write_tarball(path: Path, items: Items, seconds: int) -> None:
 
 def write_below(folder: Path, items: Items, seconds: int) -> None:
     """Writes items below a folder of the disk, each with this time, and makes the folders that they
-    need, whose times aren't set. A file replaces one that is there. OSError if anything is in the
-    place of a link, or a folder in that of a file; the items before that stay."""
+    need, whose times aren't set. Replaces files that are there. OSError if anything is in the place
+    of a link, or a folder in the place of a file: the items before it are written."""
     for name, item in items.items():
         path = folder / name
         path.parent.mkdir(parents=True, exist_ok=True)
@@ -124,22 +127,26 @@ def control_text(version: str, items: Items) -> str:
     )
 
 
+def write_control_files(folder: Path, control: str, checksums: str) -> None:
+    """Makes the folder DEBIAN of a package, and writes its control file, its checksums, and
+    SCRIPTS. FileExistsError if the folder is there; another OSError leaves a part of it."""
+    folder.mkdir()
+    for name, text in {'control': control, 'md5sums': checksums, **SCRIPTS}.items():
+        file = folder / name
+        file.write_text(text)
+        file.chmod(0o755 if name in SCRIPTS else 0o644)
+
+
 def write_package(path: Path, version: str, items: Items, seconds: int) -> None:
-    """Writes a Debian package by dpkg-deb, in the place of a file that is there. It has the items
-    below /usr, the files of with_debian_files(), and SCRIPTS. It is made in a temporary folder,
-    which is removed. CalledProcessError if dpkg-deb fails, OSError if it isn't installed or a file
-    can't be written."""
+    """Writes a Debian package by dpkg-deb, in the place of a file that is there. The package has
+    the items and those of with_debian_files() below /usr, and SCRIPTS. Its files are laid out in a
+    temporary folder, which is removed. CalledProcessError if dpkg-deb fails, OSError if it isn't
+    installed or a file can't be written."""
     with tempfile.TemporaryDirectory(prefix='crashfs-release-') as temporary:
         root = Path(temporary) / 'root'
         files = with_debian_files(items, version, seconds)
         write_below(root / 'usr', files, seconds)
-        checksums = checksums_below(root)
-        (root / 'DEBIAN').mkdir()
-        (root / 'DEBIAN' / 'control').write_text(control_text(version, files))
-        (root / 'DEBIAN' / 'md5sums').write_text(checksums)
-        for name, text in SCRIPTS.items():
-            (root / 'DEBIAN' / name).write_text(text)
-            (root / 'DEBIAN' / name).chmod(0o755)
+        write_control_files(root / 'DEBIAN', control_text(version, files), checksums_below(root))
         for folder in [root, *(path for path in root.rglob('*') if path.is_dir())]:
             folder.chmod(0o755)
         # What xz writes depends on whether it has threads.
@@ -153,8 +160,8 @@ def write_package(path: Path, version: str, items: Items, seconds: int) -> None:
 
 
 def checksums_below(root: Path) -> str:
-    """The text of a package's file md5sums: a line for each file below a folder, sorted by path;
-    links have none."""
+    """The text of a package's file md5sums: a line for each file below a folder, sorted by path,
+    but none for links. OSError if a file can't be read."""
     files = sorted(path for path in root.rglob('*') if path.is_file() and not path.is_symlink())
     return ''.join(
         f'{hashlib.md5(path.read_bytes()).hexdigest()}  {path.relative_to(root)}\n'
@@ -163,8 +170,9 @@ def checksums_below(root: Path) -> str:
 
 
 def with_debian_files(items: Items, version: str, seconds: int) -> Items:
-    """A copy of the items with three more files: the copyright, with the year of `seconds`, and the
-    changelog, which Debian's policy requires (12.5, 12.7), and lintian's overrides."""
+    """A copy of the items with three more files: the copyright and the changelog, which Debian's
+    policy requires (12.5, 12.7), and lintian's overrides. `seconds` is the time of the release,
+    since 1970."""
     year = datetime.fromtimestamp(seconds, timezone.utc).year
     changelog = (
         f'crashfs ({version}) unstable; urgency=medium\n\n'

@@ -15,8 +15,9 @@ from crashfs_tools import VERSION
 from gating.verdict import counts_of_passed_gate
 
 from .archives import write_package, write_tarball
-from .layout import TOP, release_items
-from .linking import LinkFault, kit_version, link_statically, linker_version
+from .layout import release_items
+from .linking import LinkFault, link_statically
+from .programs import TOP, commit_of_tree, kit_version, linker_version, seconds_of_commit
 from .statements import (
     BUILT,
     GIVEN,
@@ -46,30 +47,16 @@ the command line."""
 OBJECT_FILE = TOP / 'crates' / 'crashfs' / 'out' / 'crashfs.o'
 
 
-def git_output(*words: str) -> str:
-    """What git prints in the repository, without blanks at its ends. CalledProcessError if it
-    fails, OSError if it isn't installed."""
-    ran = subprocess.run(['git', *words], cwd=TOP, stdout=subprocess.PIPE, text=True, check=True)
-    return ran.stdout.strip()
-
-
-def commit_of_tree() -> str:
-    """The commit that is checked out, with `-dirty` if a file that git knows differs from it; new
-    files don't count. Errors as git_output()."""
-    is_dirty = bool(git_output('status', '--porcelain', '-uno'))
-    return git_output('rev-parse', 'HEAD') + ('-dirty' if is_dirty else '')
-
-
-def read_provenance(log: Optional[Path], object_origin: str) -> Provenance:
-    """The provenance of a release from the tree and the tools as they are: the gate's counts are
-    from the log, or NOT_RUN without one; the time is SOURCE_DATE_EPOCH, else that of the commit.
+def read_provenance(gate_log: Optional[Path], object_origin: str) -> Provenance:
+    """The provenance of a release from the tree and the tools as they are. The gate's counts are
+    from its log, or NOT_RUN without one; the time is SOURCE_DATE_EPOCH, else that of the commit.
     ValueError if the log isn't of a gate of this commit and kit that passed, or SOURCE_DATE_EPOCH
-    is no number; OSError or CalledProcessError if git, rt or gcc is missing or fails."""
+    is no number; errors of git, rt and gcc as output_of() and kit_version()."""
     commit, kit = commit_of_tree(), kit_version()
-    seconds = int(os.environ.get('SOURCE_DATE_EPOCH') or git_output('log', '-1', '--format=%ct'))
+    seconds = int(os.environ.get('SOURCE_DATE_EPOCH') or seconds_of_commit())
     gate = NOT_RUN
-    if log is not None:
-        gate = counts_of_passed_gate(log.read_text(errors='replace'), commit, kit)
+    if gate_log is not None:
+        gate = counts_of_passed_gate(gate_log.read_text(errors='replace'), commit, kit)
     c_library = ' '.join(platform.libc_ver())
     return Provenance(
         version=VERSION,
@@ -84,8 +71,8 @@ def read_provenance(log: Optional[Path], object_origin: str) -> Provenance:
 
 
 def link_program(object_file: Path) -> bytes:
-    """Links an object file statically, and returns the bytes of the program; no file stays. Raises
-    what link_statically() raises."""
+    """Links an object file statically, and returns the bytes of the program; no file is left.
+    Errors as link_statically(), and OSError if no temporary file can be written."""
     with tempfile.TemporaryDirectory(prefix='crashfs-release-') as temporary:
         program = Path(temporary) / 'crashfs'
         link_statically(object_file, program)
@@ -94,9 +81,9 @@ def link_program(object_file: Path) -> bytes:
 
 def write_release(provenance: Provenance, object_file: Path, folder: Path) -> None:
     """Links an object file, and writes the five files of a release into a folder, which is made if
-    it isn't there; files of these names are replaced, SHA256SUMS last. LinkFault or OSError before
-    anything is written if it can't be linked. After another OSError or a CalledProcessError some of
-    the files may be there."""
+    it isn't there. Files of these names are replaced, SHA256SUMS last. Errors as link_program() and
+    release_items() before anything is written. After another OSError or a CalledProcessError some
+    of the files may be there."""
     program = link_program(object_file)
     items = release_items(program, built_module(provenance).encode())
     folder.mkdir(parents=True, exist_ok=True)
@@ -112,7 +99,7 @@ def write_release(provenance: Provenance, object_file: Path, folder: Path) -> No
 
 
 def make_parser() -> argparse.ArgumentParser:
-    """The parser of the command line. It doesn't check whether the files that are named exist."""
+    """The parser of the command line of release. It doesn't look whether the named files exist."""
     parser = argparse.ArgumentParser(
         prog='release', description=ABOUT, formatter_class=argparse.RawDescriptionHelpFormatter
     )
@@ -139,10 +126,10 @@ def make_parser() -> argparse.ArgumentParser:
 
 
 def main(words: Optional[List[str]] = None) -> int:
-    """Runs release with these words, or those of its command line, and returns its status: 1, with
-    a line that says why, and what the linker printed, if something is missing, fails or is refused.
-    The log of the gate is read before anything is built. The build is waited for without limit. A
-    wrong word ends the program (SystemExit)."""
+    """Runs release with these words, or with those of its command line if they are None, and
+    returns its status: 1, after a line that says why, if something is missing, fails or is refused.
+    The log of the gate is read before anything is built. Waits for the build without limit. A wrong
+    word ends the program (SystemExit)."""
     values = make_parser().parse_args(words)
     try:
         provenance = read_provenance(values.gate, GIVEN if values.objects else BUILT)

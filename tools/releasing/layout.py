@@ -3,12 +3,12 @@
 from __future__ import annotations
 
 import gzip
-import subprocess
 from dataclasses import dataclass
 from pathlib import Path
-from typing import Dict, List
+from typing import Dict
 
-TOP = Path(__file__).resolve().parent.parent.parent
+from .programs import TOP, tracked_files
+
 LIBRARY = 'lib/crashfs'
 DOCUMENTS = 'share/doc/crashfs'
 COMMANDS = ('crashfs-campaign', 'crashfs-check', 'crashfs-record')
@@ -17,7 +17,8 @@ TOP_PAGES = ('README.md', 'CHANGELOG.md', 'SECURITY.md')
 
 @dataclass(frozen=True)
 class Item:
-    """A file with its bytes, or a symbolic link."""
+    """A file of a release: its bytes, and whether it is a program; or a symbolic link, whose target
+    isn't empty."""
 
     content: bytes = b''
     is_program: bool = False
@@ -25,28 +26,18 @@ class Item:
 
     @property
     def mode(self) -> int:
-        """The mode of the file; not that of a link."""
+        """The mode of the file. A link has another one."""
         return 0o755 if self.is_program else 0o644
 
 
 Items = Dict[str, Item]
 
 
-def tracked_files(pattern: str) -> List[str]:
-    """The sorted paths, from the top, of the files that git tracks and that match its pattern, such
-    as a folder that they are in. Some may be gone from the disk. Empty if none matches;
-    CalledProcessError if git fails, OSError if it isn't installed."""
-    ran = subprocess.run(
-        ['git', 'ls-files', '-z', '--', pattern], cwd=TOP, stdout=subprocess.PIPE, check=True
-    )
-    return sorted(name for name in ran.stdout.decode().split('\0') if name)
-
-
 def item_of_file(path: str) -> Item:
     """The item of a file of the repository as it is now, committed or not, by its path from the
     top. It is a program if its owner may execute it. OSError if the file isn't there."""
     file = TOP / path
-    return Item(file.read_bytes(), bool(file.stat().st_mode & 0o100))
+    return Item(file.read_bytes(), is_program=bool(file.stat().st_mode & 0o100))
 
 
 def tool_items() -> Items:
@@ -64,8 +55,8 @@ def tool_items() -> Items:
 
 
 def document_items() -> Items:
-    """Pages, pictures, data and examples, by their paths in a release: in the same folders as here,
-    so that links between them work. Errors as tool_items()."""
+    """Pages, pictures, data and examples, by their paths in a release. They are in the same folders
+    there as in the repository, so that links between them work. Errors as tool_items()."""
     data = [
         *tracked_files('docs/images'),
         *tracked_files('docs/results.json'),
@@ -77,8 +68,8 @@ def document_items() -> Items:
 
 def manual_items() -> Items:
     """The manual pages, compressed as Debian requires it, by their paths in a release. The suffix
-    of a page's file is its section. The same text gives the same bytes: they have no time. Errors
-    as tool_items()."""
+    of a page's file is its section. The same text gives the same bytes, which have no time. Errors
+    as tool_items(); IndexError for a file without a suffix."""
     items: Items = {}
     for path in tracked_files('docs/man'):
         section = path.rsplit('.', 1)[1]
@@ -88,9 +79,9 @@ def manual_items() -> Items:
 
 
 def completion_items() -> Items:
-    """The completions of the commands, by their paths in a release: in the folders in which bash,
-    zsh and fish look for them. KeyError if tools/completions has a file of another shell; errors as
-    tool_items()."""
+    """The completions of the commands, by their paths in a release, in the folders in which bash,
+    zsh and fish look for them. KeyError if tools/completions has a file with another suffix than
+    these; errors as tool_items()."""
     places = {
         'bash': 'share/bash-completion/completions/{0}',
         'zsh': 'share/zsh/vendor-completions/_{0}',
@@ -104,8 +95,9 @@ def completion_items() -> Items:
 
 
 def release_items(program: bytes, built: bytes) -> Items:
-    """All files of a release, sorted by their paths there, with the bytes of the program and of the
-    module `built`. Nothing is written. Errors as tool_items() and completion_items()."""
+    """All files of a release, sorted by their paths there. `program` has the bytes of crashfs, and
+    `built` those of the module of this name. Nothing is written. Errors as tool_items(),
+    manual_items() and completion_items()."""
     items = {**tool_items(), **document_items(), **manual_items(), **completion_items()}
     items['bin/crashfs'] = Item(program, is_program=True)
     items[f'{LIBRARY}/crashfs_tools/built.py'] = Item(built)

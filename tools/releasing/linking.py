@@ -16,9 +16,9 @@ class LinkFault(Exception):
 
 
 def kit_folder() -> Path:
-    """The toolchain's folder: that of the page which `rt doc` names in its first line, whatever its
-    status. If there is no such page, the folder above that of `rt` itself, with its links resolved.
-    LinkFault if there is no `rt` on PATH."""
+    """The toolchain's folder, in which the page is that `rt doc` prints in its first line, whatever
+    the status of `rt` is. If there is no such page, it is the folder above that of the program `rt`
+    without links. LinkFault if there is no `rt` on PATH."""
     command = shutil.which('rt')
     if command is None:
         raise LinkFault('rt: not found on PATH')
@@ -29,24 +29,10 @@ def kit_folder() -> Path:
     return Path(os.path.realpath(command)).parent.parent
 
 
-def kit_version() -> str:
-    """The first line that `rt version` prints: the kit, and the checksum of its logic. OSError if
-    there is no `rt`, CalledProcessError if it fails, IndexError if it prints nothing."""
-    ran = subprocess.run(['rt', 'version'], stdout=subprocess.PIPE, text=True, check=True)
-    return ran.stdout.strip().splitlines()[0]
-
-
-def linker_version() -> str:
-    """The name and version of the linker, whose own library (libgcc) is linked too. OSError if
-    there is no gcc, CalledProcessError if it fails."""
-    ran = subprocess.run(['gcc', '-dumpfullversion'], stdout=subprocess.PIPE, text=True, check=True)
-    return f'gcc {ran.stdout.strip()}'
-
-
 def link_statically(object_file: Path, program: Path) -> None:
     """Links an object file and the toolchain's two C libraries into a static program, without
     symbols or a build id: the same object file gives the same bytes. Prints gcc's warnings on
-    standard output, except the known one and the lines that name a warning's function. LinkFault if
+    standard output, except KNOWN_WARNING and the lines that name a warning's function. LinkFault if
     gcc fails or there is no `rt`, OSError if there is no gcc."""
     kit = kit_folder()
     libraries = [str(kit / 'c' / name) for name in ('libos_c.a', 'liblibc_c.a')]

@@ -18,8 +18,9 @@ GIVEN = 'given by --objects; nothing here says that it was proved'
 
 @dataclass(frozen=True)
 class Provenance:
-    """Of what a release is made, and by what: its time in seconds since 1970, the counts of its
-    gate, where its object file is from, and the linker and the C library with their versions."""
+    """The origin of a release: its version, its commit and kit, its time in seconds since 1970, the
+    counts of its gate, where its object file is from, and the linker and the C library with their
+    versions."""
 
     version: str
     commit: str
@@ -43,14 +44,14 @@ def sha256_of(path: Path) -> str:
 
 
 def checksum_lines(paths: List[Path]) -> str:
-    """The lines that `sha256sum --check` reads, for files that are all in one folder: it must be
-    run there. They are sorted by path. OSError if a file can't be read."""
+    """The lines that `sha256sum --check` reads, sorted by path, for files that are all in one
+    folder: sha256sum must be run there. OSError if a file can't be read."""
     return ''.join(f'{sha256_of(path)}  {path.name}\n' for path in sorted(paths))
 
 
 def built_module(provenance: Provenance) -> str:
-    """The text of the module `built`, from which `--version` takes the commit and the kit: only a
-    release has it."""
+    """The text of the module `built`, which only a release has: from it `--version` of the tools
+    takes the commit and the kit."""
     return (
         '"""Of what this release was made."""\n\n'
         f'COMMIT = {provenance.commit!r}\nKIT = {provenance.kit!r}\n'
@@ -72,8 +73,8 @@ def attestation_text(provenance: Provenance, object_bytes: bytes, program: bytes
 
 
 def spdx_package(name: str, version: str) -> Dict[str, object]:
-    """A package of an SPDX document: the name and the version of what is linked. Its identifier has
-    a hyphen for each `_` of the name. Its files aren't listed, and nothing is asserted of its
+    """A package of an SPDX document: what is linked, by name and version. The package's identifier
+    has a hyphen for each `_` of the name. Its files aren't listed, and nothing is asserted of its
     licence."""
     return {
         'SPDXID': f'SPDXRef-{name.replace("_", "-")}',
@@ -92,22 +93,32 @@ def spdx_relationship(source: object, kind: str, target: object) -> Dict[str, ob
     return {'spdxElementId': source, 'relationshipType': kind, 'relatedSpdxElement': target}
 
 
-def spdx_document(provenance: Provenance, crates: str) -> str:
-    """What is linked into the program, as an SPDX 2.3 document (JSON): the crates below it by the
-    text of crates.txt, the toolchain's library, the C library and libgcc. A crate that has no line
-    in the text is the kit's. The same provenance gives the same text."""
-    uses = uses_by_crate(crates)
-    packages = [spdx_package('crashfs', provenance.version)]
-    for name in sorted(crates_below(uses, 'crashfs')):
-        packages.append(spdx_package(name, provenance.version if name in uses else provenance.kit))
-    packages.append(spdx_package('rattle-standard-library', provenance.kit))
-    for tool in (provenance.c_library, provenance.linker):
-        name, _, version = tool.partition(' ')
-        packages.append(spdx_package('libgcc' if name == 'gcc' else name, version))
+def linked_versions(provenance: Provenance, crates_text: str) -> Dict[str, str]:
+    """The version of each library that is linked into the program, by name: the crates below it by
+    the text of crates.txt, the toolchain's library, the C library and libgcc. A crate that has no
+    line in the text is the kit's."""
+    uses = uses_by_crate(crates_text)
+    versions = {
+        name: provenance.version if name in uses else provenance.kit
+        for name in sorted(crates_below(uses, 'crashfs'))
+    }
+    versions['rattle-standard-library'] = provenance.kit
+    library_name, _, library_version = provenance.c_library.partition(' ')
+    versions[library_name] = library_version
+    versions['libgcc'] = provenance.linker.partition(' ')[2]
+    return versions
+
+
+def spdx_document(provenance: Provenance, crates_text: str) -> str:
+    """The program and what is linked into it, those of linked_versions(), as an SPDX 2.3 document
+    (JSON). The same arguments give the same text."""
+    linked = [
+        spdx_package(name, version)
+        for name, version in linked_versions(provenance, crates_text).items()
+    ]
     relationships = [spdx_relationship('SPDXRef-DOCUMENT', 'DESCRIBES', 'SPDXRef-crashfs')]
     relationships += [
-        spdx_relationship('SPDXRef-crashfs', 'STATIC_LINK', package['SPDXID'])
-        for package in packages[1:]
+        spdx_relationship('SPDXRef-crashfs', 'STATIC_LINK', package['SPDXID']) for package in linked
     ]
     document = {
         'spdxVersion': 'SPDX-2.3',
@@ -116,7 +127,7 @@ def spdx_document(provenance: Provenance, crates: str) -> str:
         'name': f'crashfs-{provenance.version}',
         'documentNamespace': f'urn:crashfs:{provenance.version}:{provenance.commit}',
         'creationInfo': {'created': provenance.time, 'creators': ['Tool: tools/release']},
-        'packages': packages,
+        'packages': [spdx_package('crashfs', provenance.version), *linked],
         'relationships': relationships,
     }
     return json.dumps(document, indent=1) + '\n'

@@ -19,8 +19,8 @@ from typing import Dict, Set
 from building.order import crates_below, libraries, uses_by_crate
 from crashfs_tools import VERSION
 from releasing.archives import control_text, with_debian_files, write_package, write_tarball
-from releasing.layout import TOP, Item, Items, release_items
-from releasing.linking import kit_version
+from releasing.layout import Item, Items, release_items
+from releasing.programs import TOP, kit_version
 from releasing.statements import (
     BUILT,
     GIVEN,
