@@ -1,7 +1,7 @@
 """Which must-fail edits the gate tries: `python3 -m gating.turns COMMIT FOLDER`, in tools/.
 
 To try an edit, the prover proves its crate once more, so all edits take longer than all proofs.
-The gate therefore tries those of half of the crates: which half, the commit's name decides. The
+The gate therefore tries those of a third of the crates: which third, the commit's name decides. The
 others are moved to a folder, so that `rt ci` doesn't find them, and back when it has ended. The
 last line that is printed says how many are tried. `.ci/run --all-edits` moves none."""
 
@@ -15,7 +15,7 @@ from typing import Dict, List, Optional
 
 CRATES = Path(__file__).resolve().parent.parent.parent / 'crates'
 # How many groups the crates are in. The name of a commit is random, so each group has its turn.
-GROUPS = 2
+GROUPS = 3
 # An edit takes about as long as the proof of so many lines.
 LINES_PER_EDIT = 100
 # A folder's name beside `src` of a crate.

@@ -19,6 +19,8 @@ from .support import PATIENCE, TOOLS, InFolder, needed
 
 TOP = TOOLS.parent
 KIT = 'kit-1 logic ab'
+# Names of crates, each with one edit.
+SIX = ('one', 'two', 'three', 'four', 'five', 'six')
 RT = """\
 #!/bin/sh
 if [ "$1" = version ]; then
@@ -198,8 +200,8 @@ class Gate(InFolder):
         self.assert_verdict(1, '9 passed, 1 failed', BUILDS='no', BUILD='1')
 
     def write_edits(self) -> List[str]:
-        """Makes four crates that cost the same, with an edit each, and returns their paths."""
-        edits = [f'crates/{name}/must-fail/no.edit' for name in ('one', 'two', 'three', 'four')]
+        """Makes SIX crates that cost the same, with an edit each, and returns the edits' paths."""
+        edits = [f'crates/{name}/must-fail/no.edit' for name in SIX]
         for edit in edits:
             os.makedirs(os.path.dirname(self.path(f'repo/{edit}')))
             self.write(f'repo/{edit}', 'file: src/lib.rt\n')
@@ -207,16 +209,16 @@ class Gate(InFolder):
         self.git('-c', 'user.name=a', '-c', 'user.email=a@b', 'commit', '--quiet', '-m', 'Edits')
         return sorted(edits)
 
-    def test_the_edits_of_half_of_the_crates_are_tried_and_the_others_come_back(self) -> None:
+    def test_the_edits_of_a_third_of_the_crates_are_tried_and_the_others_come_back(self) -> None:
         edits = self.write_edits()
-        names = turns.group_crates(dict.fromkeys(('one', 'two', 'three', 'four'), 1))[
+        names = turns.group_crates(dict.fromkeys(SIX, 1))[
             turns.group_in_turn(self.git('rev-parse', 'HEAD'))
         ]
         for status, counts in (('0', '9 passed, 0 failed'), ('1', '8 passed, 1 failed')):
             lines = self.assert_verdict(int(status), counts, STATUS=status, COUNTS=counts)
             tried = [line for line in lines if line.endswith('.edit')]
             self.assertEqual(tried, [f'crates/{name}/must-fail/no.edit' for name in names])
-            self.assertIn('edits: 2 of 4, those of 2 of 4 crates', lines)
+            self.assertIn('edits: 2 of 6, those of 2 of 6 crates', lines)
             self.assertIn('tree: clean', lines)
             self.assertTrue(all(os.path.isfile(self.path(f'repo/{edit}')) for edit in edits))
 
@@ -268,13 +270,13 @@ class Turns(InFolder):
         self.assertEqual(turns.edits_cost(crates / 'tried'), 7 + 3 * turns.LINES_PER_EDIT)
 
     def test_the_edits_of_the_other_group_are_away_until_they_are_moved_back(self) -> None:
-        for name, edits in (('one', 2), ('two', 2), ('none', 0)):
+        for name, edits in (('one', 2), ('two', 2), ('three', 2), ('none', 0)):
             self.write_crate(name, 10, edits)
         crates, aside = Path(self.path('crates')), Path(self.path('aside'))
         whole = sorted(crates.rglob('*'))
-        for commit, there in (('10', 'one'), ('11', 'two')):
+        for commit, there in (('f', 'one'), ('10', 'three'), ('11', 'two')):
             line = turns.move_others_aside(commit, aside, crates)
-            self.assertEqual(line, 'edits: 2 of 4, those of 1 of 2 crates')
+            self.assertEqual(line, 'edits: 2 of 6, those of 1 of 3 crates')
             self.assertEqual({path.parent.name for path in crates.glob('*/must-fail')}, {there})
             turns.move_back(aside, crates)
             self.assertEqual(sorted(crates.rglob('*')), whole)
