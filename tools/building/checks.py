@@ -16,7 +16,8 @@ KILLED = (-signal.SIGKILL, 128 + signal.SIGKILL, 256 - signal.SIGKILL)
 
 
 class Check(NamedTuple):
-    """An ended check of a crate. `memory` is how many bytes the largest of its processes had."""
+    """An ended check of a crate: the status, negative for a signal, what was printed on both
+    outputs, and how many bytes of memory the largest of its processes had."""
 
     status: int
     output: bytes
@@ -30,8 +31,8 @@ class Check(NamedTuple):
 
 def run_check(words: List[str], folder: Path) -> Check:
     """Runs a command of `rt` in the folder of a crate, without input. Waits without limit until the
-    command, and each process that shares its outputs, has ended. `output` has what was printed on
-    both. Any status is returned; OSError if the command or the folder isn't there."""
+    command, and each process that shares its outputs, has ended. Any status is returned; OSError if
+    the command or the folder isn't there."""
     with subprocess.Popen(
         words,
         cwd=folder,
@@ -46,8 +47,9 @@ def run_check(words: List[str], folder: Path) -> Check:
 
 
 def wait_for_child(process: int) -> Tuple[int, int]:
-    """Waits without limit for a child to end. Returns its status, negative for a signal, and the
-    largest memory, in bytes, of one process: the child, or a descendant that was waited for.
+    """Waits without limit for the child of this number to end. Returns its status, negative for a
+    signal, and the largest memory, in bytes, of one process: the child, or a descendant that was
+    waited for. The caller must set `returncode` of the child's Popen, which can't wait any more.
     ChildProcessError if the child was waited for before."""
     _, status, usage = os.wait4(process, 0)
     return os.waitstatus_to_exitcode(status), usage.ru_maxrss * 1024
@@ -55,8 +57,9 @@ def wait_for_child(process: int) -> Tuple[int, int]:
 
 def killed_text(name: str, check: Check, jobs: int, processors: int) -> str:
     """A line about a check that the system has killed: the memory of its largest process, with how
-    many jobs it ran, the machine's memory, and what helps. `processors` is how many all checks had:
-    half of them help, or another machine if it was one. OSError as memory_of_machine()."""
+    many jobs the check ran, the machine's memory, and advice. `processors` is on how many all
+    checks ran: the advice is half of them, or another machine if it was one. OSError as
+    memory_of_machine()."""
     advice = (
         f'run tools/build --processors {processors // 2}'
         if processors > 1

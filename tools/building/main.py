@@ -14,7 +14,7 @@ from pathlib import Path
 from .order import TOP, Work, chain_lengths, libraries
 from .proving import (
     build_program,
-    copy_libraries_home,
+    copy_proved_libraries,
     copy_sources_to,
     error_text,
     prove_crates_in,
@@ -67,11 +67,11 @@ def main() -> int:
 
 
 def build_all(processors: int) -> int:
-    """Proves the libraries on so many processors, then builds the program. Returns the status: 0 if
-    all is proved and built. After a crate that isn't proved no other is begun, but running checks
-    go on to their end. Proved libraries are copied to the repository itself in either case. OSError
-    if crates.txt or a text can't be read, or a copy of the repository or a library can't be
-    made."""
+    """Proves the libraries on this number of processors, then builds the program. Returns the
+    status: 0 if all is proved and built. After a crate that isn't proved no other is begun, but
+    running checks go on to their end. Proved libraries are copied to the repository itself in
+    either case. OSError if crates.txt or a text can't be read, or a copy of the repository or of a
+    library can't be made."""
     uses, start_time = libraries(), time.monotonic()
     work = Work(uses, chain_lengths(uses), processors)
     with tempfile.TemporaryDirectory(prefix='crashfs-build-') as folder:
@@ -88,5 +88,5 @@ def build_all(processors: int) -> int:
         for thread in threads:
             thread.join()
         # After a failure too: the next build then proves only what is left.
-        copy_libraries_home(work)
+        copy_proved_libraries(work)
     return 1 if work.failed_crate else build_program(start_time)

@@ -79,9 +79,10 @@ def chain_lengths(uses: Dict[str, List[str]]) -> Dict[str, int]:
 @dataclass
 class Work:
     """What is left to prove, shared by threads, one for each copy of the repository. uses and
-    chain_lengths are as libraries() and chain_lengths() return them. proved_in has the copy in
-    which each crate was proved, begun_crates each crate whose check has begun, jobs the number of
-    processors of each running check. failed_crate is the first that was not proved."""
+    chain_lengths are as libraries() and chain_lengths() return them. Threads hold change_condition
+    to change the rest: proved_in, the copy in which each crate was proved; begun_crates, whose
+    checks have begun; jobs, the number of processors of each running check; and failed_crate, the
+    first that was not proved."""
 
     uses: Dict[str, List[str]]
     chain_lengths: Dict[str, int]
@@ -93,8 +94,8 @@ class Work:
     change_condition: threading.Condition = field(default_factory=threading.Condition)
 
     def ready_crates(self) -> List[str]:
-        """The crates whose check may begin: it hasn't, and the crates that they use are proved. The
-        caller must hold change_condition."""
+        """The crates whose checks may begin: no check of them has begun, and the crates that they
+        use are proved. The caller must hold change_condition."""
         return [
             crate
             for crate in self.uses
@@ -103,10 +104,9 @@ class Work:
         ]
 
     def jobs_wanted(self, name: str, spare_processors: int) -> int:
-        """How many processors a ready crate can use: two if its chain is longer than those of all
-        running checks, else one, and all that the other ready crates don't need (spare_processors);
-        at most MOST_JOBS, but one with MANY_BELOW or more crates below. The caller must hold
-        change_condition."""
+        """How many processors a ready crate should get: one if MANY_BELOW crates or more are below
+        it; else two if its chain is longer than those of all running checks, or spare_processors if
+        that is more, at most MOST_JOBS. The caller must hold change_condition."""
         if len(crates_below(self.uses, name)) >= MANY_BELOW:
             return 1
         is_longest = all(
@@ -115,9 +115,9 @@ class Work:
         return min(MOST_JOBS, max(2 if is_longest else 1, spare_processors))
 
     def choose_crate(self) -> Optional[Tuple[str, int]]:
-        """The crate to prove next, the ready one with the longest chain, and its number of
-        processors: jobs_wanted(), or as many as are idle. None if no crate is ready or no processor
-        idle. Changes nothing; the caller must hold change_condition."""
+        """The crate to prove next, which is the ready one with the longest chain, and its number of
+        processors: jobs_wanted(), or fewer if fewer are idle. None if no crate is ready or no
+        processor idle. Changes nothing; the caller must hold change_condition."""
         ready_crates = self.ready_crates()
         idle_processors = self.processors - sum(self.jobs.values())
         if not ready_crates or idle_processors < 1:

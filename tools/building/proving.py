@@ -65,10 +65,10 @@ def prove_crates_in(copy: Path, work: Work, start_time: float) -> None:
 
 
 def check_crate_in(copy: Path, work: Work, name: str, jobs: int) -> Tuple[Path, Check]:
-    """Checks a crate in a copy of the repository, or, if the library of the repository itself is
-    current, in that, which takes a second. Returns the copy that was used, and the check. Any
+    """Checks a crate in a copy of the repository, or, if the library in the repository itself is
+    current, there, which takes a second. Returns the copy that was used, and the check. Any
     exception, as of a full disk, becomes a failed check with its text, since other threads wait for
-    the crate's end."""
+    the crate's end. The crates below must be in work.proved_in."""
     used_copy = copy
     try:
         if is_library_current(TOP, name):
@@ -86,9 +86,9 @@ def error_text(error: Exception) -> str:
     return shorten(escape_unprintable(f'{type(error).__name__}: {error}'))
 
 
-def copy_libraries_home(work: Work) -> None:
-    """Copies each proved library to the repository itself. OSError if one can't be copied: then
-    those after it aren't copied either."""
+def copy_proved_libraries(work: Work) -> None:
+    """Copies each proved library to the repository itself. OSError if a library can't be copied:
+    then those after it aren't copied either."""
     for name, copy in work.proved_in.items():
         copy_library(copy, TOP, name)
 

@@ -22,8 +22,8 @@ def read_stamp(library: Path) -> bytes:
 def copy_library(source_copy: Path, target_copy: Path, name: str) -> None:
     """Copies the proved library of a crate between copies of the repository, so that `rt` doesn't
     prove it again. Does nothing if both have the same library, or none. OSError if the source has
-    none, or it can't be copied: the target's own was removed before, and a part of the new one is
-    left only in `rlib.part`."""
+    none, or it can't be copied: then the target has no library, but there may be a part of one in
+    `rlib.part`."""
     source_library = library_folder(source_copy, name)
     target_library = library_folder(target_copy, name)
     if read_stamp(source_library) == read_stamp(target_library):

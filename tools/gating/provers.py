@@ -17,7 +17,7 @@ PROCESSES = Path('/proc')
 class Prover:
     """A process that proves: its number, when it began, in seconds after the system did, how many
     processor seconds it and its ended children took, its memory in bytes, its crate, and what it
-    works on (kind_of_work)."""
+    works on, as kind_of_work() returns it."""
 
     number: int
     start_time: float

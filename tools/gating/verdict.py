@@ -67,8 +67,8 @@ def parse_verdict(log: str) -> Verdict:
 
 def counts_of_passed_gate(log: str, commit: str, toolchain: str) -> str:
     """The counts of a passed gate, as `N passed, 0 failed`, from `log`, what `.ci/run` printed.
-    ValueError if the gate didn't pass, or was of another commit or toolchain, or if the log doesn't
-    end as a gate does."""
+    ValueError if the gate didn't pass or didn't try all must-fail edits, or was of another commit
+    or toolchain, or if the log doesn't end as a gate does."""
     verdict = parse_verdict(log)
     reasons = verdict.reasons_against(commit, toolchain)
     if reasons:

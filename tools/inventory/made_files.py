@@ -9,8 +9,8 @@ from .sources import TOP
 
 
 def outdated_files(texts: Dict[Path, str]) -> List[Path]:
-    """The paths of `texts` at which there is no file, or one with another text than `texts` has for
-    it; in its order. UnicodeDecodeError for a file that isn't UTF-8."""
+    """The paths of `texts`, in its order, at which there is no file, or a file with another text.
+    UnicodeDecodeError for a file that isn't UTF-8."""
     return [
         path
         for path, text in texts.items()
@@ -19,8 +19,8 @@ def outdated_files(texts: Dict[Path, str]) -> List[Path]:
 
 
 def outdated_lines(texts: Dict[Path, str], sources: str, command: str) -> List[str]:
-    """A line for each path of outdated_files(): it is older than `sources`, so the command of
-    tools/ must be run. ValueError if a path isn't below the repository; errors as
+    """A line for each outdated file, also if it is missing, with what it is older than, `sources`,
+    and which command of tools/ writes it. ValueError if the file isn't in the repository; errors as
     outdated_files()."""
     return [
         f'{path.relative_to(TOP)} is older than {sources}: run tools/{command}'
@@ -30,7 +30,8 @@ def outdated_lines(texts: Dict[Path, str], sources: str, command: str) -> List[s
 
 def write_outdated_files(texts: Dict[Path, str]) -> None:
     """Writes the files of outdated_files(), and makes the folder of a file if only this folder is
-    missing. Other files aren't written again. After an OSError the files before are written."""
+    missing. Other files aren't written again. OSError if a file can't be written: those before it
+    are. UnicodeDecodeError as outdated_files(), before anything is written."""
     for path in outdated_files(texts):
         path.parent.mkdir(exist_ok=True)
         path.write_text(texts[path], encoding='utf-8')

@@ -59,8 +59,8 @@ def lines_of_tool_tests() -> List[str]:
 
 
 def lines_of_cases() -> List[str]:
-    """The lines that list tools/tests/data/cases: a heading and a table for each folder. OSError if
-    it isn't there."""
+    """The lines that list the cases: a heading and a table for each folder of case_areas(). OSError
+    as there."""
     lines: List[str] = []
     for area in case_areas():
         lines += ['', f'### tools/tests/data/cases/{area}', '', '| Example | File |', '|---|---|']
@@ -102,26 +102,28 @@ def calls_text(calls: List[str]) -> str:
     return f'{names} and {count_left} more' if count_left > 0 else names
 
 
+def lines_of_words(crate: str, calls: Dict[str, List[str]]) -> List[str]:
+    """The lines that list the words of a crate: a heading, and a table with what each word says,
+    its file, and the calls that cite it. `calls` has these by word, but no word that nothing cites.
+    Empty if the crate has no words."""
+    rows = [
+        f'| `{table_cell(word.name)}` | {table_cell(word.sentence)} | {word.file} '
+        f'| {calls_text(calls.get(word.name, []))} |'
+        for word in words_of(crate)
+    ]
+    head = ['| Word | What it says | File | Cited by |', '|---|---|---|---|']
+    return ['', f'## {crate}', '', *head, *rows] if rows else []
+
+
 def words_list() -> str:
-    """The list of the words of `specs/` of all crates, as Markdown: what each word says, its file,
-    and the calls whose contracts cite it, if any do. Crates without words are left out. OSError if
-    a source can't be read."""
-    calls_by_crate, lines = citations(), []
-    for crate in crate_names():
-        words, calls = words_of(crate), calls_by_crate.get(crate, {})
-        if words:
-            lines += [
-                '',
-                f'## {crate}',
-                '',
-                '| Word | What it says | File | Cited by |',
-                '|---|---|---|---|',
-            ]
-            lines += [
-                f'| `{table_cell(word.name)}` | {table_cell(word.sentence)} | {word.file} '
-                f'| {calls_text(calls.get(word.name, []))} |'
-                for word in words
-            ]
+    """The list of the words of `specs/` of all crates, as Markdown, by crate: lines_of_words() with
+    citations(). OSError if a source can't be read."""
+    calls_by_crate = citations()
+    lines = [
+        line
+        for crate in crate_names()
+        for line in lines_of_words(crate, calls_by_crate.get(crate, {}))
+    ]
     return '\n'.join(lines).strip()
 
 

@@ -40,16 +40,14 @@ def table_lines(rows: List[Row]) -> Iterator[str]:
 
 
 def row_cells(row: Row) -> Iterator[str]:
-    """The cells of a session in the table, in the order of its columns. Those of the profiles are
-    empty if no state fails; else a profile that the trace doesn't have counts as 0."""
+    """The cells of a session in the table, in the order of the columns: of the session, of all its
+    states, of each profile and of each file system."""
     yield f'{row["store"]} {row["version"]}'
     yield f'[{row["session"]}]({STORES}/{row["key"].partition("/")[0]})'
     yield states_cell(row)
     yield failing_cell(row)
-    for profile in PROFILES:
-        yield f'{row["profiles"].get(profile, 0):,}' if row['failing'] else ''
-    for file_system in DISKS:
-        yield disk_cell(row, file_system)
+    yield from (profile_cell(row, profile) for profile in PROFILES)
+    yield from (disk_cell(row, file_system) for file_system in DISKS)
 
 
 def states_cell(row: Row) -> str:
@@ -71,6 +69,12 @@ def failing_cell(row: Row) -> str:
     if len(causes) == 1:
         return f'{row["failing"]:,} {causes[0][0]}'
     return f'{row["failing"]:,}: ' + ', '.join(f'{count:,} {word}' for word, count in causes)
+
+
+def profile_cell(row: Row, profile: str) -> str:
+    """How many of the failing states a profile allows: 0 also if the trace doesn't have the
+    profile. Empty if no state fails."""
+    return f'{row["profiles"].get(profile, 0):,}' if row['failing'] else ''
 
 
 def disk_cell(row: Row, file_system: str) -> str:

@@ -69,8 +69,8 @@ def comment_above(lines: List[str], index: int, mark: str) -> str:
 
 def tests_in(path: Path) -> List[DescribedTest]:
     """The tests of a file of a crate, in their order; a test without a comment has an empty
-    sentence. Only a `#[test]` that is alone in its line counts. StopIteration if no function
-    follows one, OSError if the file can't be read."""
+    sentence. Only a `#[test]` that is alone in its line counts: StopIteration if no function
+    follows it. OSError if the file can't be read."""
     lines = path.read_text(encoding='utf-8').splitlines()
     tests: List[DescribedTest] = []
     for index, line in enumerate(lines):
@@ -136,7 +136,7 @@ def words_in(path: Path, file: str) -> List[Word]:
 
 
 def words_of(crate: str) -> List[Word]:
-    """The public words of a crate's `specs/`, by file, sorted, and in the order of the file. Empty
+    """The public words of a crate's `specs/`, sorted by file, and in the order of each file. Empty
     if the crate has no such folder."""
     folder = CRATES / crate / 'specs'
     return [

@@ -46,13 +46,13 @@ LINTERS: Dict[str, Callable[[], Faults]] = {
 def summary_line(faults_by_linter: Dict[str, Faults]) -> str:
     """The last line that is printed: how many linters passed, how many and which failed, and how
     many and which were skipped because they aren't installed."""
-    failed = [name for name, faults in faults_by_linter.items() if faults]
-    skipped = [name for name, faults in faults_by_linter.items() if faults is None]
-    passed_count = len(faults_by_linter) - len(failed) - len(skipped)
-    line = f'lint: {passed_count} passed, {len(failed)} failed'
-    line += f' ({", ".join(failed)})' if failed else ''
-    line += f', {len(skipped)} skipped'
-    return f'{line} (not installed: {", ".join(skipped)})' if skipped else line
+    failed_names = [name for name, faults in faults_by_linter.items() if faults]
+    skipped_names = [name for name, faults in faults_by_linter.items() if faults is None]
+    passed_count = len(faults_by_linter) - len(failed_names) - len(skipped_names)
+    line = f'lint: {passed_count} passed, {len(failed_names)} failed'
+    line += f' ({", ".join(failed_names)})' if failed_names else ''
+    line += f', {len(skipped_names)} skipped'
+    return f'{line} (not installed: {", ".join(skipped_names)})' if skipped_names else line
 
 
 def run_linters(linters: Dict[str, Callable[[], Faults]]) -> int:

@@ -90,10 +90,10 @@ def use_faults(layers: Dict[str, int], uses: Dict[str, List[str]]) -> List[str]:
 
 
 def crate_page_faults(page: str, uses: Dict[str, List[str]]) -> List[str]:
-    """A sentence for each fault of the page. `uses` has the crates of crates.txt, each with those
-    that it uses: a crate of the program must be in the picture and in the table, each time once.
-    The other faults are those of layer_faults(), row_faults() and use_faults(). IndexError if the
-    page lacks the picture or the table."""
+    """A sentence for each fault of the page: each crate of the program that isn't once in the
+    picture, or not once in the table, and what layer_faults(), row_faults() and use_faults() find.
+    `uses` has the crates of crates.txt, each with those that it uses. IndexError if the page lacks
+    the picture or the table."""
     picture, table = crates_in_picture(page), crates_in_table(page)
     layers = dict(picture)
     program_crates = [name for name in uses if not NOT_OF_THE_PROGRAM.search(name)]

@@ -48,9 +48,9 @@ def long_function_faults(source: str) -> Iterator[str]:
     for node in ast.walk(ast.parse(source)):
         if isinstance(node, FUNCTION):
             option_rows = filter(is_option_row, node.body)
-            lines = line_count(node) - sum(map(line_count, option_rows))
-            if lines > MOST_LINES_OF_FUNCTION:
-                yield f'{node.name} has {lines} lines: {MOST_LINES_OF_FUNCTION} at most'
+            count = line_count(node) - sum(map(line_count, option_rows))
+            if count > MOST_LINES_OF_FUNCTION:
+                yield f'{node.name} has {count} lines: {MOST_LINES_OF_FUNCTION} at most'
 
 
 def most_columns(path: Path) -> int:
@@ -71,8 +71,8 @@ def wide_crate_line_faults() -> List[str]:
 
 
 def wide_python_line_faults() -> List[str]:
-    """A sentence for each line of Python that has more than CODE_COLUMNS, also if a long text is
-    the reason. UnicodeDecodeError if a file isn't UTF-8."""
+    """A sentence for each line of python_files() that has more than CODE_COLUMNS, also if a long
+    text is the reason. UnicodeDecodeError if a file isn't UTF-8."""
     return [
         f'{path_from_top(path)}:{number}: longer than {CODE_COLUMNS} columns'
         for path in python_files()
@@ -85,9 +85,9 @@ def long_file_faults() -> Iterator[str]:
     """A sentence for each file of crate_sources(), and each module of tools/, tests included, that
     has more than MOST_LINES lines. UnicodeDecodeError if a file isn't UTF-8."""
     for path in [*crate_sources(), *TOOLS.rglob('*.py')]:
-        lines = len(path.read_text('utf-8').splitlines())
-        if lines > MOST_LINES:
-            yield f'{path_from_top(path)} has {lines} lines: {MOST_LINES} at most'
+        count = len(path.read_text('utf-8').splitlines())
+        if count > MOST_LINES:
+            yield f'{path_from_top(path)} has {count} lines: {MOST_LINES} at most'
 
 
 def layout_faults() -> List[str]:

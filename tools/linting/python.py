@@ -34,9 +34,9 @@ def install_packages(names: List[str]) -> None:
 
 
 def run_linter(words: List[str], files: List[Path]) -> Optional[List[str]]:
-    """Runs a linter on files of the repository, and waits for it without limit; `words` are its
-    name and its options. Returns an empty list if its status is 0, else the lines that it prints on
-    both outputs, or its status if it prints none; None if it isn't installed."""
+    """Runs a linter in the top folder on files of the repository, and waits for it without limit.
+    `words` are its name and its options. Returns an empty list if its status is 0, else the lines
+    that it prints on both outputs, or its status if it prints none; None if it isn't installed."""
     if shutil.which(words[0]) is None:
         return None
     process = subprocess.run(
@@ -58,7 +58,8 @@ def flake8_faults() -> Optional[List[str]]:
 
 
 def black_faults() -> Optional[List[str]]:
-    """The Python files that black would change; None if it isn't installed."""
+    """What black prints of the Python files that it would change, which stay as they are; None if
+    it isn't installed."""
     return run_linter(['black', '--check'], python_files())
 
 

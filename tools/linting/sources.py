@@ -49,8 +49,8 @@ def test_files() -> List[Path]:
 
 
 def crate_sources() -> List[Path]:
-    """The files of all crates that the prover reads, .rt and .antt below their CRATE_FOLDERS;
-    sorted within each of these."""
+    """The files of all crates that the prover reads, .rt and .antt, by folder of CRATE_FOLDERS, and
+    sorted in each."""
     return [
         path
         for folder in CRATE_FOLDERS

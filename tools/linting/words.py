@@ -38,8 +38,8 @@ class Line(NamedTuple):
 
 
 def numbered_lines(path: Path, text: str, first_number: int = 1) -> Iterator[Line]:
-    """The lines of a text, whose first line is that of this number in a file; str.splitlines()
-    divides them. ValueError if the file isn't of the repository."""
+    """The lines of a text of a file, as str.splitlines() divides it. first_number is the number of
+    the text's first line in the file. ValueError if the file isn't of the repository."""
     for number, line in enumerate(text.splitlines(), first_number):
         yield Line(path_from_top(path), number, line)
 
@@ -52,8 +52,7 @@ def without_made_parts(page: str) -> str:
 
 def lines_of_pages() -> Iterator[Line]:
     """The lines of all pages, of the manual pages, and of the examples that print something or were
-    printed; without the made parts, as without_made_parts() leaves them out. OSError if README,
-    CHANGELOG or SECURITY isn't there."""
+    printed, but not of made parts. OSError if README, CHANGELOG or SECURITY isn't there."""
     pages = [TOP / name for name in ('README.md', 'CHANGELOG.md', 'SECURITY.md')]
     pages += sorted((TOP / 'docs').rglob('*.md')) + sorted((TOP / 'docs' / 'man').iterdir())
     pages += sorted((TOP / 'helpers').glob('*/README.md'))
@@ -88,8 +87,8 @@ def names_in_python(source: str) -> Iterator[Tuple[int, str]]:
 
 
 def texts_in_rattle(source: str) -> List[Tuple[int, str]]:
-    """The texts in double quotes of a Rattle source, each after the number of its first line.
-    Comment lines are left out, but not comments after code."""
+    """The texts in double quotes of a Rattle source, each after the number of its first line. Those
+    in comment lines are left out; those in comments after code aren't."""
     code = re.sub(r'^[ \t]*//.*$', '', source, flags=re.MULTILINE)
     return [
         (code.count('\n', 0, text.start()) + 1, text[1]) for text in TEXT_OF_RATTLE.finditer(code)

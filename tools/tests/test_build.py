@@ -20,7 +20,12 @@ from building import checks, main, order, proving
 from building.checks import Check, killed_text, run_check
 from building.memory import GIGABYTE, available_memory, memory_of_machine
 from building.order import MANY_BELOW, Work, libraries, count_lines
-from building.proving import build_program, is_library_current, copy_libraries_home, prove_crates_in
+from building.proving import (
+    build_program,
+    copy_proved_libraries,
+    is_library_current,
+    prove_crates_in,
+)
 from building.sharing import copy_library
 
 from .support import PATIENCE
@@ -175,7 +180,7 @@ class Sharing(unittest.TestCase):
             prove_crates_in(self.room / '2', work, 0)
             self.assertEqual((self.given('2', 'a'), self.given('2', 'b')), ('a', 'b'))
             with mock.patch.object(proving, 'TOP', self.room / 'top'):
-                copy_libraries_home(work)
+                copy_proved_libraries(work)
         self.assertEqual([self.given('top', it) for it in 'abcd'], list('abcd'))
         self.assertEqual(work.proved_in['e'], self.room / '2')
 
