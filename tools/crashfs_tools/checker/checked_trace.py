@@ -5,6 +5,7 @@ from __future__ import annotations
 
 import os
 import stat
+from contextlib import contextmanager
 from functools import cached_property
 from typing import TYPE_CHECKING, Iterator, Optional
 
@@ -16,7 +17,7 @@ from crashfs_tools.checker.states.plan import Offsets, PlannedTrace
 from crashfs_tools.checker.states.planning import Planner, TooLarge
 from crashfs_tools.common.command import TEXT, Refused
 from crashfs_tools.common.guard import Guard
-from crashfs_tools.common.program import Crashfs
+from crashfs_tools.common.program import Crashfs, ProgramFault
 from crashfs_tools.common.trace_lines import TraceText, parse_trace_text, trace_version
 
 from .options import Options
@@ -37,9 +38,10 @@ class CheckedTrace:
         guard: Guard,
         progress: Optional[Progress] = None,
     ) -> None:
-        """Reads the whole trace, which the options must name, also from a pipe; OSError if it can't
-        be read. Its lines aren't checked yet. If the program takes no traces of this version, the
-        second reading takes its place. Without `progress` a new one is shown on standard error."""
+        """Reads the whole trace, which the options must name, but doesn't check its lines. A trace
+        from a pipe is copied below the guard's directory. OSError if the trace can't be read or
+        copied. If the program takes no traces of this version, the second reading takes its place.
+        Without `progress` a new one is shown on standard error."""
         assert options.trace is not None
         self.options, self.guard = options, guard
         self.progress = progress or Progress()
@@ -47,8 +49,7 @@ class CheckedTrace:
         with open(self.path, **TEXT) as file:
             self.text = file.read()
             status = os.fstat(file.fileno())
-        # A report shows parts of the trace only to users who may read the trace.
-        self.mode = 0o600 | status.st_mode & 0o066
+        self.mode = mode_of_report(status)
         if not stat.S_ISREG(status.st_mode):
             self.path = self.copy_to_file()
         self.program = program.program_for_version(trace_version(self.text))
@@ -56,9 +57,9 @@ class CheckedTrace:
         self.windows: Optional[Windows] = None
 
     def copy_to_file(self) -> str:
-        """Writes the trace to a file below the guard's directory, and returns its path. This is for
-        a trace from a pipe, since the program reads it several times. OSError if the file can't be
-        written."""
+        """Writes the trace to a file in the guard's directory, and returns the file's path. A trace
+        from a pipe needs it, since the program reads the trace several times. OSError if the file
+        can't be written."""
         path = os.path.join(self.guard.directory, 'trace')
         with open(path, 'w', **TEXT) as file:
             file.write(self.text)
@@ -66,7 +67,7 @@ class CheckedTrace:
 
     def all_planned(self) -> Iterator[PlannedTrace]:
         """Yields the plan of the trace or, if --window is given or the trace is too long for one
-        plan, of each window: the window's files are removed when the next one is asked for. Each
+        plan, that of each window, whose files are removed when the next plan is asked for. Each
         call plans again, and sets `windows` for a trace in windows. Refused for a trace with a
         fault, and for one that is too long with --serve or --disks; PlanError or ProgramFault if
         the program fails otherwise."""
@@ -106,14 +107,14 @@ class CheckedTrace:
 
     def trials_with_state(self, number: int) -> Trials:
         """Plans window after window until one lists the state of this number, and returns the
-        trials of that window, whose files stay. A check may leave the state out. Refused if no
-        window lists it, and as all_planned()."""
-        listed_states = 0
+        trials of that window, whose files stay. The state may be one that a check wouldn't try.
+        Refused if no window lists the state; other errors as in all_planned()."""
+        state_count = 0
         for planned in self.all_planned():
             if planned.plan.has_state(number):
                 return Trials(self.workplace, planned)
-            listed_states += len(planned.plan.listed)
-        raise Refused(f'no such state: {number} (there are {listed_states:,})')
+            state_count += len(planned.plan.listed)
+        raise no_such_state(number, state_count)
 
     def new_head(self) -> Head:
         """A new head of a report, which says what is checked. Its `lines` are empty: they can only
@@ -123,13 +124,13 @@ class CheckedTrace:
             self.digest(),
             self.options.command,
             self.options.shard,
-            self.program.is_unproved,
+            unproved=self.program.is_unproved,
             refused_version=self.program.refused_version,
         )
 
     def digest(self) -> str:
-        """The trace's SHA-256, in hexadecimal digits, if --json, --resume or --merge is given,
-        which need it; else an empty text."""
+        """The trace's SHA-256, in hexadecimal digits; an empty text unless --json, --resume or
+        --merge is given, which need the digest."""
         if not (self.options.json or self.options.resume or self.options.merge):
             return ''
         import hashlib
@@ -138,12 +139,33 @@ class CheckedTrace:
 
     def plan_end(self) -> Optional[PlannedTrace]:
         """Plans the end of a session in windows: a trace that starts with the tree there and does
-        nothing, so its one state is that tree with all acknowledged lines. None for a session in
-        one plan, which has that state. Call it after all_planned() has yielded a plan. Refused as
-        Planner.plan(), OSError if the trace can't be written."""
+        nothing. Its only state is that tree with all acknowledged lines; the state's number, how
+        many micro-operations the session has, may be that of another state too. None for a session
+        in one plan, which has that tree. Call it after all_planned() has yielded a plan. Errors as
+        in Planner.plan(); OSError if the trace can't be written."""
         if self.windows is None:
             return None
         path = self.windows.write_end()
-        return self.planner.plan(
-            path, Offsets(self.windows.session.places[-1], says=len(self.acknowledged_lines.texts))
-        )
+        count, line_count = self.windows.session.places[-1], len(self.acknowledged_lines.texts)
+        return self.planner.plan(path, Offsets(states=count, says=line_count))
+
+    @contextmanager
+    def refused_faults(self) -> Iterator[None]:
+        """Within this a ProgramFault, as of a state that can't be made, is raised as the Refused
+        that Planner.make_refusal() makes of it. Other exceptions pass."""
+        try:
+            yield
+        except ProgramFault as fault:
+            raise self.planner.make_refusal('tar', fault) from fault
+
+
+def mode_of_report(source: os.stat_result) -> int:
+    """The mode of a file that shows parts of a source, such as the trace: its owner may read and
+    write it, and others only if they may do so with the source."""
+    return 0o600 | source.st_mode & 0o066
+
+
+def no_such_state(number: int, state_count: int) -> Refused:
+    """A new Refused for the number of a state that isn't among the state_count listed ones. It
+    isn't raised yet."""
+    return Refused(f'no such state: {number} (there are {state_count:,})')

@@ -21,7 +21,7 @@ from crashfs_tools.checker.running.runner import do_nothing
 from crashfs_tools.checker.running.trials import Trials
 from crashfs_tools.common.command import Refused, print_line, with_program_path
 from crashfs_tools.common.guard import Guard
-from crashfs_tools.common.program import Crashfs, ProgramFault
+from crashfs_tools.common.program import Crashfs
 from crashfs_tools.common.signals import Stopped, TimeUp, time_limit
 from crashfs_tools.common.whole_files import write_whole_file
 
@@ -63,15 +63,14 @@ class Check:
     states were tried, None before the first, and has_tried_all says whether all states of the
     session's last window were tried, and its examples again."""
 
-    def __init__(self, trace: CheckedTrace, has_states: bool = False) -> None:
+    def __init__(self, trace: CheckedTrace, *, has_states: bool = False) -> None:
         """Reads the files of --accept and --resume, if they are given. With has_states the report
-        keeps the outcome of each state. Refused if a file can't be read, or isn't such a file of
-        this check."""
+        keeps the outcome of each state. Refused if one of the files can't be read, or isn't what
+        its option asks for."""
         self.trace = trace
         self.options = trace.options
         self.head = trace.new_head()
-        self.report = new_report(self.head, self.options)
-        self.report.has_states = has_states
+        self.report = new_report(self.head, self.options, has_states=has_states)
         self.earlier_results = self.read_earlier_results()
         self.last_window: Optional[Window] = None
         self.has_tried_all = False
@@ -80,8 +79,8 @@ class Check:
 
     def read_earlier_results(self) -> Optional[AllResults]:
         """The results in the file of --resume, without those of second crashes and disks; None
-        without that option, or if there is no such file yet. Refused if it can't be read, or isn't
-        the report of a check of the same trace, COMMAND and shard."""
+        without that option, or if there is no such file yet. Refused if the file can't be read, or
+        isn't the report of a check of the same trace, COMMAND and shard."""
         path = self.options.resume
         if path is None or not os.path.exists(path):
             return None
@@ -91,11 +90,11 @@ class Check:
         return earlier
 
     def run(self) -> CheckResult:
-        """Checks window after window, and returns the report, also if the check ends early. The
-        result has then a Stopped after a signal, an Interrupted with its cause after another fault,
-        and no exception for --fail-fast and the time limit. A fault before the first window's
-        states are tried is raised; so is a KeyboardInterrupt or SystemExit at any time. Call it
-        once; with a time limit, in the main thread."""
+        """Checks window after window, and returns the report, also if the check ends early. Then
+        the result has a Stopped after a signal, an Interrupted with its cause after a fault, and no
+        exception after --fail-fast or the time limit. A fault before the first window's states are
+        tried is raised; so is a KeyboardInterrupt or SystemExit at any time. Call it once; with a
+        time limit, in the main thread."""
         exception: Optional[Exception] = None
         try:
             with time_limit(self.options.time_limit):
@@ -106,7 +105,7 @@ class Check:
             exception = stopped
             self.note_end(str(stopped))
         except Exception as fault:
-            # Whatever it is: what was tried is not lost by it.
+            # After any fault the report has what was tried.
             if self.last_window is None:
                 raise
             exception = interrupted_by(fault)
@@ -127,9 +126,10 @@ class Check:
             self.head.stopped = self.head.stopped or cause
 
     def complete_report(self) -> None:
-        """Adds to the report what is only known at the end: what wasn't tried and why, second runs
-        after the time limit, of which none begins after RERUN_SECONDS, and how many outcomes came
-        from the cache. Saves the cache, also if the second runs raise an exception."""
+        """Adds to the report what is only known at the end: what wasn't tried and why, and how many
+        outcomes came from the cache. After the time limit it also runs the last window's examples
+        again; no run begins after RERUN_SECONDS. Saves the cache, also if these runs raise an
+        exception."""
         window = self.last_window
         self.head.has_rest = window is not None and not window.trials.planned.is_last
         if self.trace.windows is not None:
@@ -144,8 +144,8 @@ class Check:
             self.save_cache()
 
     def options_not_done(self) -> Iterator[str]:
-        """A line for --nested if the check ended early with recoveries left to try, and one for
-        --disks if nothing was tried on disks, each with the reason: what ended the check or, for
+        """Yields a line for --nested if the check ended early with recoveries left to try, and one
+        for --disks if nothing was tried on disks. Each has the reason: what ended the check or, for
         --disks, that only a part of the states is tried. No line for an option that isn't given."""
         why = f'stopped by {self.end_cause}' if self.end_cause else 'only a part of the states is'
         if self.options.nested and self.end_cause and self.second_crashes.recoveries_left:
@@ -156,9 +156,9 @@ class Check:
 
     def check_windows(self) -> None:
         """Checks window after window: tries its states, finds smallest losses, runs examples again,
-        and adds details. --fail-fast ends it after a window with a failing state or one without an
-        answer, before the details, but not if all states of the session were tried; and after a
-        second crash with either. Any other early end is an exception."""
+        and adds details. With --fail-fast a state that fails or gives no answer ends the check
+        before the details of its window, unless all states of the session were tried; such a state
+        of a second crash ends it after its recovery. Any other early end is an exception."""
         for planned in self.trace.all_planned():
             trials = Trials(self.trace.workplace, planned, keeps_trees=True)
             is_whole = self.try_window(trials)
@@ -176,19 +176,16 @@ class Check:
 
     def try_window(self, trials: Trials) -> bool:
         """Tries the states of a window, and returns whether each that was chosen has an outcome.
-        After an exception meanwhile, last_window and the report have what was found. Before any
-        state is tried it is Refused if --resume has another window here; before the first window
-        also if --cache can't be used, or COMMAND fails in the start tree or the end tree."""
+        Sets last_window, and adds the findings to the report, also after an exception of the
+        trials. Before them: Refused if --resume has another window here, and for the first window
+        as prepare_first_window()."""
         previous, planned = self.last_window, trials.planned
-        known = known_states(previous.trials.plan, planned.plan) if previous else {}
-        results = Results(planned.plan, numbers_before=known)
+        numbers_before = known_states(previous.trials.plan, planned.plan) if previous else {}
+        results = Results(planned.plan, numbers_before=numbers_before)
         if self.earlier_results is not None:
             self.add_earlier_outcomes(results, self.earlier_results)
         if previous is None:
-            self.head.lines = self.trace.lines.operations
-            if self.options.cache is not None:
-                self.open_cache(self.options.cache, trials)
-            FirstTrials(trials, results, self.trace.plan_end()).run()
+            self.prepare_first_window(trials, results)
         try:
             return trials.try_all(results, self.make_saver(results, has_rest=not planned.is_last))
         finally:
@@ -196,9 +193,18 @@ class Check:
             self.last_window = Window(trials, Findings(self.head, results, previous_outcomes))
             self.report.add(self.last_window.findings)
 
+    def prepare_first_window(self, trials: Trials, results: Results) -> None:
+        """Sets the lines of the head, opens the cache, and tries the tree at the session's end and
+        the start tree, whose outcomes the results get. Refused as open_cache(), and if COMMAND
+        fails in one of these trees; other errors as in FirstTrials.run()."""
+        self.head.lines = self.trace.lines.operations
+        if self.options.cache is not None:
+            self.open_cache(self.options.cache, trials)
+        FirstTrials(trials, results, self.trace.plan_end()).run()
+
     def open_cache(self, path: str, trials: Trials) -> None:
-        """Opens the cache in the directory of --cache, which is made if it isn't there, for the
-        trials of all windows. If it isn't known which files COMMAND opens, or one has changed,
+        """Opens the cache in the directory `path`, which is made if it isn't there, for the trials
+        of all windows. If it isn't known which files COMMAND opens, or one of them has changed,
         COMMAND is run under strace in the first and the last prefix. Refused if the directory can't
         be used, or COMMAND can't be traced; OSError if the list of files can't be written."""
         from crashfs_tools.checker.running.cache import OutcomeCache, open_folder
@@ -223,9 +229,9 @@ class Check:
                 print_line(NAME, f'--cache {error.filename}: {error.strerror}')
 
     def add_earlier_outcomes(self, results: Results, earlier: AllResults) -> None:
-        """Adds to the results of the window that is tried next the outcomes that an earlier check
-        has of it; none if that check ended before it. Refused if the earlier window has another
-        plan, since that was another check."""
+        """Adds to the results of the window that is tried next its outcomes in an earlier check;
+        nothing if that check ended before this window. Refused if the earlier check's window has
+        another plan: then it was a check of something else."""
         place = self.report.counts.windows
         if place < len(earlier.windows):
             if earlier.windows[place].identity() != results.identity():
@@ -234,9 +240,9 @@ class Check:
 
     def make_saver(self, results: Results, *, has_rest: bool) -> Callable[[], None]:
         """Returns a function to call after each state of a window; has_rest says whether the
-        session goes on after the window. Every SAVE_SECONDS it writes what is known to the file of
-        --json, so that a kill loses only what came later; an OSError is ignored. It does nothing
-        without --json, or if the file is standard output."""
+        session goes on after the window. Every SAVE_SECONDS that function writes what is known to
+        the file of --json, so that a kill loses only what came later; an OSError is ignored. It
+        does nothing without --json, or if the file is standard output."""
         path = self.options.json or '-'
         if path == '-':
             return do_nothing
@@ -244,13 +250,16 @@ class Check:
         from crashfs_tools.checker.running.saving import Saver
 
         def save() -> None:
-            write_whole_file(path, partial_pieces(self.report, results, has_rest), self.trace.mode)
+            """Writes the file of --json as it is if the check is killed now."""
+            pieces = partial_pieces(self.report, results, has_rest=has_rest)
+            write_whole_file(path, pieces, self.trace.mode)
 
         return Saver(save, SAVE_SECONDS).save_if_due
 
     def is_ended_by(self, window: Window) -> bool:
-        """Whether --fail-fast ends the check after this window, because a state of it fails or gave
-        no answer. False if all states of the session were tried: then no state is left to try."""
+        """Whether --fail-fast ends the check after this window, because a state of the window fails
+        or gave no answer. False if has_tried_all, which must be set before: then no state is left
+        to try."""
         return self.options.fail_fast and bool(window.findings.groups) and not self.has_tried_all
 
     @property
@@ -260,9 +269,9 @@ class Check:
         return self.head.shard.parts > 1 or self.options.serve is not None
 
     def find_losses(self, window: Window) -> None:
-        """Finds the smallest losses for states whose pair is a guess, and makes the groups of the
-        report again with them. Does nothing for a shard or a server. After an exception the report
-        has the groups from before."""
+        """Finds the smallest losses of failing states whose pair is a guess, and makes the groups
+        of the report again with these losses. Does nothing for a shard or a server. After an
+        exception the report has the groups from before."""
         findings = window.findings
         has_guess = any(group.pair.is_guess for group in findings.groups)
         if self.is_of_shard_or_server or not has_guess:
@@ -274,8 +283,8 @@ class Check:
 
     def rerun_examples(self, window: Window, seconds: float = float('inf')) -> None:
         """Runs the example of each of the largest groups of a window again, one at a time, and adds
-        the outcomes to the report. After so many seconds none is begun. After an exception none of
-        the outcomes is in the report."""
+        the outcomes to the report. After so many seconds no further run begins. After an exception
+        none of the outcomes is in the report."""
         if window.findings.groups:
             from crashfs_tools.checker.findings.reruns import rerun_examples
 
@@ -283,9 +292,10 @@ class Check:
             self.report.replace_last_window(window.findings)
 
     def add_details(self, window: Window) -> None:
-        """Adds to the report what is done after a window's states: how files differ, advice that is
-        tried, second crashes, and disks. Does nothing for a shard or a server. There are no disks
-        if second crashes ended the check. What was added before an exception stays."""
+        """Adds to the report what is found after a window's states: how files differ, what the
+        advice changes, second crashes, and what disks leave. Does nothing for a shard or a server.
+        Disks are left out if second crashes ended the check. What was added before an exception
+        stays."""
         if self.is_of_shard_or_server:
             return
         trials, findings = window.trials, window.findings
@@ -302,8 +312,9 @@ class Check:
             self.report.sightings = search_disks(trials, findings.outcomes_by_state)
 
     def add_recoveries(self, window: Window) -> None:
-        """Adds to the report what second crashes of a window leave. With --fail-fast the first
-        recovery in which a state fails or gives no answer is the last, and ends the check."""
+        """Adds to the report the recoveries in a window's states, each with the states of its
+        second crashes. With --fail-fast the first recovery with a state that fails or gives no
+        answer is the last one, and ends the check."""
         for recovery in self.second_crashes.try_recoveries(window.trials, window.findings):
             self.report.recoveries.append(recovery)
             if self.options.fail_fast and recovery.failing_count:
@@ -326,19 +337,25 @@ def interrupted_by(fault: Exception) -> Interrupted:
     return interrupted
 
 
-def new_report(head: Head, options: Options) -> CheckReport:
-    """A report without findings, with the failures of --accept if it is given. Only if the options
-    name files of --json and --html, it keeps what they need. Refused if the file of --accept can't
-    be read, or isn't one of accepted failures."""
-    accepted = AcceptedFailures.read(options.accept) if options.accept else None
-    return CheckReport(head, options.json is not None, options.html is not None, accepted)
+def new_report(head: Head, options: Options, *, has_states: bool = False) -> CheckReport:
+    """A report without findings, with the failures of --accept if it is given. It keeps what --json
+    and --html need only if the options have them, and the outcome of each state with has_states.
+    Refused if the file of --accept can't be read, or isn't a list of accepted failures."""
+    return CheckReport(
+        head,
+        has_json=options.json is not None,
+        has_page=options.html is not None,
+        has_states=has_states,
+        accept_list=AcceptedFailures.read(options.accept) if options.accept else None,
+    )
 
 
 @contextmanager
 def open_trace(options: Options, guard: Guard, progress: Progress) -> Iterator[CheckedTrace]:
-    """Opens the trace that some options name. In the options COMMAND's program becomes its whole
-    path, or COMMAND the name of the function. Refused if the trace, the program, COMMAND or a file
-    system of --disks can't be used, and in the place of a ProgramFault of the block."""
+    """Yields the trace that some options name, ready for a check. Changes their `command`: its
+    program gets its absolute path, or it becomes the name of the function. Refused if the trace,
+    the program, COMMAND or a file system of --disks can't be used, and in the place of a
+    ProgramFault that is raised within the `with`."""
     refuse_unreadable(options.trace or '')
     if options.disks is not None:
         from crashfs_tools.disks.filesystems import require_filesystems
@@ -350,14 +367,12 @@ def open_trace(options: Options, guard: Guard, progress: Progress) -> Iterator[C
     else:
         options.command = FunctionRecovery(options.function).words
     trace = CheckedTrace(options, program, guard, progress)
-    try:
+    with trace.refused_faults():
         yield trace
-    except ProgramFault as fault:
-        raise trace.planner.make_refusal('tar', fault) from fault
 
 
 def refuse_unreadable(trace: str) -> None:
-    """Refuses a trace unless its path leads to a file that can be read, or to a pipe. A pipe isn't
+    """Refused unless a trace's path leads to a file that can be read, or to a pipe. A pipe isn't
     opened, because it can be read only once."""
     try:
         mode = os.stat(trace).st_mode
@@ -371,10 +386,10 @@ def refuse_unreadable(trace: str) -> None:
 
 
 def check_trace(
-    options: Options, guard: Guard, progress: Progress, has_states: bool = False
+    options: Options, guard: Guard, progress: Progress, *, has_states: bool = False
 ) -> CheckResult:
-    """Checks the trace that some options name, whose COMMAND open_trace() changes. Returns or
+    """Checks the trace that some options name; open_trace() changes their `command`. Returns or
     raises what Check.run() does; Refused as open_trace() and Check(). With has_states the report
     keeps the outcome of each state. `progress` shows how far the check is."""
     with open_trace(options, guard, progress) as trace:
-        return Check(trace, has_states).run()
+        return Check(trace, has_states=has_states).run()

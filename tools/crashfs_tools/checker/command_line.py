@@ -70,7 +70,7 @@ def parse_state(text: str) -> Tuple[int, Optional[int]]:
     """N and None for the text `N`, which names a state; N and M for `N/M`, which names state M of
     the recovery of state N. ArgumentTypeError for any other text."""
     state, separator, recovery_state = text.partition('/')
-    if not (state.isdecimal() and (recovery_state.isdecimal() if separator else True)):
+    if not (state.isdecimal() and (recovery_state.isdecimal() or not separator)):
         raise argparse.ArgumentTypeError(f'{text} is neither N nor N/M')
     return int(state), int(recovery_state) if separator else None
 
@@ -167,9 +167,9 @@ def add_run_options(parser: argparse.ArgumentParser) -> None:
     )
 
 
-def add_earlier_results(parser: argparse.ArgumentParser) -> None:
-    """Adds the options that name files with what is known before the check: accepted failures, and
-    the outcomes of earlier checks."""
+def add_earlier_result_options(parser: argparse.ArgumentParser) -> None:
+    """Adds the options that name what earlier checks left: a file of accepted failures, and a
+    directory of outcomes."""
     parser.add_argument(
         '--accept',
         metavar='FILE',
@@ -220,7 +220,7 @@ def add_program_options(parser: argparse.ArgumentParser) -> None:
     )
 
 
-def add_state_sources(parser: argparse.ArgumentParser) -> None:
+def add_state_source_options(parser: argparse.ArgumentParser) -> None:
     """Adds the options by which the states, or their outcomes, come from a server, from disks, or
     from the reports of earlier checks."""
     parser.add_argument(
@@ -253,8 +253,8 @@ def add_state_sources(parser: argparse.ArgumentParser) -> None:
 
 
 def make_parser() -> argparse.ArgumentParser:
-    """The parser of TRACE and all options, without COMMAND. The names of its values are names of
-    fields of Options."""
+    """The parser of TRACE and all options, without COMMAND. Each value that it reads has the name
+    of a field of Options."""
     parser = argparse.ArgumentParser(
         prog=NAME,
         description=DESCRIPTION,
@@ -282,10 +282,10 @@ def make_parser() -> argparse.ArgumentParser:
     )
     add_state_options(parser)
     add_run_options(parser)
-    add_earlier_results(parser)
+    add_earlier_result_options(parser)
     add_output_options(parser)
     add_program_options(parser)
-    add_state_sources(parser)
+    add_state_source_options(parser)
     return parser
 
 
@@ -293,16 +293,17 @@ def with_default_every(words: List[str]) -> List[str]:
     """A copy of the arguments, in which each --every that no number follows has the number
     MOST_STATES. An abbreviation such as --ever stays, and so does all after the first `--`."""
     end = words.index('--') if '--' in words else len(words)
-    copy = list(words)
-    for place in range(end):
-        if words[place] == '--every' and not ''.join(words[place + 1 : end][:1]).isdecimal():
-            copy[place] = f'--every={MOST_STATES}'
-    return copy
+    next_words = [*words[1:end], '']
+    own_words = [
+        f'--every={MOST_STATES}' if word == '--every' and not next_word.isdecimal() else word
+        for word, next_word in zip(words[:end], next_words)
+    ]
+    return own_words + words[end:]
 
 
 def read_options(arguments: List[str]) -> Options:
-    """The options of a command line. The program ends (SystemExit) after a fault, the help or the
-    version is printed."""
+    """The options of a command line, given as its words. After a fault, the help or the version is
+    printed, the program ends (SystemExit)."""
     parser = make_parser()
     values, command = parse_command_line(parser, with_default_every(arguments))
     for line, is_fault in possible_faults(values, command).items():
@@ -312,9 +313,11 @@ def read_options(arguments: List[str]) -> Options:
 
 
 def possible_faults(values: argparse.Namespace, command: List[str]) -> Dict[str, bool]:
-    """The faults that a command line may have, a missing TRACE or COMMAND or options that don't go
-    together: the line that reports each, with whether these values have it. Options that only have
-    no effect, such as --fail-fast with --state or --resume with --merge, are no fault."""
+    """The faults that a command line may have: a missing TRACE or COMMAND, and options that can't
+    be combined. Each is the line that reports it, with whether these values have the fault. Options
+    that only have no effect, such as --fail-fast with --state or --resume with --merge, are no
+    fault."""
+
     is_merge, is_serve = values.merge is not None, values.serve is not None
     is_shard = values.shard.parts > 1
     has_own_states = values.families or values.prefixes or values.quick or is_serve

@@ -23,7 +23,9 @@ from crashfs_tools.common.program import ProgramFault
 from crashfs_tools.common.signals import Stopped, raise_on_stop_signals
 from crashfs_tools.common.whole_files import folder_to_write
 
+from .checked_trace import mode_of_report
 from .checking import Interrupted, check_trace, refuse_unreadable
+
 from .command_line import read_options
 from .options import NAME, Options
 
@@ -32,10 +34,11 @@ BAD_INPUT = 2
 
 def run_command(options: Options) -> int:
     """Does what the options ask for; returns the exit status. Refused for bad input, PlanError if
-    the program prints no plan, and an OSError if a file can't be read or written. What ended a
-    check early, a Stopped or an Interrupted, is raised after the report is written and printed,
-    unless that raises an OSError. Commands started later inherit the standard streams only."""
-    refuse_outputs(options)
+    the program prints no plan, and OSError if a file can't be read or written. What ended a check
+    early, a Stopped or an Interrupted, is raised after the report is written and printed, unless
+    writing or printing raises an OSError. Commands that this process starts later inherit only the
+    standard streams."""
+    refuse_wrong_outputs(options)
     if options.merge is not None:
         return write_and_print(options, merge_reports(options))
     limit_inherited_descriptors()
@@ -52,8 +55,8 @@ def run_command(options: Options) -> int:
 
 
 def merge_reports(options: Options) -> Report:
-    """The report of the files of --merge. What is written of it gets the strictest of the modes of
-    these files and, if it is given, of TRACE. Refused as merged_report(), or if TRACE can't be
+    """The report of the files of --merge. Files that are written of it get the strictest mode of
+    those of --merge and, if it is given, TRACE. Refused as merged_report(), or if TRACE can't be
     read; OSError if a file is gone."""
     from .merging import merged_report
 
@@ -64,7 +67,7 @@ def merge_reports(options: Options) -> Report:
     return Report(merged_report(options), strictest_mode(sources))
 
 
-def refuse_outputs(options: Options) -> None:
+def refuse_wrong_outputs(options: Options) -> None:
     """Refuses output files that can't be written, that are TRACE or the file of --accept, or of
     which two are one file or both standard output. Only a device or a pipe may be named several
     times. The reports of --resume and --merge may be replaced."""
@@ -92,16 +95,17 @@ def outputs_of(options: Options) -> Dict[str, str]:
 
 
 def strictest_mode(paths: List[str]) -> int:
-    """The mode for a report that is made of the files at these paths: its owner may read and write
-    it, others only if they may do so with all of these files. OSError if a file is gone."""
-    return reduce(and_, (0o600 | os.stat(path).st_mode & 0o066 for path in paths))
+    """The mode of a file that shows parts of all files at these paths, as mode_of_report(): others
+    than its owner have only the rights that they have in each of these files. There must be a path.
+    OSError if a file is gone."""
+    return reduce(and_, (mode_of_report(os.stat(path)) for path in paths))
 
 
 def write_and_print(options: Options, report: Report) -> int:
-    """Writes the files that the options name, then prints the report; returns the exit status. If a
-    file can't be written, the report is printed nevertheless, and then the OSError is raised, or
-    that of the printing if it fails too. The report goes to standard error if a file is standard
-    output."""
+    """Writes the files that the options name, then prints the report: on standard error if one of
+    the files is standard output. Returns the exit status. If a file can't be written, the report is
+    printed nevertheless, and then the OSError is raised; an OSError of the printing is raised in
+    its place."""
     write_error = None
     try:
         write_files(options, report)
@@ -118,8 +122,8 @@ def write_and_print(options: Options, report: Report) -> int:
 
 
 def write_files(options: Options, report: Report) -> None:
-    """Writes the files that the options name: those of --json, --junit, --tap and --html in this
-    order. The first OSError ends it: the files before that are written."""
+    """Writes the files that the options name: those of --json, --junit, --tap and --html, in this
+    order. After an OSError the file that it names and the later ones aren't written."""
     if options.json is not None:
         report.write_json(options.json)
     if options.junit is not None:

@@ -13,7 +13,8 @@ from crashfs_tools.checker.running.runner import Outcome
 from crashfs_tools.checker.running.trials import Trials
 from crashfs_tools.common.command import Refused
 from crashfs_tools.common.guard import Guard
-from crashfs_tools.common.program import Crashfs, ProgramFault
+from crashfs_tools.common.program import Crashfs
+
 
 from .checked_trace import CheckedTrace
 from .checking import new_report
@@ -27,28 +28,26 @@ OTHER_PLAN = (
 
 
 def merged_report(options: Options) -> CheckReport:
-    """The report of the files of --merge. If TRACE is given, its states are made again to show how
-    files differ; otherwise no program runs. Refused as read_shard() and merge_shards(), if they
-    are reports of another trace, or if the program can't make the states. OSError if TRACE can't be
-    read."""
+    """The report of the files of --merge, of which there must be one. If TRACE is given, its states
+    are made again to show how files differ; otherwise no program runs. Refused as read_shard() and
+    merge_shards(), if the files are of another trace, or if the program can't make the states.
+    OSError if TRACE can't be read."""
     results = merge_shards([read_shard(path) for path in options.merge or []])
     if options.trace is None:
-        return make_report(options, results)
+        return report_of_results(options, results)
     program = Crashfs.find_or_second_reading(options.crashfs, options.unproved)
     with Guard(NAME) as guard:
         trace = CheckedTrace(options, program, guard)
-        if trace.new_head().digest != results.head.digest:
+        if trace.digest() != results.head.digest:
             raise Refused(f'{options.trace}: {OTHER_TRACE}')
-        try:
-            return make_report(options, results, trace)
-        except ProgramFault as fault:
-            raise trace.planner.make_refusal('tar', fault) from fault
+        with trace.refused_faults():
+            return report_of_results(options, results, trace)
 
 
 def read_shard(path: str) -> AllResults:
-    """The results in a file of --merge, also if that check was stopped. Refused as read_json(), and
-    if the file has findings of second crashes or of disks: the merged report would lack them, and
-    might report no failure."""
+    """The results in a file of --merge, also of a check that was stopped. Refused as read_json(),
+    and if the file has findings of second crashes or of disks: the merged report would lack them,
+    and might report no failure."""
     results = read_json(path)
     if results.options_with_findings:
         options = ' and '.join(results.options_with_findings)
@@ -56,22 +55,22 @@ def read_shard(path: str) -> AllResults:
     return results
 
 
-def make_report(
+def report_of_results(
     options: Options, results: AllResults, trace: Optional[CheckedTrace] = None
 ) -> CheckReport:
-    """The report of results, window by window. If their trace is given, it also says how files
-    differ: it is planned again, and Refused if it has other states than a window of the results, or
-    fewer windows; more windows are passed over. Refused as new_report(), too. ProgramFault if the
-    program fails."""
+    """The report of results, window by window. If their trace is given, the report also says how
+    files differ: the trace is planned again, and Refused if it has other states than a window of
+    the results, or fewer windows. Further windows of the trace are ignored. Refused also as
+    new_report(); ProgramFault if the program fails."""
     report = new_report(results.head, options)
     report.not_done = list(results.not_done)
-    outcomes: Dict[int, Outcome] = {}
-    all_planned = trace.all_planned() if trace else None
+    previous_outcomes: Dict[int, Outcome] = {}
+    all_planned = trace.all_planned() if trace else iter(())
     for window in results.windows:
-        findings = Findings(results.head, window, outcomes)
-        outcomes = findings.outcomes_by_state
+        findings = Findings(results.head, window, previous_outcomes)
+        previous_outcomes = findings.outcomes_by_state
         report.add(findings)
-        if trace is not None and all_planned is not None:
+        if trace is not None:
             planned = next(all_planned, None)
             if planned is None or Results(planned.plan).identity() != window.identity():
                 raise Refused(OTHER_PLAN)

@@ -13,20 +13,23 @@ from crashfs_tools.checker.running.progress import Progress
 from crashfs_tools.checker.running.runner import BAD, GOOD, NO_ANSWER
 from crashfs_tools.checker.running.trials import Trials
 from crashfs_tools.checker.states.plan import State
-from crashfs_tools.common.command import TEXT, Refused, flushed_output
+from crashfs_tools.common.command import TEXT, flushed_output
 from crashfs_tools.common.guard import Guard
 from crashfs_tools.common.removal import remove_tree
 
+from .checked_trace import no_such_state
 from .checking import open_trace
+
 from .options import Options
 
 STATUSES = {GOOD: NONE_FAILS, BAD: SOME_FAIL, NO_ANSWER: NOT_ALL_TRIED}
 
 
 def show_state(options: Options, guard: Guard) -> int:
-    """Shows the state that --state names, or a state of its recovery, which is recorded for that;
-    returns the exit status. Refused as open_trace(), if there is no such state, or if its recovery
-    can't be recorded. Options for a whole check, such as --fail-fast or --cache, are ignored."""
+    """Tries and shows the state that --state names; for N/M it records the recovery of state N, and
+    shows state M of that recovery. Returns the exit status. Refused as open_trace(), if there is no
+    such state, or if the recovery can't be recorded. Options for a whole check, such as --fail-fast
+    or --cache, are ignored."""
     with open_trace(options, guard, Progress()) as trace:
         assert options.state is not None
         number, recovery_number = options.state
@@ -40,9 +43,10 @@ def show_state(options: Options, guard: Guard) -> int:
 def try_and_show(trials: Trials, number: int) -> int:
     """Tries the state of a number, lays it out again in a directory that stays, and prints the
     outcome and how to run COMMAND there. Returns the exit status for the outcome. Refused if the
-    plan has no such state. The directory stays also if the printing raises an OSError."""
+    plan has no such state; other errors as in Trials.try_state() and lay_out_for_user(). The
+    directory stays also if the printing raises an OSError."""
     if not trials.plan.has_state(number):
-        raise Refused(f'no such state: {number} (there are {len(trials.plan.listed):,})')
+        raise no_such_state(number, len(trials.plan.listed))
     state = trials.plan.state(number)
     outcome = trials.try_state(state)
     directory, acknowledged = lay_out_for_user(trials, state)

@@ -39,10 +39,11 @@ def json_pieces(report: CheckReport) -> Iterator[str]:
     yield '}\n'
 
 
-def partial_pieces(report: CheckReport, results: Results, has_rest: bool) -> Iterator[str]:
-    """The text of the file of --json while the check still runs, in pieces: the results of earlier
-    windows and of the one that is tried, without entries. has_rest says whether the session goes on
-    after that window. The text is that of a check that was killed. The report isn't changed."""
+def partial_pieces(report: CheckReport, results: Results, *, has_rest: bool) -> Iterator[str]:
+    """The text of the file of --json while the check still runs, in pieces, as if it were killed:
+    the results of earlier windows and, as `results`, of the present one, without entries. has_rest
+    says whether the session goes on after the present window. The report isn't changed."""
+
     head = replace(report.head, stopped=KILLED, has_rest=has_rest)
     yield as_json(head.fields())[:-1] + ',\n"windows":[\n'
     for window in report.packed_windows:

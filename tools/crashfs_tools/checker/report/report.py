@@ -30,21 +30,23 @@ StateRow = Tuple[State, Outcome, List[str]]
 
 class CheckReport:
     """The findings of a check, window by window. With has_json it keeps all that the JSON has, with
-    has_page the drawings of the page, and with has_states the outcome of each state: has_states
-    must be set before add(). Otherwise it keeps little of each window. accept_list has the failures
-    of --accept, None if none are given."""
+    has_page the drawings of the page, and with has_states the outcome of each state. Otherwise it
+    keeps little of each window. accept_list has the failures of --accept, None without --accept."""
 
     def __init__(
         self,
         head: Head,
+        *,
         has_json: bool = False,
         has_page: bool = False,
+        has_states: bool = False,
         accept_list: Optional[AcceptedFailures] = None,
     ) -> None:
         """The time that the check takes is counted from here on."""
         self.head = head
         self.accept_list = accept_list
-        self.has_states = False
+        self.has_states = has_states
+
         # How many runs of COMMAND were those of earlier checks.
         self.cache_hits = 0
         self.state_outcomes: List[StateRow] = []
