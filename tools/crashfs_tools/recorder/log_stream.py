@@ -27,10 +27,20 @@ STOPPED = re.compile(r'^(\d+) +--- stopped by SIGSTOP ---')
 
 
 def create_log(path: str) -> TextIO:
-    """Makes or empties the file in which a log is kept, and opens it for writing. OSError if it
-    can't be written, or if another user has put a link or a pipe there."""
+    """Makes or empties the file in which a log is kept, and opens it for writing; the caller closes
+    it. OSError if it can't be written, or if another user has put a link or a pipe there."""
     refuse_foreign_file(path)
     return open(path, 'w', encoding='utf-8', errors='surrogateescape')
+
+
+def wait_for_writer(descriptor: int) -> None:
+    """Waits, without a time limit, until a process has opened a pipe for writing: before that, a
+    read would find the pipe's end. Reads from the descriptor, which is the pipe's, block from then
+    on."""
+    first_writer = select.poll()
+    first_writer.register(descriptor, select.POLLIN)
+    first_writer.poll()
+    os.set_blocking(descriptor, True)
 
 
 class LogStream:
@@ -61,8 +71,8 @@ class LogStream:
         self.thread: Optional[threading.Thread] = None
 
     def start(self) -> None:
-        """Opens the pipe, and starts the thread that reads it. OSError if the pipe can't be opened:
-        strace waits for a reader then, until it is killed."""
+        """Opens the pipe, and starts the thread that reads it, which finish() ends. OSError if the
+        pipe can't be opened: then strace waits for a reader until it is killed."""
         descriptor = os.open(self.pipe, os.O_RDONLY | os.O_NONBLOCK)
         enlarge_pipe(descriptor)
         self.thread = threading.Thread(target=self.read_pipe, args=(descriptor,), daemon=True)
@@ -81,7 +91,7 @@ class LogStream:
 
     def release_reader(self) -> None:
         """Ends the thread's wait for a writer, by opening and closing the pipe; nothing if the
-        thread has closed it. OSError if the pipe can't be opened for another reason."""
+        thread has closed its own end. OSError if the pipe can't be opened for another reason."""
         try:
             os.close(os.open(self.pipe, os.O_WRONLY | os.O_NONBLOCK))
         except OSError as error:
@@ -89,16 +99,12 @@ class LogStream:
                 raise
 
     def read_pipe(self, descriptor: int) -> None:
-        """Waits for a process that opens the pipe for writing, reads the pipe until none has it
-        open, and copies mapped files at each stop and at the end; then closes the descriptor, which
-        is the pipe's, and the kept log. This is what the thread runs. Faults aren't raised, but set
-        log_error or keep_fault."""
-        # Until a process has opened the pipe, a read would find its end.
-        first_writer = select.poll()
-        first_writer.register(descriptor, select.POLLIN)
-        first_writer.poll()
-        os.set_blocking(descriptor, True)
+        """What the thread runs: reads the pipe from its first writer until no process has it open,
+        and copies mapped files at each stop and at the end. Closes the descriptor, which is the
+        pipe's, and the kept log. Faults of the log, of mapped files and of the kept log aren't
+        raised, but set log_error or keep_fault."""
         try:
+            wait_for_writer(descriptor)
             # A process whose mapped files are copied is stopped until its line is read.
             lines = PipeLines(descriptor, may_gather=self.mapped_files is None)
             line = lines.next_line()
@@ -117,9 +123,9 @@ class LogStream:
         self.close_kept_log()
 
     def add_line(self, line: str) -> Optional[int]:
-        """Adds a line, with its line feed, to the log and to the kept log, and notes a mapping that
-        it shows. Returns the thread that it reports as stopped by SIGSTOP; None for any other
-        line."""
+        """Adds a line, with its line feed, to the log and to the kept log, and notes the mapping
+        that the line shows, if any. Returns the thread that the line reports as stopped by SIGSTOP;
+        None for any other line."""
         self.line_number += 1
         self.keep_line(line)
         self.parse_line(line.rstrip('\n'))
@@ -129,8 +135,8 @@ class LogStream:
         return int(stopped[1]) if stopped else None
 
     def parse_line(self, line: str) -> None:
-        """Adds what a line shows to the log. If it isn't as strace writes it, log_error is set.
-        Once that is set no line is parsed any more, and COMMAND runs on."""
+        """Adds what a line shows to the log. If the line isn't as strace writes it, log_error is
+        set. Once log_error is set, no line is parsed any more, and COMMAND runs on."""
         try:
             if self.log_error is None:
                 self.reader.read_line(self.line_number, line)
@@ -139,26 +145,20 @@ class LogStream:
 
     def copy_and_continue(self, mapped_files: MappedFiles, thread: int, lines: PipeLines) -> None:
         """Waits until all threads of a stopped thread's process are stopped, as in
-        wait_until_stopped(), copies the mapped files, and continues the process; then does the same
-        for other processes that were stopped meanwhile. If a file can't be read, log_error is set.
-        Nothing for a process that has ended or runs again."""
+        wait_until_stopped(), adds a copy of the mapped files, and continues the process; then does
+        the same for other processes that were stopped meanwhile. Nothing for a process that has
+        ended or runs again."""
         process = stopped_processes.read_process_of_thread(thread)
         if process is None:
             return
         stop = stopped_processes.wait_until_stopped(thread, process)
         if stop is Stop.RESUMED:
             return
-        threads = stopped_processes.list_threads(process)
-        threads_of_others = self.collect_stops({thread}, set(threads), lines)
+        threads = set(stopped_processes.list_threads(process))
+        threads_of_others = self.collect_stops(thread, threads, lines)
         is_alone = stop is Stop.ALL_STOPPED and not self.had_running_threads and len(threads) == 1
         self.had_running_threads = stop is Stop.SOME_RUN
-        others = self.reader.threads - set(self.reader.log.ended_threads) - {process}
-        try:
-            mapped_files.copy_changed_files(
-                self.line_number, thread, is_alone=is_alone, others=others
-            )
-        except OSError as error:
-            self.log_error = self.log_error or error
+        self.add_copy(mapped_files, thread, process, is_alone=is_alone)
         try:
             os.kill(process, signal.SIGCONT)
         except ProcessLookupError:
@@ -166,26 +166,39 @@ class LogStream:
         for other_thread in threads_of_others:
             self.copy_and_continue(mapped_files, other_thread, lines)
 
-    def collect_stops(self, stopped: Set[int], threads: Set[int], lines: PipeLines) -> List[int]:
+    def add_copy(
+        self, mapped_files: MappedFiles, thread: int, process: int, *, is_alone: bool
+    ) -> None:
+        """Adds a copy of the mapped files, while a thread of this process is stopped; is_alone is
+        that of FileCopy. If a file can't be read, log_error is set, unless it is set already."""
+        others = self.reader.threads - set(self.reader.log.ended_threads) - {process}
+        try:
+            mapped_files.copy_changed_files(
+                self.line_number, thread, is_alone=is_alone, others=others
+            )
+        except OSError as error:
+            self.log_error = self.log_error or error
+
+    def collect_stops(self, thread: int, threads: Set[int], lines: PipeLines) -> List[int]:
         """Adds lines until all threads of a process are reported as stopped, or no line comes for
-        SAME_STOP_SECONDS, so that no report is taken for a later stop. `stopped` has the threads
-        that are reported already, and gets the others. Returns those of other processes that are
-        reported."""
+        SAME_STOP_SECONDS, so that no report is taken for a later stop. `thread`, one of them, is
+        reported already. Returns the threads of other processes that are reported meanwhile."""
+        unreported_threads = threads - {thread}
         threads_of_others = []
-        while not threads <= stopped:
+        while unreported_threads:
             line = lines.next_line(SAME_STOP_SECONDS)
             if line is None:
                 break
-            thread = self.add_line(line)
-            if thread in threads:
-                stopped.add(thread)
-            elif thread is not None:
-                threads_of_others.append(thread)
+            stopped_thread = self.add_line(line)
+            if stopped_thread in threads:
+                unreported_threads.discard(stopped_thread)
+            elif stopped_thread is not None:
+                threads_of_others.append(stopped_thread)
         return threads_of_others
 
     def keep_line(self, line: str) -> None:
         """Writes a line into the kept log, if there is one. If that fails, keep_fault is set. Once
-        that is set no line is written any more, and COMMAND runs on."""
+        keep_fault is set, no line is written any more, and COMMAND runs on."""
         try:
             if self.kept_log is not None and self.keep_fault is None:
                 self.kept_log.write(line)

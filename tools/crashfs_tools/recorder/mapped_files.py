@@ -6,7 +6,7 @@ from __future__ import annotations
 import os
 import re
 from dataclasses import dataclass, field
-from typing import Dict, Iterable, List, Set, Tuple
+from typing import Dict, Iterable, List, Optional, Set, Tuple
 
 from crashfs_tools.common.file_bytes import Bytes, read_file_bytes
 
@@ -85,6 +85,17 @@ class FileCopies:
     unopened_paths: List[str] = field(default_factory=list)
 
 
+def open_first(paths: Iterable[str]) -> Optional[int]:
+    """A descriptor that reads the first of these files that can be opened; None if none can. The
+    caller closes it."""
+    for path in paths:
+        try:
+            return os.open(path, os.O_RDONLY)
+        except OSError:
+            continue
+    return None
+
+
 class MappedFiles:
     """The files below a directory that were mapped, each with a number, from 0, and an open
     descriptor. numbers has the number of each by its device and inode; newest_bytes has the bytes
@@ -101,28 +112,28 @@ class MappedFiles:
     def note_mapping(self, line: str, line_number: int) -> None:
         """Opens the file that a line of the log maps as shared, and holds it open. Nothing for
         other lines, for an ignored file, and for one outside the directory. An unlinked file is
-        opened only by its descriptor, others first by their path. A file that can't be opened is
-        added to unopened_paths."""
-        match = MAPPED.match(line)
+        opened only by the descriptor of the process, which must not have closed it yet; others are
+        opened by their path, if possible. A file that can't be opened is added to
+        unopened_paths."""
+        match, prefix = MAPPED.match(line), self.top.rstrip('/')
         path = arguments.parse_shown_text(match[3]) if match else None
-        if match is None or path is None or not path.startswith(self.top.rstrip('/') + '/'):
+        if match is None or path is None or not path.startswith(prefix + '/'):
             return
-        path_below = path[len(self.top.rstrip('/')) :]
+        path_below = path[len(prefix) :]
         if self.is_ignored(path_below):
             return
         # The path of an unlinked file may be that of another one now.
         paths = [] if line.startswith('(deleted)', match.end()) else [path]
-        for path_to_open in (*paths, f'/proc/{match[1]}/fd/{match[2]}'):
-            try:
-                self.hold_open(os.open(path_to_open, os.O_RDONLY), line_number)
-                return
-            except OSError:
-                continue
-        self.file_copies.unopened_paths.append(path_below)
+        descriptor = open_first([*paths, f'/proc/{match[1]}/fd/{match[2]}'])
+        if descriptor is None:
+            self.file_copies.unopened_paths.append(path_below)
+        else:
+            self.hold_open(descriptor, line_number)
 
     def hold_open(self, descriptor: int, line_number: int) -> None:
-        """Keeps the descriptor of a mapped file, which the line of the log with this number mapped.
-        If the file is held open already, the descriptor is closed."""
+        """Keeps the descriptor of a file that the log's line with this number mapped; if the file
+        is held open already, closes the descriptor. In both cases the line gets the file's number
+        in numbers_by_line."""
         status = os.fstat(descriptor)
         inode = status.st_dev, status.st_ino
         if inode in self.numbers:
@@ -136,13 +147,14 @@ class MappedFiles:
         self, line: int, thread: int, *, is_alone: bool, others: Iterable[int] = ()
     ) -> None:
         """Adds a copy of the files that changed since the copy before, also if none did. `line`,
-        `thread` and is_alone are those of FileCopy; others are the processes that aren't stopped.
-        OSError if a file can't be read: then no copy is added."""
+        `thread` and is_alone are those of FileCopy; `others` are the processes that aren't stopped.
+        OSError if a file can't be read: then no copy is added, and newest_bytes stays."""
         changed: Dict[int, Bytes] = {}
         for number, descriptor in enumerate(self.descriptors):
             data = read_file_bytes(descriptor)
             if self.newest_bytes.get(number) != data:
-                changed[number] = self.newest_bytes[number] = data
+                changed[number] = data
+        self.newest_bytes.update(changed)
         shared = self.numbers_mapped_by(others) & changed.keys() if changed else set()
         self.file_copies.copies.append(
             FileCopy(
@@ -155,9 +167,9 @@ class MappedFiles:
         )
 
     def numbers_mapped_by(self, processes: Iterable[int]) -> Set[int]:
-        """The numbers of the files that these processes may have mapped. There may be too many: a
-        file counts by its inode, whatever its device, and all files count if a process doesn't show
-        what it has mapped."""
+        """The numbers of the files that these processes may have mapped. Some may be files that
+        they haven't mapped: a file counts by its inode, whatever its device, and all files count if
+        what a process has mapped can't be read."""
         mapped_inodes: Set[str] = set()
         for process in processes:
             inodes = stopped_processes.read_mapped_inodes(process)
@@ -169,8 +181,8 @@ class MappedFiles:
         }
 
     def make_last_copy(self, line: int) -> None:
-        """Adds the last copy, of what the program left, and closes the files: to be called once.
-        OSError if a file can't be read: then they stay open."""
+        """Adds the last copy, of what the program left, and closes the files; to be called once.
+        OSError if a file can't be read: then no copy is added, and all files stay open."""
         self.copy_changed_files(line, 0, is_alone=True)
         for descriptor in self.descriptors:
             os.close(descriptor)

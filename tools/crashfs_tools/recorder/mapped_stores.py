@@ -24,9 +24,8 @@ def copies_by_call(
     calls: List[Call], ordered: List[Call], file_copies: FileCopies
 ) -> Dict[int, List[FileCopy]]:
     """The copies of each call, by its id: what they show was stored before the call. A copy's call
-    is the last one of the stopped thread; if other threads ran, it is the first, in the trace, of
-    the STOPPING_CALLS since the copy before. `calls` are in the log's order, `ordered` in the
-    trace's. Copies without files, and the one at the end, have no call."""
+    is that of call_after_stores(). `calls` are in the log's order, `ordered` in the trace's. Copies
+    without files, and the one at the end, have no call."""
     ends = [call.end for call in calls]
     indexes = {id(call): index for index, call in enumerate(ordered)}
     last_calls: Dict[int, Call] = {}
@@ -38,18 +37,27 @@ def copies_by_call(
         begin = end
         last_calls.update((call.thread, call) for call in calls_since_copy)
         if copy.bytes_by_number and end:
-            stopping = [call for call in calls_since_copy if call.name in STOPPING_CALLS]
-            if copy.is_alone or not stopping:
-                chosen = last_calls.get(copy.thread, calls[end - 1])
-            else:
-                chosen = min(stopping, key=lambda call: indexes[id(call)])
-            call_copies.setdefault(id(chosen), []).append(copy)
+            last_call = last_calls.get(copy.thread, calls[end - 1])
+            call = call_after_stores(copy, last_call, calls_since_copy, indexes)
+            call_copies.setdefault(id(call), []).append(copy)
     return call_copies
+
+
+def call_after_stores(
+    copy: FileCopy, last_call: Call, calls_since_copy: List[Call], indexes: Dict[int, int]
+) -> Call:
+    """The call before which the stores that a copy shows were made: last_call, the last one of the
+    stopped thread; or, if other threads ran, the first in the trace of the STOPPING_CALLS since the
+    copy before, if there is one. `indexes` has the place of each call in the trace, by its id."""
+    stopping_calls = [call for call in calls_since_copy if call.name in STOPPING_CALLS]
+    if copy.is_alone or not stopping_calls:
+        return last_call
+    return min(stopping_calls, key=lambda call: indexes[id(call)])
 
 
 def add_stores(files: LiveFiles, node: Node, data: Bytes, *, has_one_writer: bool) -> None:
     """Adds the stores that a copy of a mapped file shows: a write, for each page that differs, of
-    the range that differs. If has_one_writer is False, others may have made them, which is
+    the range that differs. If has_one_writer is False, others may have made the stores, which is
     reported. A copy whose length isn't the file's is only reported. Nothing if the file's bytes
     aren't followed."""
     if node.data is None:
@@ -62,22 +70,24 @@ def add_stores(files: LiveFiles, node: Node, data: Bytes, *, has_one_writer: boo
     for page in page_offsets(node.data, SparseBytes.copy_of(data)):
         page_end = page + PAGE_BYTES
         start, end = differing_range(node.data[page:page_end], data[page:page_end])
-        if start < end and not has_one_writer:
+        if start == end:
+            continue
+        if not has_one_writer:
             files.recording.report(NOT_ALONE, node.name)
-        if start < end:
-            files.write_bytes(node, page + start, data[page + start : page + end])
+        files.write_bytes(node, page + start, data[page + start : page + end])
         if node.data is None:
             return
 
 
 def page_offsets(old: SparseBytes, new: SparseBytes) -> List[int]:
-    """The offsets, ascending, of the pages that one of two contents has: only these may differ."""
+    """The offsets, ascending, of the pages that at least one of two contents has: no other pages
+    differ."""
     return [page * PAGE_BYTES for page in sorted(old.pages.keys() | new.pages.keys())]
 
 
 def differing_range(old: bytes, new: bytes) -> Tuple[int, int]:
-    """The smallest range that has all bytes in which two pages of one size differ, by its start and
-    its exclusive end; 0, 0 if they are equal."""
+    """The smallest range that has all bytes in which two pages of one size differ: its start, and
+    the offset after its last byte. Both are 0 if the pages are equal."""
     if old == new:
         return 0, 0
     offsets = [offset for offset in range(len(new)) if old[offset] != new[offset]]

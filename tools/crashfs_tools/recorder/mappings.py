@@ -23,8 +23,9 @@ class Mapping:
         return self.address + self.length
 
     def part_between(self, begin: int, end: int) -> Mapping:
-        """The part of the mapping from the address `begin` up to, and without, `end`, with its
-        offset in the file. Its length is 0 if no address of the mapping is between them."""
+        """The part of the mapping from the address `begin` to before `end`, with the part's own
+        offset in the file. Its length is 0 if the mapping has no address between `begin` and
+        `end`."""
         part_begin, part_end = max(begin, self.address), min(end, self.end)
         length = max(0, part_end - part_begin)
         offset = self.offset + part_begin - self.address
@@ -43,8 +44,8 @@ class Memory:
         self.mappings.append(mapping)
 
     def unmap(self, address: int, length: int) -> None:
-        """Unmaps whole pages from an address on; parts of mappings outside them stay. Addresses at
-        which nothing is mapped are left out."""
+        """Unmaps `length` bytes from an address on, rounded up to whole pages. Parts of mappings
+        outside these pages stay. Nothing need be mapped there."""
         end = address + round_up_to_pages(length)
         parts = []
         for mapping in self.mappings:
@@ -54,19 +55,19 @@ class Memory:
 
     def move(self, old: int, old_length: int, new: int, new_length: int, *, keep_old: bool) -> None:
         """Moves what is mapped at the address `old` to the address `new`, with another length, as
-        mremap does. What was mapped at the new addresses is unmapped. The old ones stay mapped if
-        keep_old is set, or if old_length is 0. Of several mappings at the old ones only the first
-        is moved."""
-        moved = list(self.parts_in(old, old_length or 1))
+        mremap does. What was mapped at the new addresses is unmapped. The old addresses stay mapped
+        if keep_old is set, or if old_length is 0. If several mappings are at the old addresses,
+        only the first of them in `mappings` is moved."""
+        moved = next(self.parts_in(old, old_length or 1), None)
         if not keep_old and old_length:
             self.unmap(old, old_length)
         self.unmap(new, new_length)
-        for part in moved[:1]:
-            self.map(replace(part, address=new, length=round_up_to_pages(new_length)))
+        if moved is not None:
+            self.map(replace(moved, address=new, length=round_up_to_pages(new_length)))
 
     def parts_in(self, address: int, length: int) -> Iterator[Mapping]:
-        """Yields the parts of mappings that are in a range of addresses, in the order in which they
-        were mapped. No part is empty."""
+        """Yields the parts of mappings that are in a range of addresses, in the order of
+        `mappings`. No part is empty."""
         for mapping in self.mappings:
             part = mapping.part_between(address, address + length)
             if part.length > 0:
