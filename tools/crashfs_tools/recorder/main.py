@@ -25,11 +25,11 @@ from .live_files import LiveFiles, StartConditions, no_target
 from .log_stream import LogStream
 from .mapped_files import FileCopies, MappedFiles
 from .options import NAME, RecordOptions, prepare_options, read_options
-from .output_streams import SayEach
+from .output_streams import SayEach, numbered_descriptors
 from .own_path import NOTE as OWN_PATH
 from .own_path import files_with_path
 from .recording import Recording, TraceSettings, is_private
-from .strace_log import Log, read_log
+from .strace_log import Call, Log, read_log
 from .translate import Translator
 
 NOTHING_WRITTEN = 1
@@ -98,8 +98,7 @@ def refuse_incomplete_log(log: Log, program: str) -> None:
 def make_line_filter(options: RecordOptions, top: str) -> LogFilter:
     """A filter that keeps the log's lines on the directory with the path `top` in the calls, on the
     descriptors of --say-fd, and on the standard streams."""
-    numbers = [int(word) for word in options.acknowledging_descriptors if word.isdecimal()]
-    return LogFilter(os.fsencode(top), numbers)
+    return LogFilter(os.fsencode(top), numbered_descriptors(options.acknowledging_descriptors))
 
 
 def load_log(path: str, line_filter: LogFilter) -> Log:
@@ -115,21 +114,24 @@ def load_log(path: str, line_filter: LogFilter) -> Log:
 
 def start_conditions(options: RecordOptions) -> StartConditions:
     """What COMMAND starts with. With --from-log the umask is 022, the directory has the path of
-    --log-dir, if that is given, and targets of symbolic links outside it aren't known. New files
-    have this process's owner and group in any case. The umask of this process is 0 for a moment."""
-    has_run_here = options.from_log is None
-    umask = os.umask(0)
-    os.umask(umask)
-    top = options.directory
-    if not has_run_here:
-        top = os.path.normpath(options.log_directory or options.directory)
+    --log-dir, if that is given, and no targets of symbolic links outside it are known. New files
+    have this process's owner and group in any case."""
+    is_from_log = options.from_log is not None
+    log_top = os.path.normpath(options.log_directory or options.directory)
     return StartConditions(
-        top=top,
-        umask=umask if has_run_here else 0o022,
+        top=log_top if is_from_log else options.directory,
+        umask=0o022 if is_from_log else read_umask(),
         owner=user_name(os.geteuid()),
         group=group_name(os.getegid()),
-        read_outside=read_link_target if has_run_here else no_target,
+        read_outside=no_target if is_from_log else read_link_target,
     )
+
+
+def read_umask() -> int:
+    """The umask of this process. It is 0 for a moment, also for other threads."""
+    umask = os.umask(0)
+    os.umask(umask)
+    return umask
 
 
 def read_link_target(path: str) -> Optional[str]:
@@ -149,6 +151,7 @@ def record(options: RecordOptions) -> int:
     written, or if writing it fails. An error or a signal after that is only printed; the status is
     NOT_WHOLE then, or that of the signal."""
     prepare_options(options)
+    # A wrong --crashfs is refused before COMMAND runs.
     Crashfs.find(options.crashfs)
     start_scan = scan_directory(options.directory, options.is_ignored, options.version or NEWEST)
     recording = Recording(start_scan.header, trace_settings(options))
@@ -195,8 +198,8 @@ def run_or_load_log(options: RecordOptions, files: LiveFiles) -> RecordedRun:
 
 
 def write_trace(options: RecordOptions, recording: Recording) -> None:
-    """Replaces OUT by the trace. Only its owner may read it if the trace has a file or directory
-    that not everybody may read. OSError as in write_whole_file(), which says what it leaves."""
+    """Replaces OUT by the trace. Only OUT's owner may read it if the trace has a file or directory
+    that not everybody may read. OSError as in write_whole_file(), which says what is left then."""
     mode = 0o600 if is_private(recording.trace) else 0o666
     write_whole_file(options.out, (line + '\n' for line in recording.trace.lines()), mode)
 
@@ -237,8 +240,7 @@ def translate_run(options: RecordOptions, files: LiveFiles, run: RecordedRun) ->
     report_run_faults(options, recording, run)
     recording.streams.add_text_of_output(run.output_pipe)
     if options.stacks or any(call.frames for call in run.log.calls):
-        for program in stacks.note_calls(run.log.calls):
-            print_text(f'--stacks: no source line of {program} is known{stacks.addr2line_hint()}')
+        note_functions(run.log.calls)
     begin_after = options.begin_after
     late_start = None if begin_after is None else LateStart(recording, begin_after)
     Translator(files, run.log, run.file_copies).translate_log()
@@ -249,6 +251,14 @@ def translate_run(options: RecordOptions, files: LiveFiles, run: RecordedRun) ->
     for path in files_with_path(recording.trace, files.conditions.top):
         recording.report_note(OWN_PATH, path)
     refuse_log_without_changes(options, files)
+
+
+def note_functions(calls: List[Call]) -> None:
+    """Sets each call's note to the functions that made the call, as far as they are known, and
+    prints the programs of which no source line is known. OSError and LogError as in
+    stacks.note_calls()."""
+    for program in stacks.note_calls(calls):
+        print_text(f'--stacks: no source line of {program} is known{stacks.addr2line_hint()}')
 
 
 def report_run_faults(options: RecordOptions, recording: Recording, run: RecordedRun) -> None:
@@ -278,9 +288,9 @@ def refuse_log_without_changes(options: RecordOptions, files: LiveFiles) -> None
 
 def main(arguments: Optional[List[str]] = None) -> int:
     """Runs crashfs-record with these words, or (None) those of its command line, and returns its
-    status, which --help explains. It prints a line for any exception. SystemExit for a wrong
-    command line, --help and --version. It opens standard streams that are closed, and from then on
-    signals that stop a command raise Stopped in this process."""
+    status, which --help explains. SystemExit for a wrong command line, --help and --version; any
+    other exception is printed as a line. Standard streams that are closed are opened, and from then
+    on signals that stop a command raise Stopped in this process."""
     prepare_standard_streams()
     options = read_options(sys.argv[1:] if arguments is None else arguments)
     raise_on_stop_signals()

@@ -17,7 +17,7 @@ from crashfs_tools.common.trace import BLOCK_SIZES, BLOCKS, JOURNAL, PROFILES
 from crashfs_tools.common.whole_files import folder_to_write
 
 from .ignore import Ignore, Rule
-from .output_streams import SOCKETS, SayEach
+from .output_streams import DEFAULT_DESCRIPTORS, SOCKETS, SayEach
 
 NAME = 'crashfs-record'
 # The versions of traces that can be written; AUTO is the oldest that has all that happens.
@@ -66,7 +66,8 @@ class RecordOptions:
     is_ignored: Ignore = field(init=False)
 
     def __post_init__(self) -> None:
-        self.acknowledging_descriptors = self.acknowledging_descriptors or ['1']
+        """Sets what the parser can't: without --say-fd standard output acknowledges something."""
+        self.acknowledging_descriptors = self.acknowledging_descriptors or [*DEFAULT_DESCRIPTORS]
         self.is_ignored = Ignore(self.ignore, self.directory)
 
     @property
@@ -88,13 +89,20 @@ def make_parser() -> argparse.ArgumentParser:
     parser.add_argument('directory', metavar='DIR', help='the directory that COMMAND changes')
     parser.add_argument('out', metavar='OUT.trace', help='the trace to write; - is standard output')
     add_recording_options(parser)
+    add_acknowledgement_options(parser)
     add_trace_options(parser)
+    parser.add_argument(
+        '--crashfs',
+        metavar='PATH',
+        help='the program crashfs, for the comparison at the end (default: the one on PATH, then '
+        'next to this tool, then the one that tools/build made)',
+    )
     add_log_options(parser)
     return parser
 
 
 def add_recording_options(parser: argparse.ArgumentParser) -> None:
-    """Adds to a parser the options that say what is recorded and what is reported of it."""
+    """Adds to a parser the options that say which changes of the directory are recorded."""
     parser.add_argument(
         '--mapped',
         action='store_true',
@@ -109,6 +117,10 @@ def add_recording_options(parser: argparse.ArgumentParser) -> None:
         default=[],
         help='leave out files that match, by the rules of .gitignore (may be repeated)',
     )
+
+
+def add_acknowledgement_options(parser: argparse.ArgumentParser) -> None:
+    """Adds to a parser the options that say what COMMAND acknowledges, and how."""
     parser.add_argument(
         '--say-fd',
         metavar='N',
@@ -133,15 +145,15 @@ def add_recording_options(parser: argparse.ArgumentParser) -> None:
         help='do not warn if no line is acknowledged, if all are in one write, or if '
         'files change while one is written in parts',
     )
+
+
+def add_trace_options(parser: argparse.ArgumentParser) -> None:
+    """Adds to a parser the options that say what the trace has, apart from its operations."""
     parser.add_argument(
         '--stacks',
         action='store_true',
         help="note at each operation which of COMMAND's functions made it (slower)",
     )
-
-
-def add_trace_options(parser: argparse.ArgumentParser) -> None:
-    """Adds to a parser the options that say what the trace has."""
     parser.add_argument(
         '--begin-after',
         metavar='LINE',
@@ -172,12 +184,6 @@ def add_trace_options(parser: argparse.ArgumentParser) -> None:
         help='the version of the trace. 4 has symbolic links, renamed directories and files of up '
         'to 1 GiB; states of such a trace are not proved yet (default: auto, which is 3 if that '
         'has all that happens, else 4)',
-    )
-    parser.add_argument(
-        '--crashfs',
-        metavar='PATH',
-        help='the program crashfs, for the comparison at the end (default: the one on PATH, then '
-        'next to this tool, then the one that tools/build made)',
     )
 
 
@@ -215,8 +221,9 @@ def check_descriptor(word: str) -> str:
 
 
 def read_options(arguments: List[str]) -> RecordOptions:
-    """Parses the words of a command line, without a look at any file. SystemExit if they are wrong
-    or don't go together, and for --help and --version."""
+    """The options in the words of a command line; no file is looked at, and prepare_options() must
+    be called before they are used. SystemExit if the words are wrong or don't go together, and for
+    --help and --version."""
     parser = make_parser()
     values, command = parse_command_line(parser, arguments)
     if values.from_log is None and not command:
@@ -233,7 +240,8 @@ def read_options(arguments: List[str]) -> RecordOptions:
 def prepare_options(options: RecordOptions) -> None:
     """Replaces the directory in the options by its real path, also in is_ignored, and COMMAND's
     program by its absolute path. Refused if there is no such directory or program, or if OUT or the
-    file of --keep-log can't be made or would be in the directory."""
+    file of --keep-log can't be made or would be in the directory: then some options may be replaced
+    already."""
     if not os.path.isdir(options.directory):
         raise Refused(f'{options.directory} is no directory')
     options.directory = os.path.realpath(options.directory)

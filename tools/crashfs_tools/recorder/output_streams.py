@@ -16,6 +16,8 @@ from .strace_log import WRITES, Call
 OUTPUT, ERRORS = 'standard output', 'standard error'
 # What --say-fd takes for every connection that COMMAND accepts.
 SOCKETS = 'socket'
+# Without --say-fd standard output acknowledges something.
+DEFAULT_DESCRIPTORS = ('1',)
 ACCEPTS = ('accept', 'accept4')
 SENDS = ('sendto', 'sendmsg', 'sendmmsg')
 
@@ -29,7 +31,7 @@ class SayEach(Enum):
 
 @dataclass(eq=False)
 class OutputStream:
-    """A stream that COMMAND writes to; is_acknowledged if its texts acknowledge something.
+    """A stream that COMMAND writes to; is_acknowledged means that its texts acknowledge something.
 
     pieces has the bytes of a line that has no end yet, and last_change_count is how many changes
     the recording had at the newest of them. text_count counts the texts that were completed, and
@@ -49,9 +51,9 @@ class OutputStream:
     is_held: bool = False
 
     def complete_texts(self, data: bytes, change_count: int) -> List[bytes]:
-        """The texts that a write of these bytes completes, which are counted: lines, or the whole
-        write as one line. change_count is how many changes the recording had before the write. A
-        write of no bytes changes nothing."""
+        """The texts that a write of these bytes completes: lines, or the whole write as one line.
+        Counts these texts, and the write if it completes some. change_count is how many changes the
+        recording had before the write. A write of no bytes changes nothing, and completes none."""
         if not data:
             return []
         if self.say_each is SayEach.WRITE:
@@ -83,60 +85,65 @@ class OutputStream:
 
 def line_of_write(data: bytes) -> bytes:
     r"""The bytes of a write as one line: without a line feed and a carriage return at the end, and
-    with escapes (`\n`, `\r`, `\x80`) for others, and for bytes that aren't UTF-8."""
+    with escapes (`\n`, `\r`) for others inside it, and (`\x80`) for bytes that aren't UTF-8."""
     for end in (b'\n', b'\r'):
         data = data[:-1] if data.endswith(end) else data
     text = data.decode('utf-8', 'backslashreplace')
     return text.replace('\n', '\\n').replace('\r', '\\r').encode()
 
 
+def numbered_descriptors(words: Iterable[str]) -> List[int]:
+    """The descriptors among values of --say-fd; the value SOCKETS is left out."""
+    return [int(word) for word in words if word.isdecimal()]
+
+
 @dataclass
 class OutputStreams:
     """All streams of a session. streams_by_text has them by the text that strace shows for a
-    descriptor, as `pipe:[7]`, so that all descriptors of one pipe are of one stream.
+    descriptor, as `pipe:[7]`, so that all descriptors of one pipe are of one stream. Streams that
+    inherited_streams() makes are there by the descriptor's number.
 
     acknowledging_descriptors has the values of --say-fd: numbers, or SOCKETS. say_each is what
     counts as an acknowledgement; None is lines, but writes for connections over which no line feed
     is sent. line_connections has the connections over which one is sent, as strace shows them.
     """
 
-    acknowledging_descriptors: Sequence[str] = ('1',)
+    acknowledging_descriptors: Sequence[str] = DEFAULT_DESCRIPTORS
     say_each: Optional[SayEach] = None
     line_connections: FrozenSet[str] = frozenset()
     streams_by_text: Dict[str, OutputStream] = field(default_factory=dict)
-    standard_streams: Dict[int, OutputStream] = field(default_factory=dict)
+    standard_streams: Dict[int, OutputStream] = field(init=False)
 
     def __post_init__(self) -> None:
         """Makes standard output and standard error, whether or not they acknowledge something."""
         self.standard_streams = {1: self.new_stream(OUTPUT, 1), 2: self.new_stream(ERRORS, 2)}
 
     def new_stream(self, name: str, number: int) -> OutputStream:
-        """A new stream of the descriptor with this number, which acknowledges something if --say-fd
-        names it: by lines, unless --say-each says otherwise."""
+        """A new stream of the descriptor with this number, which isn't added. It acknowledges
+        something if --say-fd names the descriptor: by lines, unless --say-each says otherwise."""
         is_acknowledged = str(number) in self.acknowledging_descriptors
         return OutputStream(name, is_acknowledged, self.say_each or SayEach.LINE)
 
     def is_named_by_option(self, number: int) -> bool:
-        """Whether --say-fd names the descriptor with this number; False for standard ones."""
+        """Whether --say-fd names the descriptor with this number, and it is above 2: False for
+        standard input, output and error."""
         return number > 2 and str(number) in self.acknowledging_descriptors
 
     def inherited_streams(self) -> Dict[int, OutputStream]:
-        """The streams that COMMAND may start with, by their descriptors: the standard ones, and
-        those above 2 that --say-fd names, which are made if they aren't known."""
-        numbers = [int(word) for word in self.acknowledging_descriptors if word.isdecimal()]
-        other_streams = {
-            number: self.streams_by_text.setdefault(
-                f'{number}', self.new_stream(f'descriptor {number}', number)
-            )
-            for number in numbers
-            if number > 2
-        }
-        return {**self.standard_streams, **other_streams}
+        """The streams that COMMAND may start with, by their descriptors: standard output and error,
+        and those above 2 that --say-fd names. The first call makes the latter, and later calls
+        return the same streams."""
+        streams = dict(self.standard_streams)
+        for number in numbered_descriptors(self.acknowledging_descriptors):
+            if number > 2:
+                stream = self.new_stream(f'descriptor {number}', number)
+                streams[number] = self.streams_by_text.setdefault(f'{number}', stream)
+        return streams
 
     def add_text_of_output(self, text: Optional[str]) -> None:
-        """Adds what strace shows for a descriptor of COMMAND's standard output, so that it is found
-        by this text. Nothing unless it is a pipe, since others may use a file or a terminal too;
-        nor if the text is that of another stream already."""
+        """Adds what strace shows for a descriptor of COMMAND's standard output, so that the stream
+        is found by this text. Nothing unless it is the text of a pipe, since others may write to a
+        file or a terminal too; nor if another stream has this text already."""
         if text is not None and text.startswith('pipe:'):
             self.streams_by_text.setdefault(text, self.standard_streams[1])
 
@@ -145,15 +152,15 @@ class OutputStreams:
         `text` is what strace shows for it, None if nothing: then no stream is added. An earlier
         stream with this text is replaced."""
         if SOCKETS in self.acknowledging_descriptors and text is not None:
-            usual = SayEach.LINE if text in self.line_connections else SayEach.WRITE
+            default = SayEach.LINE if text in self.line_connections else SayEach.WRITE
             self.streams_by_text[text] = OutputStream(
-                'a socket', is_acknowledged=True, say_each=self.say_each or usual
+                'a socket', is_acknowledged=True, say_each=self.say_each or default
             )
 
     def find_stream(self, number: int, text: Optional[str]) -> Optional[OutputStream]:
-        """The stream of a descriptor, by its number and the text that strace shows for it. One that
-        isn't known is made if --say-fd names the descriptor; None for any other, and if strace
-        shows nothing (None). Two descriptors of a device may be two streams."""
+        """The stream of a descriptor, by its number and the text that strace shows for it, None if
+        nothing. A stream that isn't known is made if --say-fd names the descriptor. None for any
+        other, and if strace shows nothing. Two descriptors of a device may be two streams."""
         if text is None:
             return None
         known = self.streams_by_text.get(text)
@@ -163,14 +170,15 @@ class OutputStreams:
         return self.streams_by_text.setdefault(key, self.new_stream(f'descriptor {number}', number))
 
     def all_streams(self) -> Iterator[OutputStream]:
-        """Yields each stream once, though it may have several names; the standard ones come
-        first."""
+        """Yields each stream once, even if it is there by several texts: first standard output and
+        error, then the others as they came."""
         yield from dict.fromkeys([*self.standard_streams.values(), *self.streams_by_text.values()])
 
 
 def connections_with_lines(calls: Iterable[Call]) -> FrozenSet[str]:
     """The connections, as strace shows them, over which a line feed was sent after they were
-    accepted. A call whose bytes the log lacks doesn't count. LogError as in sent_bytes()."""
+    accepted; the calls are in the log's order. A call whose bytes the log lacks doesn't count.
+    LogError as in sent_bytes()."""
     accepted: Set[str] = set()
     with_lines: Set[str] = set()
     for call in calls:
@@ -186,9 +194,9 @@ def connections_with_lines(calls: Iterable[Call]) -> FrozenSet[str]:
 
 
 def sent_bytes(call: Call) -> Optional[bytes]:
-    """The bytes that a call of WRITES or SENDS has written or sent; empty if it failed. None if the
-    log lacks some of them, and for a sendmmsg that failed. LogError if an argument isn't as strace
-    writes it."""
+    """The bytes that a call of WRITES or SENDS has written or sent; empty if the call failed. None
+    if the log lacks some of them, also for a sendmmsg that failed. LogError if an argument isn't as
+    strace writes it."""
     word = call.argument(1)
     if call.name == 'sendmmsg':
         return arguments.parse_messages(word)

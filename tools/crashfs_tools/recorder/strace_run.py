@@ -21,6 +21,7 @@ from . import stacks
 from .log_stream import LogStream
 from .mapped_files import STOPPING_CALLS
 from .options import NAME, RecordOptions
+from .output_streams import numbered_descriptors
 from .progress import CallProgress
 from .strace_log import FORKS
 from .translate import HANDLERS, SOCKET_HANDLERS
@@ -205,7 +206,7 @@ class StraceRun:
 def inherited_descriptors(acknowledging_descriptors: Sequence[str]) -> List[int]:
     """The numbers of the acknowledging descriptors above 2 that COMMAND inherits; the recorder's
     own descriptors aren't inherited."""
-    numbers = [int(word) for word in acknowledging_descriptors if word.isdecimal()]
+    numbers = numbered_descriptors(acknowledging_descriptors)
     return [number for number in numbers if number > 2 and is_inherited(number)]
 
 
