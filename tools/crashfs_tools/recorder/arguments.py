@@ -81,6 +81,11 @@ def parse_escapes(text: str) -> bytes:
         raise LogError from None
 
 
+def escape_text(data: bytes) -> str:
+    r"""The text such as `\x61\x62` as which strace -xx prints bytes; parse_escapes() reads it."""
+    return ''.join(f'\\x{byte:02x}' for byte in data)
+
+
 def pack_word(word: str) -> str:
     """A string argument, or a vector of strings, in a quarter of its size: PACKED, then a character
     for each byte. Returns the word unchanged if it has no string, if strace doesn't show all its

@@ -1,5 +1,5 @@
 """Finds the paths that --ignore leaves out, by the rules of .gitignore. `?` and sets match a
-letter, but in git a byte: they differ for letters beyond ASCII."""
+character, but in git a byte: they differ for characters beyond ASCII."""
 
 from __future__ import annotations
 
@@ -11,9 +11,10 @@ from typing import Dict, List, Optional, Tuple
 
 @dataclass(frozen=True)
 class Rule:
-    """A pattern as a regular expression. is_of_directories means that it has a slash at its end: it
-    matches directories only. is_negated means that it begins with `!`: a path that it matches is
-    not left out by those before it."""
+    """A pattern of --ignore as a regular expression, which matches whole paths without the first
+    slash. is_of_directories means that the pattern has a slash at its end: it matches directories
+    only. is_negated means that the pattern begins with `!`: a path that it matches is kept,
+    whatever earlier patterns match."""
 
     regex: re.Pattern[str]
     is_negated: bool
@@ -23,7 +24,7 @@ class Rule:
     def parse(pattern: str) -> Rule:
         """The rule of a pattern; ValueError for one that never matches in git, such as `[a`. A
         pattern without a slash, or with one only at its end, matches at any depth. Blanks, and a
-        `#` at its beginning, are letters of it."""
+        `#` at the beginning, are ordinary characters."""
         is_negated = pattern.startswith('!')
         body = pattern[1:] if is_negated else pattern
         is_of_directories = body.endswith('/')
@@ -33,7 +34,7 @@ class Rule:
         return Rule(re.compile(regex, re.S), is_negated, is_of_directories)
 
 
-# A letter of a set, the first and the last of several, or a class of POSIX.
+# A character of a set, a range of characters by its first and last one, or a class of POSIX.
 ITEM = re.compile(
     r'\[:(?P<name>[^\]]*):\]|(?P<first>\\.|.)(?:-(?P<last>\\.|[^\]\\]))?',
     re.S,
@@ -56,7 +57,7 @@ CLASSES = {
 
 
 def translate_pattern(pattern: str) -> str:
-    """A pattern, without `!` and without a slash at its ends, as a regular expression. ValueError
+    """A pattern, without `!` and without a slash at either end, as a regular expression. ValueError
     as in translate_piece()."""
     regex, position = '', 0
     while position < len(pattern):
@@ -67,7 +68,7 @@ def translate_pattern(pattern: str) -> str:
 
 def translate_piece(pattern: str, position: int) -> Tuple[str, int]:
     """The piece that begins at a position of a pattern, as a regular expression, and the position
-    after it. `?` and sets match no slash; a backslash makes the next letter an ordinary one.
+    after that piece. `?` and sets match no slash; a character after a backslash is an ordinary one.
     ValueError for a backslash at the end, and as in translate_set()."""
     if pattern[position] == '*':
         return translate_stars(pattern, position)
@@ -75,16 +76,18 @@ def translate_piece(pattern: str, position: int) -> Tuple[str, int]:
         return translate_set(pattern, position)
     if pattern[position] == '?':
         return '[^/]', position + 1
-    position += pattern[position] == '\\'
+    if pattern[position] == '\\':
+        position += 1
     if position == len(pattern):
         raise ValueError(f'{pattern} ends in a backslash')
     return re.escape(pattern[position]), position + 1
 
 
 def translate_stars(pattern: str, position: int) -> Tuple[str, int]:
-    """All stars at a position of a pattern; returns what translate_piece() does. Two or more
-    between slashes match any names, with the slash after them, or none. Others match what one star
-    does: any letters but a slash."""
+    """All stars from a position of a pattern on, in the form of translate_piece(). Two or more
+    stars that are a whole name of the pattern match any number of names, each with the slash after
+    it, and at the pattern's end all that is left. Other stars match what one star does: any
+    characters but a slash."""
     after_stars = pattern[position:].lstrip('*')
     end = len(pattern) - len(after_stars)
     is_after_slash = pattern[:position][-1:] in ('', '/')
@@ -95,12 +98,13 @@ def translate_stars(pattern: str, position: int) -> Tuple[str, int]:
 
 
 def translate_set(pattern: str, position: int) -> Tuple[str, int]:
-    """The set of letters at a position of a pattern; returns what translate_piece() does. A `]`
-    that is its first letter belongs to it. ValueError for a set without an end, or with an unknown
-    class."""
+    """The set of characters at a position of a pattern, in the form of translate_piece(). A `]`
+    that is the set's first character belongs to the set. ValueError for a set without an end, or
+    with an unknown class."""
     start = position + 1
-    is_negative = pattern[start : start + 1] in ('!', '^')
-    start += is_negative
+    is_negated = pattern[start : start + 1] in ('!', '^')
+    if is_negated:
+        start += 1
     end, items = start, ''
     while end == start or pattern[end : end + 1] != ']':
         item = ITEM.match(pattern, end)
@@ -108,13 +112,14 @@ def translate_set(pattern: str, position: int) -> Tuple[str, int]:
             raise ValueError(f'{pattern}: the set {pattern[position:]} has no end')
         items += translate_item(pattern, item)
         end = item.end()
-    return f'(?!/)[{"^" * is_negative}{items}]', end + 1
+    negation = '^' if is_negated else ''
+    return f'(?!/)[{negation}{items}]', end + 1
 
 
 def translate_item(pattern: str, item: re.Match[str]) -> str:
     """An item of a set, by the match of ITEM, as a part of a regular expression's set. Of a range
-    in the wrong order, as `z-a`, only the first letter counts, as in git. ValueError for an unknown
-    class."""
+    in the wrong order, as `z-a`, only the first character counts, as in git. ValueError, with the
+    whole pattern, for an unknown class."""
     if item['name'] is not None:
         if item['name'] not in CLASSES:
             raise ValueError(f'{pattern}: {item[0]} is no class of letters')
@@ -125,40 +130,41 @@ def translate_item(pattern: str, item: re.Match[str]) -> str:
 
 class Ignore:
     """All patterns of --ignore. The last one that matches a path decides, and what is below an
-    ignored directory is ignored, too. answers has what was returned for each path."""
+    ignored directory is ignored, too. `answers` has what was returned for each path. The root is
+    never ignored, as its syncs are needed."""
 
     def __init__(self, patterns: List[str], top: Optional[str] = None) -> None:
-        """Parses the patterns; ValueError for one that never matches in git. top is the directory
-        on the disk, to see which paths are files; without it, patterns of directories match all
-        paths."""
+        """Parses the patterns; ValueError for one that never matches in git. `top` is the directory
+        on the disk, to see which paths are files; without it (None) patterns of directories also
+        match files."""
         self.rules = [Rule.parse(pattern) for pattern in patterns]
         self.top = top
         self.answers: Dict[str, bool] = {}
 
     def __call__(self, path: str) -> bool:
-        """Whether a path, or a directory above it, is left out. The first answer for a path is
-        kept, also if the file becomes a directory later."""
+        """Whether a path, which begins with `/`, or a directory above it is left out. The first
+        answer for a path is kept, even if the file becomes a directory later."""
         if not self.rules:
             return False
         if path not in self.answers:
             parent = path.rpartition('/')[0]
-            self.answers[path] = bool(parent) and self(parent) or self.is_left_out(path)
+            is_parent_left_out = parent != '' and self(parent)
+            self.answers[path] = is_parent_left_out or self.is_left_out(path)
         return self.answers[path]
 
     def is_left_out(self, path: str) -> bool:
         """Whether the last pattern that matches a path leaves it out; directories above it don't
-        count. Patterns of directories look at the disk. No pattern matches the root, as its syncs
-        are needed."""
-        names, is_left_out = path.strip('/'), False
-        if not names:
+        count. Patterns of directories look at the disk. False for the root."""
+        relative_path, is_left_out = path.strip('/'), False
+        if not relative_path:
             return False
         for rule in self.rules:
             may_match = not rule.is_of_directories or not self.is_file(path)
-            if may_match and rule.regex.fullmatch(names):
+            if may_match and rule.regex.fullmatch(relative_path):
                 is_left_out = not rule.is_negated
         return is_left_out
 
     def is_file(self, path: str) -> bool:
-        """Whether a path is a plain file on the disk now, or a link to one, which no pattern of
-        directories matches. False if nothing is there, or if `top` isn't known."""
+        """Whether a path is a plain file on the disk now, or a link to one. False if nothing is
+        there, and without `top`."""
         return self.top is not None and os.path.isfile(self.top + path)

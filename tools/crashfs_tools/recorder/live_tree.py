@@ -31,9 +31,9 @@ class Change:
     is_past_end: bool
 
     def is_unordered_with(self, other: Change) -> bool:
-        """Whether two changes of one file, by different threads, ran at once and their order
-        decides the file's bytes: their ranges overlap, one goes to the end that the other moves, or
-        both move one shared offset."""
+        """Whether this change and another of the same file ran at once, in two threads, and their
+        order decides the file's bytes: their ranges overlap, one is at the end that the other
+        moves, or both move one shared offset."""
         is_at_once = self.first_line <= other.last_line and other.first_line <= self.last_line
         if self.thread == other.thread or not is_at_once:
             return False
@@ -101,14 +101,14 @@ class Node:
 
     @property
     def traced_path(self) -> Optional[str]:
-        """The first, in their order, of the paths at which the trace has it; None if it has it at
-        none."""
+        """The first, in alphabetical order, of its traced_paths; None if the trace doesn't have
+        it."""
         return min(self.traced_paths, default=None)
 
     @property
     def path_of_traced_bytes(self) -> Optional[str]:
-        """The first path of the file in the trace, if its bytes are followed; None if they aren't,
-        or the trace has no path of it."""
+        """The traced_path of a file whose bytes are followed; None for any other node, and if the
+        trace doesn't have the file."""
         return None if self.data is None else self.traced_path
 
     def drop_bytes(self) -> None:
@@ -116,16 +116,16 @@ class Node:
         self.data = None
 
     def write(self, offset: int, data: bytes) -> None:
-        """Writes bytes at an offset. The file gets longer if they end past its end, or if there are
-        none and the offset is past it. Only the size changes if the bytes aren't followed, or if
-        resize() stops following them."""
+        """Writes bytes at an offset. The file gets longer if they end past its end, also if there
+        are none, but their offset is past its end. Only the size changes if the file's bytes aren't
+        followed, or if resize() stops following them."""
         self.resize(max(self.size, offset + len(data)))
         if self.data is not None:
             self.data.write(offset, data)
 
     def resize(self, length: int) -> None:
         """Sets the length: cuts the bytes, or adds zeros. Above LARGE_FILE_BYTES, the most that any
-        trace may have, the bytes aren't followed any more, also if the file is cut later."""
+        trace may have, the bytes aren't followed any more, even if the file is cut later."""
         self.size = length
         if length > limits.LARGE_FILE_BYTES:
             self.drop_bytes()
@@ -133,8 +133,8 @@ class Node:
             self.data.resize(length)
 
     def add_change(self, change: Change) -> bool:
-        """Adds a change, and returns whether its order with an earlier change isn't known, though
-        it decides the file's bytes. Changes that ended before this one began are forgotten."""
+        """Adds a change to recent_changes, and returns whether it is_unordered_with() one of them.
+        Changes that ended before it began are forgotten first."""
         self.recent_changes = [
             recent for recent in self.recent_changes if recent.last_line >= change.first_line
         ]
@@ -161,38 +161,39 @@ class LiveTree:
         self.add_name('/', root)
 
     def node_at(self, path: Optional[str]) -> Optional[Node]:
-        """The node at a path. None if nothing is there, and for the path None, which is that of a
-        file outside the directory or an ignored one."""
+        """The node at a path. None if nothing is there, and for the path None, which a file outside
+        the directory or an ignored one has."""
         return None if path is None else self.nodes.get(path)
 
     def add_name(self, path: str, node: Node) -> None:
-        """Gives a node a name, which must be free; it may have others."""
+        """Gives a node a name, which must be free; the node may have other names."""
         self.nodes[path] = node
         node.names.add(path)
 
     def remove_name(self, path: str) -> Node:
-        """Removes a name, which must be there, and returns the node that had it. What is below a
-        directory stays."""
+        """Removes a name, and returns the node that had it; KeyError if nothing has it. What is
+        below a directory stays, and so do the node's traced_paths."""
         node = self.nodes.pop(path)
         node.names.discard(path)
         return node
 
     def paths_below(self, path: str) -> List[str]:
-        """All paths below a directory that isn't the root, at any depth."""
+        """All paths below a directory, which must not be the root, at any depth; empty for any
+        other path."""
         return [other for other in self.nodes if other.startswith(path + '/')]
 
     def move_node(self, source: str, target: str) -> None:
-        """Moves the node at a path, and all that is below it, to a free path. Their traced paths
-        stay: move_traced_paths() moves those."""
+        """Moves the node at a path, and all that is below it, to a free path. Their traced_paths
+        stay: move_traced_paths() moves those. KeyError if nothing is at the path."""
         below = self.paths_below(source)
         self.add_name(target, self.remove_name(source))
         for path in below:
             self.add_name(target + path[len(source) :], self.remove_name(path))
 
     def move_traced_paths(self, source: str, target: str) -> None:
-        """Moves the traced paths of a directory that move_node() has moved from source to target,
-        and of what is below it. Nodes that the trace doesn't have at the old path stay as they
-        are."""
+        """Moves the traced_paths of a directory that move_node() has moved from source to target,
+        and of what is below it. Those of a node that the trace doesn't have at its old path
+        stay."""
         for path in [target] + self.paths_below(target):
             traced_paths, old_path = self.nodes[path].traced_paths, source + path[len(target) :]
             if old_path in traced_paths:

@@ -11,7 +11,7 @@ from __future__ import annotations
 import re
 from typing import Iterable, Optional, Set
 
-from .arguments import parse_integer
+from .arguments import escape_text, parse_integer
 
 # Calls that change only the file of their first argument, a descriptor.
 DESCRIPTOR_CALLS = frozenset(
@@ -33,50 +33,49 @@ WRITING_CALLS = frozenset(('write', 'pwrite64', 'writev', 'pwritev', 'pwritev2')
 # The process, the call, its first descriptor, and what strace shows for that.
 HEAD = re.compile(r'\d+\s+(\w+)\((?:(0x[0-9a-f]+|\d+)(?:<([^>]*)>|[, )]))?')
 # What is shown of a path begins with its slash; pipes and sockets have a word.
-SLASH = '\\x2f'
+SLASH = escape_text(b'/')
 RESULT = re.compile(r' = (\d+)(?:<([^>]*)>)?[^>]*$')
 # What the paths begin with that may mean a descriptor: /dev/fd/1, /dev/stdout, /proc/self/fd/1.
-DESCRIPTOR_PATHS = tuple(
-    ''.join(f'\\x{byte:02x}' for byte in path) for path in (b'/dev/fd', b'/dev/std', b'/proc/')
-)
+DESCRIPTOR_PATHS = tuple(map(escape_text, (b'/dev/fd', b'/dev/std', b'/proc/')))
 
 
 class LogFilter:
     """Finds needless lines by the descriptors that may be of files below a directory, or of
-    streams. These are learned from the lines that are read, and are the same for all processes.
+    streams. It learns these from the lines that are read, whatever their process: each line must be
+    given to is_needless(), in the log's order, and the calls that aren't needless to note_result().
     shown_top is the directory's path as strace shows it."""
 
     def __init__(self, top: bytes, descriptors: Iterable[int] = ()) -> None:
         """top is the directory's path as the calls have it. These descriptors, and the standard
         ones, are needed from the beginning."""
-        self.shown_top = ''.join(f'\\x{byte:02x}' for byte in top.rstrip(b'/') or b'/')
+        self.shown_top = escape_text(top.rstrip(b'/') or b'/')
         self.needed_descriptors: Set[int] = {0, 1, 2, *descriptors}
         self.has_mapping = False
 
     def is_needless(self, line: str) -> bool:
-        """Whether a line needs no reading. It has a call, or the beginning of one, on a descriptor
-        that isn't needed, or on memory while no file of the directory is mapped. False for any
-        other line."""
+        """Whether a line needs no reading: it has a call, or the beginning of one, on a descriptor
+        that isn't needed, or on memory while no file of the directory is mapped, and it shows
+        neither the directory's path nor a pipe or a socket. The bytes that a call writes aren't
+        searched for that path."""
         match = HEAD.match(line)
         if match is None:
             return False
         name, number, shown = match.groups()
-        if name in DESCRIPTOR_CALLS:
-            text_to_search = shown or '' if name in WRITING_CALLS else line
-            return (
-                number is not None
-                and parse_integer(number) not in self.needed_descriptors
-                and (shown is None or shown.startswith(SLASH))
-                and self.shown_top not in text_to_search
-            )
         if name in MEMORY_CALLS:
             return not self.has_mapping and self.shown_top not in line
-        return False
+        if name not in DESCRIPTOR_CALLS or number is None:
+            return False
+        text_to_search = shown or '' if name in WRITING_CALLS else line
+        return (
+            parse_integer(number) not in self.needed_descriptors
+            and (shown is None or shown.startswith(SLASH))
+            and self.shown_top not in text_to_search
+        )
 
     def note_result(self, name: str, line: str) -> None:
-        """Notes the descriptor that a whole call made, if it is needed from now on, also after it
-        is closed; or that the call mapped a file of the directory. name is the call's, and line is
-        its line, which was read."""
+        """Notes what a whole call made: a descriptor that is needed from now on, even after it is
+        closed, or the mapping of a file of the directory. `name` is the call's, and `line` is its
+        line, put together if the log has it in two."""
         if name in MAPPING_CALLS:
             self.has_mapping |= self.shown_top in line
         elif name in DESCRIPTOR_MAKERS:
@@ -88,8 +87,8 @@ class LogFilter:
 
     def is_result_needed(self, line: str, shown_result: Optional[str]) -> bool:
         """Whether the descriptor that a line's call made may be of the directory or of a stream:
-        strace shows nothing for it (None), or a path of the directory, or the line has a path such
-        as /dev/fd/3."""
+        strace shows nothing for the descriptor (None), or a path of the directory, or the line has
+        a path such as /dev/fd/3."""
         if shown_result is None or self.shown_top in shown_result:
             return True
         return any(path in line for path in DESCRIPTOR_PATHS)

@@ -18,8 +18,8 @@ NOTE = (
 
 def files_with_path(trace: Trace, top: str) -> List[str]:
     """The paths of the files and symbolic links in a trace whose bytes or target have the path of
-    the directory `top`, each once, in the order of the trace. A path that is split between two
-    writes, or between two pieces of a large file of the start tree, isn't found. Empty if `top` is
+    the directory `top`, each once, in the order of the trace. `top` isn't found if it is split
+    between two writes, or between two pieces of a large file of the start tree. Empty if `top` is
     the root."""
     if top == '/':
         return []
@@ -31,8 +31,8 @@ def files_with_path(trace: Trace, top: str) -> List[str]:
 
 
 def pieces_of_bytes(trace: Trace) -> Iterator[Tuple[str, bytes]]:
-    """Yields the path of a file, as it is at that line, and a piece of bytes, for each such piece
-    in a trace; of a symbolic link its target."""
+    """Yields each piece of bytes in a trace, in its order, after the path that the file has at that
+    line of the trace. The piece of a symbolic link is its target."""
     for line in (*trace.start, *trace.operations):
         if isinstance(line, (StartSymlink, Symlink)):
             yield line.path, os.fsencode(line.link)
