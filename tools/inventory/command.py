@@ -3,12 +3,11 @@
 from __future__ import annotations
 
 import argparse
-import sys
 from pathlib import Path
 from typing import Dict, List, Optional
 
 from .completions import completion_files
-from .made_files import outdated_lines, write_outdated_files
+from .made_files import outdated_lines, print_outdated_lines, write_outdated_files
 from .pages import PRINTED_LISTS, page_with_part
 from .results import PAGE, results_part
 
@@ -50,9 +49,7 @@ def main(words: Optional[List[str]] = None) -> int:
     if options.print:
         print(PRINTED_LISTS[options.print]())
         return 0
-    if not options.check:
-        write_outdated_files(current_texts())
-        return 0
-    lines = outdated_source_lines()
-    sys.stdout.writelines(f'{line}\n' for line in lines)
-    return 1 if lines else 0
+    if options.check:
+        return print_outdated_lines(outdated_source_lines())
+    write_outdated_files(current_texts())
+    return 0

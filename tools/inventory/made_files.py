@@ -2,6 +2,7 @@
 
 from __future__ import annotations
 
+import sys
 from pathlib import Path
 from typing import Dict, List
 
@@ -26,6 +27,13 @@ def outdated_lines(texts: Dict[Path, str], sources: str, command: str) -> List[s
         f'{path.relative_to(TOP)} is older than {sources}: run tools/{command}'
         for path in outdated_files(texts)
     ]
+
+
+def print_outdated_lines(lines: List[str]) -> int:
+    """Prints the lines of outdated_lines(), and returns the status of a command with --check: 1 if
+    there are such lines, else 0."""
+    sys.stdout.writelines(f'{line}\n' for line in lines)
+    return 1 if lines else 0
 
 
 def write_outdated_files(texts: Dict[Path, str]) -> None:

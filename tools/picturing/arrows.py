@@ -4,7 +4,7 @@ from __future__ import annotations
 
 from typing import Dict, Iterable, List, Tuple
 
-from .session import ModelledSession
+from .session import ModelledSession, Need
 from .svg import MARGIN, Picture, path_element, rectangle, text_element
 
 # Where numbers end, and where words and arrows begin.
@@ -61,17 +61,16 @@ def draw_rows(picture: Picture, session: ModelledSession) -> Dict[int, float]:
     return heights
 
 
-def alternative_text(arrows: List[Tuple[int, int, str]], last_line: int, rename: int) -> str:
-    """The alternative text of the picture of needs. An arrow is a place, an earlier place that it
-    needs, and the rule. last_line and rename are the places of the last acknowledged line and of
-    the rename, between which an arrow is missing."""
+def alternative_text(needs: List[Need], last_line: int, rename: int) -> str:
+    """The alternative text of the picture of these needs. last_line and rename are the places of
+    the last acknowledged line and of the rename, between which a need is missing."""
     needed: Dict[int, List[str]] = {}
-    for later, earlier, rule in arrows:
-        needed.setdefault(later, []).append(f'{earlier} ({rule})')
-    needs = '; '.join(f'{later} needs {" and ".join(names)}' for later, names in needed.items())
+    for need in needs:
+        needed.setdefault(need.later, []).append(f'{need.earlier} ({need.rule})')
+    texts = '; '.join(f'{later} needs {" and ".join(names)}' for later, names in needed.items())
     return (
         'Arrows from each micro-operation to those that it needs, without what follows from '
-        f'others: {needs}. Nothing makes {last_line}, the last acknowledged line, need {rename}, '
+        f'others: {texts}. Nothing makes {last_line}, the last acknowledged line, need {rename}, '
         'the rename: a crash may keep the one and lose the other.'
     )
 
@@ -91,14 +90,14 @@ def draw_key(picture: Picture, rules: Iterable[str], missing: str) -> None:
 def arrows_picture(session: ModelledSession) -> str:
     """The picture of a session's needs, as SVG, in which the missing need is an arrow too.
     ValueError as missing_need(); KeyError if RULES lacks the rule of a need."""
-    arrows, (last_line, rename) = list(session.direct_needs()), missing_need(session)
-    alternative = alternative_text(arrows, last_line, rename)
+    needs, (last_line, rename) = session.direct_needs(), missing_need(session)
+    alternative = alternative_text(needs, last_line, rename)
     picture = Picture('Which micro-operation needs which', alternative)
     picture.add_line('Micro-operations, and what each one needs', 'title')
     heights = draw_rows(picture, session)
-    for later, earlier, rule in arrows:
-        picture.add(bent_arrow(heights[earlier], heights[later], RULES[rule][1]))
+    for need in needs:
+        picture.add(bent_arrow(heights[need.earlier], heights[need.later], RULES[need.rule][1]))
     picture.add(bent_arrow(heights[rename], heights[last_line], 'bad'))
     missing = f'missing: nothing makes {last_line} need {rename}, the rename'
-    draw_key(picture, dict.fromkeys(rule for _, _, rule in arrows), missing)
+    draw_key(picture, dict.fromkeys(need.rule for need in needs), missing)
     return picture.svg_file(STYLE)

@@ -27,9 +27,9 @@ class CheckedExample(NamedTuple):
 
 def check_example(trace: str, command: Sequence[str]) -> CheckedExample:
     """Checks a trace, which must have one window, by the second reading: so pictures need no built
-    program. The command runs in all states, as crashfs-check would run it. ValueError if no state
-    fails, OSError if the trace can't be read. What ends the check early is raised, and what
-    Check.run() and read_options() raise, such as Refused or SystemExit."""
+    program. The command runs in all states, as crashfs-check would run it. All children of this
+    process are ended. ValueError if no state fails, OSError if the trace can't be read. What ends
+    the check early is raised, and what Check.run() and read_options() raise, such as Refused."""
     words = ['--unproved', '--html', os.devnull, trace, '--', *command]
     options = read_options(words)
     program = Crashfs.find_or_second_reading(None, is_unproved=True)

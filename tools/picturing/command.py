@@ -3,10 +3,9 @@
 from __future__ import annotations
 
 import argparse
-import sys
 from typing import List, Optional
 
-from inventory.made_files import outdated_lines, write_outdated_files
+from inventory.made_files import outdated_lines, print_outdated_lines, write_outdated_files
 
 from .pictures import pictures
 
@@ -20,18 +19,16 @@ With --check it writes nothing; status 1 if a picture isn't as it would be drawn
 
 def main(words: Optional[List[str]] = None) -> int:
     """Runs pictures with these words, or with those of its command line if they are None: draws all
-    pictures, and writes the outdated ones; --check prints their paths instead. Returns the status:
-    1 if --check finds one, else 0. A wrong word ends the program (SystemExit). Errors as pictures()
-    before anything is written, and as write_outdated_files()."""
+    pictures, and writes the outdated ones; --check prints a line for each instead. Returns the
+    status: 1 if --check finds one, else 0. A wrong word ends the program (SystemExit). Errors as
+    pictures() before anything is written, and as write_outdated_files()."""
     parser = argparse.ArgumentParser(
         prog='pictures', description=ABOUT, formatter_class=argparse.RawDescriptionHelpFormatter
     )
     parser.add_argument('--check', action='store_true', help='write nothing, only compare')
     options = parser.parse_args(words)
     texts = pictures()
-    if not options.check:
-        write_outdated_files(texts)
-        return 0
-    lines = outdated_lines(texts, 'the examples', 'pictures')
-    sys.stdout.writelines(f'{line}\n' for line in lines)
-    return 1 if lines else 0
+    if options.check:
+        return print_outdated_lines(outdated_lines(texts, 'the examples', 'pictures'))
+    write_outdated_files(texts)
+    return 0

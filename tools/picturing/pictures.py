@@ -30,8 +30,9 @@ VERDICT = (
 
 def pictures() -> Dict[Path, str]:
     """The text of each picture, by its file; nothing is written. Two checks are run for them, whose
-    commands need python3 and sqlite3. Raises what check_example() raises, and what the functions
-    `.._picture` raise if an example isn't as the words of a picture say."""
+    commands need python3 and sqlite3, and which end all children of this process. Raises what
+    check_example() raises, and what the functions `.._picture` raise if an example isn't as the
+    words of a picture say."""
     sqlite, tutorial = EXAMPLES / 'sqlite', EXAMPLES / 'tutorial'
     sqlite_check = check_example(str(sqlite / 'full.trace'), [str(sqlite / 'recover.sh')])
     recovery = [str(tutorial / 'check.py'), str(tutorial / 'kv.py'), *PUTS]

@@ -5,7 +5,7 @@ from __future__ import annotations
 
 from dataclasses import dataclass
 from pathlib import Path
-from typing import Iterator, List, Optional, Set, Tuple
+from typing import List, NamedTuple, Optional, Set, Tuple
 
 from crashfs_tools.checker.states.place_sets import places_of
 from crashfs_tools.common.trace_lines import SYNCS, TraceLine
@@ -25,6 +25,14 @@ class Row:
     line: TraceLine
     place: Optional[int]
     words: str
+
+
+class Need(NamedTuple):
+    """A place that needs an earlier place, and the rule of this need."""
+
+    later: int
+    earlier: int
+    rule: str
 
 
 class ModelledSession:
@@ -81,12 +89,14 @@ class ModelledSession:
             if not any(between_set >> earlier & 1 for between_set in between_sets)
         ]
 
-    def direct_needs(self) -> Iterator[Tuple[int, int, str]]:
-        """Each place with each of its directly_needed() places and the rule of this need; sorted by
-        the place, then by the needed place."""
-        for later in range(len(self.order.needs)):
-            for earlier in self.directly_needed(later):
-                yield later, earlier, self.rule_of_need(later, earlier)
+    def direct_needs(self) -> List[Need]:
+        """The needs of all places, but only of directly_needed() places; sorted by the place, then
+        by the needed place."""
+        return [
+            Need(later, earlier, self.rule_of_need(later, earlier))
+            for later in range(len(self.order.needs))
+            for earlier in self.directly_needed(later)
+        ]
 
     def rule_of_need(self, later: int, earlier: int) -> str:
         """The rule by which a place needs an earlier place, which it must need: P5 if a sync

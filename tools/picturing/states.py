@@ -48,14 +48,12 @@ def runs_of(row: str, sign: str) -> List[range]:
     return runs
 
 
-def paths_of_results(rows: List[str], y: float) -> List[str]:
-    """For each sign of RESULTS a path, as an element, whose dashes are the states with that sign,
-    in rows that begin at the height y. States with other signs, which weren't tried, aren't
-    drawn."""
-    return [
-        f'<path class="cells {RESULTS[sign][0]}" d="{path_steps(rows, sign, y)}"/>'
-        for sign in RESULTS
-    ]
+def draw_states(picture: Picture, rows: List[str], y: float) -> None:
+    """Adds the states of rows that begin at the height y: for each sign of RESULTS a path, whose
+    dashes are the states with the sign. States with other signs, which weren't tried, aren't drawn.
+    Doesn't change the picture's y."""
+    for sign, (colour, _) in RESULTS.items():
+        picture.add(f'<path class="cells {colour}" d="{path_steps(rows, sign, y)}"/>')
 
 
 def path_steps(rows: List[str], sign: str, y: float) -> str:
@@ -90,7 +88,7 @@ def draw_holes(picture: Picture, checked: CheckedExample, drawing: Drawing) -> N
         picture.add(text_element(x + CELL, picture.y, words, 'end'))
         picture.add(rectangle(x - 1, picture.y + 4, 1, column * CELL, 'edge'))
     picture.y += 6
-    picture.parts += paths_of_results(rows, picture.y)
+    draw_states(picture, rows, picture.y)
     picture.y += len(rows) * CELL
 
 
@@ -101,7 +99,7 @@ def draw_picks(picture: Picture, drawing: Drawing) -> None:
         f'and {len(drawing["picks"]):,} states with other losses, \u2193 more in each row:'
     )
     rows = rows_by_loss(drawing)
-    picture.parts += paths_of_results(rows, picture.y + 6)
+    draw_states(picture, rows, picture.y + 6)
     picture.y += 6 + len(rows) * CELL
 
 
@@ -138,7 +136,7 @@ def alternative_text(checked: CheckedExample, drawing: Drawing) -> str:
     groups = checked.report.groups()
     lost_line = groups[0].lost_line
     assert lost_line is not None
-    failing = sum(group.count for group in groups)
+    failing_count = sum(group.count for group in groups)
     signs = ''.join([*rows_of_holes(drawing), *rows_by_loss(drawing)]).replace(' ', '')
     return (
         f'{len(signs):,} squares, each a crash state; equal states are drawn more than once. Each '
@@ -146,7 +144,7 @@ def alternative_text(checked: CheckedExample, drawing: Drawing) -> str:
         'other losses. Red: an acknowledged row is lost. After each of the '
         f'{len(acknowledged_columns(checked))} acknowledged rows begins a row of red squares, the '
         f'states without {lost_line.text}. {signs.count("b"):,} squares are red, of '
-        f'{failing} different states.'
+        f'{failing_count} different states.'
     )
 
 

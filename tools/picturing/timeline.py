@@ -19,7 +19,7 @@ LOST = 'LOST'
 COLOUR_OF = {'acknowledged': 'grey', 'synced': 'sync', LOST: 'bad', 'on the disk': 'ink'}
 
 
-def lost_or_later_lines(checked: CheckedExample) -> Set[int]:
+def lost_lines_of_example(checked: CheckedExample) -> Set[int]:
     """The numbers of the lines that are lost, wholly or in part, in the example of the report's
     first entry: also those after its last micro-operation, which Findings.lost_lines() leaves out.
     IndexError if the report has no entry."""
@@ -78,14 +78,11 @@ def alternative_text(results: Dict[TraceLine, str], files: Dict[str, List[str]])
 def timeline_picture(checked: CheckedExample, first_number: int, verdict: str) -> str:
     """The picture of the example of the report's first entry, as SVG: the session from line number
     first_number on, and the files after the crash. The verdict is a sentence on what recovery makes
-    of these files. Errors as lost_or_later_lines() and lines_of_files()."""
-    group, head, lost = (
-        checked.report.groups()[0],
-        checked.report.head,
-        lost_or_later_lines(checked),
-    )
+    of these files. Errors as lost_lines_of_example() and lines_of_files()."""
+    group, head = checked.report.groups()[0], checked.report.head
+    files, lost = lines_of_files(checked), lost_lines_of_example(checked)
     shown = [line for number, line in head.lines.items() if number >= first_number]
-    results, files = {line: result_of(line, lost) for line in shown}, lines_of_files(checked)
+    results = {line: result_of(line, lost) for line in shown}
     state = f'State {group.example.number}'
     alternative = f'{state}. {alternative_text(results, files)} {verdict}'
     picture = Picture(f'{state} of {head.trace}', alternative)

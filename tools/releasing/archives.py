@@ -139,7 +139,7 @@ def write_control_files(folder: Path, control: str, checksums: str) -> None:
 
 def write_package(path: Path, version: str, items: Items, seconds: int) -> None:
     """Writes a Debian package by dpkg-deb, in the place of a file that is there. The package has
-    the items and those of with_debian_files() below /usr, and SCRIPTS. Its files are laid out in a
+    the items and those of with_debian_files() below /usr, and SCRIPTS. They are written to a
     temporary folder, which is removed. CalledProcessError if dpkg-deb fails, OSError if it isn't
     installed or a file can't be written."""
     with tempfile.TemporaryDirectory(prefix='crashfs-release-') as temporary:

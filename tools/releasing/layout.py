@@ -80,8 +80,8 @@ def manual_items() -> Items:
 
 def completion_items() -> Items:
     """The completions of the commands, by their paths in a release, in the folders in which bash,
-    zsh and fish look for them. KeyError if tools/completions has a file with another suffix than
-    these; errors as tool_items()."""
+    zsh and fish look for them. KeyError if tools/completions has a file with another suffix; errors
+    as tool_items()."""
     places = {
         'bash': 'share/bash-completion/completions/{0}',
         'zsh': 'share/zsh/vendor-completions/_{0}',
@@ -94,11 +94,11 @@ def completion_items() -> Items:
     return items
 
 
-def release_items(program: bytes, built: bytes) -> Items:
-    """All files of a release, sorted by their paths there. `program` has the bytes of crashfs, and
-    `built` those of the module of this name. Nothing is written. Errors as tool_items(),
+def release_items(program_bytes: bytes, built_bytes: bytes) -> Items:
+    """All files of a release, sorted by their paths there. program_bytes are those of crashfs, and
+    built_bytes those of the module `built`. Nothing is written. Errors as tool_items(),
     manual_items() and completion_items()."""
     items = {**tool_items(), **document_items(), **manual_items(), **completion_items()}
-    items['bin/crashfs'] = Item(program, is_program=True)
-    items[f'{LIBRARY}/crashfs_tools/built.py'] = Item(built)
+    items['bin/crashfs'] = Item(program_bytes, is_program=True)
+    items[f'{LIBRARY}/crashfs_tools/built.py'] = Item(built_bytes)
     return dict(sorted(items.items()))

@@ -16,9 +16,9 @@ class LinkFault(Exception):
 
 
 def kit_folder() -> Path:
-    """The toolchain's folder, in which the page is that `rt doc` prints in its first line, whatever
-    the status of `rt` is. If there is no such page, it is the folder above that of the program `rt`
-    without links. LinkFault if there is no `rt` on PATH."""
+    """The folder of the toolchain. The first line that `rt doc` prints, whatever its status is, is
+    the path of a page in it. If there is no such page, it is the parent of the folder that has the
+    program `rt`, links resolved. LinkFault if there is no `rt` on PATH."""
     command = shutil.which('rt')
     if command is None:
         raise LinkFault('rt: not found on PATH')

@@ -58,7 +58,7 @@ def built_module(provenance: Provenance) -> str:
     )
 
 
-def attestation_text(provenance: Provenance, object_bytes: bytes, program: bytes) -> str:
+def attestation_text(provenance: Provenance, object_bytes: bytes, program_bytes: bytes) -> str:
     """The text of ATTESTATION: of which commit and kit the release is, what the gate counted, and
     the checksums of the bytes of the object file and of the program. Each line is a name and its
     value."""
@@ -68,7 +68,7 @@ def attestation_text(provenance: Provenance, object_bytes: bytes, program: bytes
         f'object: {provenance.object_origin}\n'
         f'object-sha256: {hashlib.sha256(object_bytes).hexdigest()}\n'
         f'linked: statically, outside the kit, by {provenance.linker} with {provenance.c_library}\n'
-        f'program-sha256: {hashlib.sha256(program).hexdigest()}\n'
+        f'program-sha256: {hashlib.sha256(program_bytes).hexdigest()}\n'
     )
 
 
@@ -94,9 +94,9 @@ def spdx_relationship(source: object, kind: str, target: object) -> Dict[str, ob
 
 
 def linked_versions(provenance: Provenance, crates_text: str) -> Dict[str, str]:
-    """The version of each library that is linked into the program, by name: the crates below it by
-    the text of crates.txt, the toolchain's library, the C library and libgcc. A crate that has no
-    line in the text is the kit's."""
+    """The version of each library that is linked into the program, by name: of the crates below
+    the program, by the text of crates.txt, of the toolchain's library, the C library and libgcc. A
+    crate without a line in the text is the kit's."""
     uses = uses_by_crate(crates_text)
     versions = {
         name: provenance.version if name in uses else provenance.kit
@@ -110,8 +110,8 @@ def linked_versions(provenance: Provenance, crates_text: str) -> Dict[str, str]:
 
 
 def spdx_document(provenance: Provenance, crates_text: str) -> str:
-    """The program and what is linked into it, those of linked_versions(), as an SPDX 2.3 document
-    (JSON). The same arguments give the same text."""
+    """The program and the linked_versions() as an SPDX 2.3 document (JSON), by the text of
+    crates.txt. The same arguments give the same text."""
     linked = [
         spdx_package(name, version)
         for name, version in linked_versions(provenance, crates_text).items()

@@ -29,7 +29,7 @@ def most_parts_at_once(processors: int, gigabytes: float) -> int:
 class Progress:
     """A line on a terminal that says which parts are running; nothing is shown if standard error is
     no terminal. `running` has the names of the running parts, and `done` those of the parts that
-    have ended; the threads that run parts change both, by while_running()."""
+    have ended; the threads that run parts change both, by running_part()."""
 
     def __init__(self, part_count: int) -> None:
         """Takes the time now as that at which the parts begin. Shows nothing yet."""
@@ -40,7 +40,7 @@ class Progress:
         self.is_over = threading.Event()
 
     @contextmanager
-    def while_running(self, name: str) -> Iterator[None]:
+    def running_part(self, name: str) -> Iterator[None]:
         """A `with` in which the part of this name counts as running; after it, also after an
         exception, the part counts as done. Nothing is shown before show()."""
         self.running.add(name)
@@ -65,7 +65,7 @@ class Progress:
             print('\r\033[K', end='', file=sys.stderr, flush=True)
 
     def show(self) -> None:
-        """Shows the line, cut to the width of the terminal, in place of what its last line has."""
+        """Shows the line, cut to the width of the terminal, in place of the line before."""
         if self.is_shown:
             width = os.get_terminal_size(sys.stderr.fileno()).columns - 1
             print(f'\r\033[K{self.text()[:width]}', end='', file=sys.stderr, flush=True)
@@ -87,7 +87,7 @@ def run_parts(parts: Dict[str, Part], count: int) -> Iterator[Outcome]:
     def run_part(name: str) -> Outcome:
         """Runs a part, in a thread of the pool, and returns its outcome with its seconds."""
         start_time = time.monotonic()
-        with progress.while_running(name):
+        with progress.running_part(name):
             outcome = parts[name]()
         outcome.seconds = time.monotonic() - start_time
         return outcome
