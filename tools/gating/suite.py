@@ -1,18 +1,23 @@
 """Runs the tools' tests for the gate: `python3 -m gating.suite`, in the folder tools/.
 
-It runs what `python3 -m unittest discover` runs, and its last line counts the skipped tests by what
-they need. With --program a test that is skipped because there is no `crashfs` counts as failed: the
-gate has built it. With --quick it runs only a few modules, which start no program.
+It runs what `python3 -m unittest discover` runs, each module in a process of its own, several at
+once. A module that fails beside others is run again, alone, and only that counts, since some tests
+wait for programs that others may slow down. The last line counts the tests, and the skipped ones by
+what they need. With --program a test that is skipped because there is no `crashfs` counts as
+failed: the gate has built it. With --quick it runs only a few modules, which start no program.
 """
 
 from __future__ import annotations
 
 import argparse
+import os
 import sys
-import unittest
 from collections import Counter
+from concurrent.futures import ThreadPoolExecutor
 from pathlib import Path
-from typing import List, Optional
+from typing import List, Optional, Sequence
+
+from .modules import ModuleResult, run_here, run_module
 
 TOOLS = Path(__file__).resolve().parent.parent
 # What takes a second or two each, and needs no program.
@@ -33,31 +38,53 @@ QUICK = (
 )
 
 
-def tests_to_run(is_quick: bool) -> unittest.TestSuite:
-    """All tests of the tools, or with is_quick those of the QUICK modules: one that isn't there is
-    left out. The folder tools/ must be on Python's path. A module that can't be imported is a test
-    that fails."""
-    if not is_quick:
-        return unittest.defaultTestLoader.discover(str(TOOLS), top_level_dir=str(TOOLS))
-    names = [f'test_{name}' for name in QUICK if (TOOLS / 'tests' / f'test_{name}.py').is_file()]
-    return unittest.defaultTestLoader.loadTestsFromNames([f'tests.{name}' for name in names])
+def modules_to_run(is_quick: bool) -> List[str]:
+    """The names of the test modules, such as `tests.test_gate`, in alphabetical order; with
+    is_quick only the QUICK ones that are there."""
+    names = sorted(path.stem for path in (TOOLS / 'tests').glob('test_*.py'))
+    quick = {f'test_{name}' for name in QUICK}
+    return [f'tests.{name}' for name in names if not is_quick or name in quick]
 
 
-def count_skipped_for_program(result: unittest.TestResult) -> int:
-    """How many tests were skipped because they need `crashfs`: their reasons have this word."""
-    return sum('crashfs' in reason for _, reason in result.skipped)
+def count_at_once(processors: int) -> int:
+    """How many modules run at once: most tests start programs and wait for them, so one processor
+    of four stays free for these."""
+    return max(1, processors * 3 // 4)
 
 
-def summary_line(result: unittest.TestResult, needs_program: bool) -> str:
+def run_modules(names: Sequence[str], count: int) -> List[ModuleResult]:
+    """Runs modules, `count` at once, and then those that failed once more, one after the other.
+    Prints what each printed, as it is known in the order of names. Returns the last result of each
+    module."""
+    results = {}
+    with ThreadPoolExecutor(count) as pool:
+        for result in pool.map(run_module, names):
+            print(result.output, end='', file=sys.stderr, flush=True)
+            results[result.name] = result
+    for name in [name for name, result in results.items() if result.failed and count > 1]:
+        print(f'{name} failed beside others: again, alone', file=sys.stderr, flush=True)
+        results[name] = run_module(name)
+        print(results[name].output, end='', file=sys.stderr, flush=True)
+    return list(results.values())
+
+
+def count_skipped_for_program(reasons: Sequence[str]) -> int:
+    """How many of the tests that were skipped for these reasons need `crashfs`: their reasons have
+    this word."""
+    return sum('crashfs' in reason for reason in reasons)
+
+
+def summary_line(results: Sequence[ModuleResult], needs_program: bool) -> str:
     """How many tests ran, failed and were skipped, and why they were skipped, the commonest reason
-    first. An unexpected success counts as failed. With needs_program the line also counts those
-    that were skipped for lack of `crashfs`, as a fault."""
-    failed = len(result.failures) + len(result.errors) + len(result.unexpectedSuccesses)
-    line = f'{result.testsRun} run, {failed} failed, {len(result.skipped)} skipped'
-    reasons = Counter(reason for _, reason in result.skipped)
-    if reasons:
-        line += f' ({"; ".join(f"{count}: {reason}" for reason, count in reasons.most_common())})'
-    wrongly_skipped = count_skipped_for_program(result) if needs_program else 0
+    first. With needs_program the line also counts those that were skipped for lack of `crashfs`, as
+    a fault."""
+    skips = [reason for result in results for reason in result.skips]
+    run, failed = sum(result.run for result in results), sum(result.failed for result in results)
+    line = f'{run} run, {failed} failed, {len(skips)} skipped'
+    if skips:
+        reasons = Counter(skips).most_common()
+        line += f' ({"; ".join(f"{count}: {reason}" for reason, count in reasons)})'
+    wrongly_skipped = count_skipped_for_program(skips) if needs_program else 0
     return (
         f'{line}; {wrongly_skipped} must not be skipped, as crashfs is built'
         if wrongly_skipped
@@ -65,24 +92,31 @@ def summary_line(result: unittest.TestResult, needs_program: bool) -> str:
     )
 
 
-def has_passed(result: unittest.TestResult, needs_program: bool) -> bool:
+def has_passed(results: Sequence[ModuleResult], needs_program: bool) -> bool:
     """Whether at least one test ran and none failed; with needs_program also whether none was
     skipped for lack of `crashfs`."""
-    is_complete = not (needs_program and count_skipped_for_program(result))
-    return result.wasSuccessful() and result.testsRun > 0 and is_complete
+    skips = [reason for result in results for reason in result.skips]
+    is_complete = not (needs_program and count_skipped_for_program(skips))
+    has_failed = any(result.failed for result in results)
+    return is_complete and not has_failed and any(result.run for result in results)
 
 
 def main(words: Optional[List[str]] = None) -> int:
-    """Runs the tests that the words ask for; None means the words of the command line. unittest
-    prints on standard error; then a line on standard output counts the tests. Returns 0 if
-    has_passed(), else 1. A wrong word ends the program (SystemExit)."""
+    """Runs the tests that the words ask for; None means the words of the command line. The tests
+    print on standard error; then a line on standard output counts them. Returns 0 if has_passed(),
+    else 1. A wrong word ends the program (SystemExit)."""
     parser = argparse.ArgumentParser(prog='gating.suite', description=__doc__)
     parser.add_argument('--program', action='store_true', help='crashfs is built')
     parser.add_argument('--quick', action='store_true', help='run a few modules only')
+    parser.add_argument('--module', help='run this module alone, for --result')
+    parser.add_argument('--result', type=Path, help='the file for the result, as JSON')
     options = parser.parse_args(words)
-    result = unittest.TextTestRunner().run(tests_to_run(is_quick=options.quick))
-    print(f"tools' tests: {summary_line(result, needs_program=options.program)}", flush=True)
-    return 0 if has_passed(result, needs_program=options.program) else 1
+    if options.module and options.result:
+        return run_here(options.module, options.result)
+    names = modules_to_run(is_quick=options.quick)
+    results = run_modules(names, count_at_once(os.cpu_count() or 1))
+    print(f"tools' tests: {summary_line(results, needs_program=options.program)}", flush=True)
+    return 0 if has_passed(results, needs_program=options.program) else 1
 
 
 if __name__ == '__main__':
