@@ -3,6 +3,7 @@
 import io
 import os
 import shutil
+import struct
 import subprocess
 import sys
 import tempfile
@@ -115,6 +116,16 @@ class Frames(unittest.TestCase):
                     part.truncate(0)
                     os.pwrite(part.fileno(), whole.read(length), 0)
                     self.assertEqual(source_lines.read_segments(part.name), [])
+
+    def test_only_the_loaded_parts_of_a_program_for_32_bits_are_read(self):
+        table = [(6, 9, 9, 9, 9, 9, 9, 9), (1, 0x1000, 0x8049000, 7, 0x200, 0x300, 5, 0x1000)]
+        header = b'\x7fELF\x01\x01'.ljust(28, b'\0') + struct.pack('<I', 52)
+        header = header.ljust(42, b'\0') + struct.pack('<HH', 32, len(table))
+        entries = b''.join(struct.pack('<8I', *entry) for entry in table)
+        segments = source_lines.parse_segments(io.BytesIO(header.ljust(52, b'\0') + entries))
+        self.assertEqual(segments, [(0x1000, 0x8049000, 0x200)])
+        for offset, wanted in ((0x1000, 0x8049000), (0x11FF, 0x80491FF), (0x1200, 0x1200)):
+            self.assertEqual(source_lines.address_of_offset(offset, segments), wanted)
 
     def test_operations_without_a_note_are_counted(self):
         trace = Trace(Header('u', 'u', 0o755), operations=[Sync(), Sync()], notes={0: 'a.c:1 f'})
@@ -231,9 +242,10 @@ class Stacks(InFolder):
 
 
 class WhileItRuns(unittest.TestCase):
+    @mock.patch('crashfs_tools.recorder.progress.INTERVAL_SECONDS', 0.01)
     def test_a_line_comes_now_and_then(self):
         with mock.patch('sys.stderr', io.StringIO()) as out:
-            with CallProgress('crashfs-record', lambda: 1204, 0.01):
+            with CallProgress('crashfs-record', lambda: 1204):
                 deadline = time.monotonic() + PATIENCE
                 while not out.getvalue() and time.monotonic() < deadline:
                     time.sleep(0.01)

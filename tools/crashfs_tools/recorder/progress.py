@@ -1,4 +1,4 @@
-"""Prints a line on a terminal every few seconds while COMMAND runs, which may be long."""
+"""Prints, every few seconds while COMMAND runs, how many calls it has made."""
 
 from __future__ import annotations
 
@@ -7,19 +7,18 @@ from typing import Callable
 
 from crashfs_tools.common.command import print_line
 
-SECONDS = 5.0
+INTERVAL_SECONDS = 5.0
 
 
 class CallProgress:
-    """A context in which a thread prints, every few seconds, how many calls there are so far."""
+    """A context, to be entered once, in which a thread prints every few seconds how many calls
+    there are so far. Its end waits until no line is printed any more."""
 
-    def __init__(
-        self, program_name: str, count_calls: Callable[[], int], interval_seconds: float = SECONDS
-    ) -> None:
-        """Prints nothing yet. Each line begins with the program's name."""
+    def __init__(self, program_name: str, count_calls: Callable[[], int]) -> None:
+        """Prints nothing yet. Each line begins with the program's name. The thread calls
+        count_calls for the number of calls."""
         self.program_name, self.count_calls = program_name, count_calls
-        self.interval_seconds = interval_seconds
-        self.is_ended = threading.Event()
+        self.end_event = threading.Event()
         self.thread = threading.Thread(target=self.print_lines, daemon=True)
 
     def __enter__(self) -> CallProgress:
@@ -27,11 +26,12 @@ class CallProgress:
         return self
 
     def print_lines(self) -> None:
-        """Prints a line after each interval, in the thread, until the context ends."""
-        while not self.is_ended.wait(self.interval_seconds):
+        """Prints a line on standard error after each interval, until the context ends. This is
+        what the thread runs."""
+        while not self.end_event.wait(INTERVAL_SECONDS):
             count = f'{self.count_calls():,} calls so far'
             print_line(self.program_name, f'{count}; Ctrl-C ends COMMAND, and the trace is written')
 
     def __exit__(self, *_: object) -> None:
-        self.is_ended.set()
+        self.end_event.set()
         self.thread.join()

@@ -5,7 +5,8 @@ from __future__ import annotations
 import os
 import re
 import shutil
-from typing import Dict, List, NamedTuple, Optional
+from itertools import chain, islice
+from typing import Dict, Iterator, List, NamedTuple, Optional
 
 from . import arguments
 from .source_lines import Address, Frame, source_frames
@@ -46,8 +47,8 @@ def environment_with_hook(environment: Dict[str, str]) -> Dict[str, str]:
 
 
 def is_python(path: str) -> bool:
-    """Whether a program is Python, by its name or its first line, so that it needs only the hook.
-    False if it can't be read."""
+    """Whether a program is Python, or a script for it, so that it needs only the hook: by its name,
+    or its first line. False if the file can't be read."""
     try:
         with open(path, 'rb') as file:
             first_line = file.readline(200)
@@ -59,9 +60,9 @@ def is_python(path: str) -> bool:
 
 def note_calls(calls: List[Call]) -> List[str]:
     """Sets each call's note: the source lines that the hook showed last in its thread, since the
-    last exec, or else the functions of its frames; empty if nothing is known. Returns the programs,
-    sorted, of which no source line is known. Waits for addr2line, without a time limit; OSError if
-    that can't be started, LogError as in parse_mark()."""
+    last exec, or else its stack_text(). Returns the programs, sorted, that have frames but no known
+    source line. The calls must be in the log's order. OSError as in source_frames(), LogError as in
+    parse_mark()."""
     call_frames = {id(call): program_frames(call.frames) for call in calls}
     addresses = [frame.address for frames in call_frames.values() for frame in frames]
     source_lines = source_frames(addresses)
@@ -79,8 +80,8 @@ def note_calls(calls: List[Call]) -> List[str]:
 
 
 def parse_mark(call: Call) -> Optional[str]:
-    """The source lines that the hook shows by one of MARKING_CALLS; None for any other call.
-    LogError if the call's path isn't as strace writes it."""
+    """The source lines that the hook shows by one of MARKING_CALLS, also by one that failed; None
+    for any other call. LogError if the call's path isn't as strace writes it."""
     if call.name not in MARKING_CALLS:
         return None
     path = arguments.parse_path(call.argument(0 if call.name == 'access' else 1))
@@ -97,8 +98,8 @@ class ShownFrame(NamedTuple):
 
 
 def program_frames(lines: List[str]) -> List[ShownFrame]:
-    """The frames in the lines of strace -k, the innermost first, without those in system libraries
-    and those that name no file."""
+    """The frames in a call's lines of strace -k, in their order: the innermost first. Those in
+    system libraries are left out, and lines that name no file."""
     shown_frames = []
     for line in lines:
         match = FRAME.match(line)
@@ -110,31 +111,41 @@ def program_frames(lines: List[str]) -> List[ShownFrame]:
 
 def stack_text(frames: List[ShownFrame], source_lines: Dict[Address, List[Frame]]) -> str:
     """The note of a call with these frames: its innermost functions of the program itself,
-    MOST_FUNCTIONS at most, each with its source line, or its file if no line is known. A function
-    without a name is its file and the offset in it. Empty if no frame is of the program."""
-    texts: List[str] = []
-    for frame in frames:
-        if frame.address in source_lines:
-            texts += [
-                f'{os.path.basename(source.source_line)} {source.function}'
-                for source in source_lines[frame.address]
-                if is_program_function(source.function)
-                and not LIBRARY_SOURCE.search(source.source_line)
-            ]
-        elif is_program_function(frame.function):
-            name = os.path.basename(frame.address[0])
-            function = frame.function
-            texts.append(f'{function} ({name})' if function else f'{name}+{frame.address[1]:#x}')
-    return ' < '.join(texts[:MOST_FUNCTIONS])
+    MOST_FUNCTIONS at most. source_lines has the frames at each address of which a source line is
+    known. Empty if no function is of the program."""
+    texts = chain.from_iterable(
+        source_texts(source_lines[frame.address])
+        if frame.address in source_lines
+        else address_texts(frame)
+        for frame in frames
+    )
+    return ' < '.join(islice(texts, MOST_FUNCTIONS))
+
+
+def source_texts(sources: List[Frame]) -> Iterator[str]:
+    """Yields, for each function of the program itself at an address, its source line and its name,
+    as `kv.c:85 put`."""
+    for source in sources:
+        if is_program_function(source.function) and not LIBRARY_SOURCE.search(source.source_line):
+            yield f'{os.path.basename(source.source_line)} {source.function}'
+
+
+def address_texts(frame: ShownFrame) -> Iterator[str]:
+    """Yields, for a frame without a known source line, its function with the program's file, as
+    `put (kv)`, or the file and the offset if the function has no name. Nothing if the function
+    isn't of the program itself."""
+    path, offset = frame.address
+    name = os.path.basename(path)
+    if is_program_function(frame.function):
+        yield f'{frame.function} ({name})' if frame.function else f'{name}+{offset:#x}'
 
 
 def is_program_function(function: str) -> bool:
-    """Whether a function is one of the program itself, not of its language's library or runtime.
-    One without a name is."""
+    """Whether a function is of the program itself, and not of its language's library or runtime.
+    True for a function without a name."""
     return function not in STARTING_FUNCTIONS and not RUNTIME.match(function)
 
 
 def addr2line_hint() -> str:
-    """A hint, in brackets, that no source line is known because there is no addr2line; empty if
-    there is one."""
+    """A hint, after a blank and in brackets, that there is no addr2line; empty if there is one."""
     return ' (addr2line is not there)' if shutil.which('addr2line') is None else ''

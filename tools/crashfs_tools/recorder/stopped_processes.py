@@ -14,8 +14,8 @@ STOPPED = {'t', 'T'}
 
 
 class Stop(Enum):
-    """How the wait for a process's stop ended: all its threads are stopped, some still run, or the
-    reported thread runs again, as the process was continued after another thread's stop."""
+    """How the wait until a process is stopped ended: all its threads are stopped; some still run
+    after WAIT_SECONDS; or the thread that was reported as stopped runs again or has ended."""
 
     ALL_STOPPED = 'all threads are stopped'
     SOME_RUN = 'some threads still run'
@@ -23,7 +23,8 @@ class Stop(Enum):
 
 
 def read_process_of_thread(thread: int) -> Optional[int]:
-    """The number of the process that has a thread; None if the thread has ended."""
+    """The number of the process that has the thread with this number; None if the thread has
+    ended."""
     try:
         with open(f'/proc/{thread}/status', encoding='ascii', errors='replace') as lines:
             return next(int(line.split()[1]) for line in lines if line.startswith('Tgid:'))
@@ -50,8 +51,9 @@ def is_stopped(thread: int) -> bool:
 
 def wait_until_stopped(thread: int, process: int) -> Stop:
     """Waits until all threads of a process are stopped, for WAIT_SECONDS at most, and returns how
-    the wait ended. `thread` is the one that was reported as stopped: if it runs or has ended, the
-    wait ends at once, with RESUMED."""
+    the wait ended. `thread` is the one that was reported as stopped. If it runs again, since the
+    process was continued after another thread's stop, or if it has ended, the wait ends with
+    RESUMED."""
     deadline = time.monotonic() + WAIT_SECONDS
     while is_stopped(thread):
         if all(map(is_stopped, list_threads(process))):
@@ -63,9 +65,9 @@ def wait_until_stopped(thread: int, process: int) -> Stop:
 
 
 def read_mapped_inodes(process: int) -> Optional[Set[str]]:
-    """The inodes of the files that a process has mapped, as /proc prints them, and `0` for memory
-    without a file. Empty if the process has ended; None if they may not be read, as of a process
-    that made itself undumpable."""
+    """The inode numbers of the files that a process has mapped, as /proc prints them, and `0` for
+    memory without a file. Empty if the process has ended. None if this process may not read them,
+    as of one that made itself undumpable."""
     try:
         with open(f'/proc/{process}/maps', encoding='utf-8', errors='replace') as lines:
             return {line.split()[4] for line in lines}

@@ -33,10 +33,10 @@ SUPERSEDE = '+supersede'
 @dataclass
 class Call:
     """A call that returned, or was cut by its thread's end (is_cut), or an event (EXIT, SUPERSEDE).
-    thread is its number in the system. begin and end are the numbers of the call's first and last
-    line in the log, from 1. result is negative if the call failed or was cut; result_descriptor is
-    the result as a descriptor, with what strace shows for it. frames are the lines of strace -k;
-    note is empty until stacks.note_calls() sets it."""
+    thread is the number of the thread that made it. begin and end are the numbers of its first and
+    last line in the log, from 1. result is negative if the call failed or was cut;
+    result_descriptor is the result as a descriptor, with what strace shows for it. frames are the
+    lines of strace -k; note is empty until stacks.note_calls() sets it."""
 
     thread: int
     name: str
@@ -50,20 +50,20 @@ class Call:
     note: str = ''
 
     def argument(self, index: int, default: str = '') -> str:
-        """The argument with this index, from 0, or the default if the call has fewer."""
+        """The argument with this index, from 0; the default if the call has fewer arguments."""
         return self.arguments[index] if index < len(self.arguments) else default
 
     def descriptor(self, index: int = 0) -> Descriptor:
-        """The descriptor in the argument with this index; its number is -1 if there is none.
-        LogError as in parse_descriptor()."""
+        """The descriptor in the argument with this index, from 0. Its number is -1 if there is no
+        such argument, or it is no descriptor. LogError as in parse_descriptor()."""
         return arguments.parse_descriptor(self.argument(index))
 
 
 @dataclass
 class Log:
-    """The calls of a log. first_thread is the one that strace started, None if there is no call;
-    ended_threads are all that ended. cut_line is the number of the first line that begins a call
-    and isn't whole, None if all are."""
+    """The calls of a log, in the order of the lines at which they ended. first_thread is the thread
+    that strace started, None if there is no call; ended_threads has those that ended. cut_line is
+    the number of the first line that begins a call and isn't whole; None if all are whole."""
 
     calls: List[Call] = field(default_factory=list)
     ended_threads: List[int] = field(default_factory=list)
@@ -72,7 +72,7 @@ class Log:
 
     @property
     def is_whole(self) -> bool:
-        """Whether the log has the end of the first thread; False if it has no call."""
+        """Whether the log has the end of the first thread. False if it has no call."""
         return self.first_thread in self.ended_threads
 
     @property
@@ -83,8 +83,8 @@ class Log:
 
 @dataclass
 class InterruptedCall:
-    """A call whose line was interrupted by another one. first_arguments is the text of its line
-    between the opening bracket and the interruption."""
+    """A call whose line was interrupted by another one, and its first line's number (begin).
+    first_arguments is the text of that line after the opening bracket, up to the interruption."""
 
     begin: int
     name: str
@@ -92,10 +92,10 @@ class InterruptedCall:
 
 
 class LogReader:
-    """Reads a log line by line; a call that another thread's line cuts in two is put together.
-    Lines that a filter finds needless are left out. threads has all that made a call or were
-    forked. call_with_frames is the call to which the next lines of strace -k are added; None after
-    a needless line or an event: then they are left out."""
+    """Reads a log line by line; a call that another thread's line cuts in two is put together, by
+    interrupted_calls, which has the first parts by their threads. Lines that a filter finds
+    needless are left out. threads has all threads that made a call or were forked. call_with_frames
+    is the call to which the next lines of strace -k are added; None if they are left out."""
 
     def __init__(self, line_filter: Optional[LogFilter] = None) -> None:
         """Begins an empty log. Without a filter all lines are read."""
@@ -117,34 +117,37 @@ class LogReader:
 
     def read_line(self, number: int, line: str) -> None:
         """Reads the line with this number, which has no line feed: a call, a part of one, a frame,
-        or an event. Needless lines, and the end of a call whose beginning was needless, are left
-        out. LogError if an argument isn't as strace writes it."""
+        or an event. Lines must be read in their order. Needless lines, and the end of a call whose
+        beginning was needless, are left out. LogError if an argument isn't as strace writes it."""
         if self.filter is not None and self.filter.is_needless(line):
             self.call_with_frames = None
             return
-        interrupted = BEGUN.match(line) if line.endswith(UNFINISHED) else None
-        if interrupted:
-            first_arguments = line[interrupted.end() : -len(UNFINISHED)]
-            self.interrupted_calls[interrupted[1]] = InterruptedCall(
-                number, interrupted[2], first_arguments
-            )
+        begun = BEGUN.match(line) if line.endswith(UNFINISHED) else None
+        if begun:
+            first_arguments = line[begun.end() : -len(UNFINISHED)]
+            self.interrupted_calls[begun[1]] = InterruptedCall(number, begun[2], first_arguments)
             return
-        begin = number
         resumed = RESUMED.match(line)
-        if resumed:
-            call = self.interrupted_calls.pop(resumed[1], None)
-            if call is None:
-                self.call_with_frames = None
-                return
-            begin = call.begin
-            line = f'{resumed[1]} {call.name}({call.first_arguments}{resumed[3]}'
+        if resumed is None:
+            self.read_joined_line(number, number, line)
+            return
+        call = self.interrupted_calls.pop(resumed[1], None)
+        if call is None:
+            self.call_with_frames = None
+        else:
+            joined = f'{resumed[1]} {call.name}({call.first_arguments}{resumed[3]}'
+            self.read_joined_line(call.begin, number, joined)
+
+    def read_joined_line(self, begin: int, end: int, line: str) -> None:
+        """Reads a line that isn't interrupted, or the joined parts of one that was, with the
+        numbers of the first and the last part. LogError as in read_line()."""
         match = LINE.match(line)
         if match:
-            self.add_call(match, begin, number)
+            self.add_call(match, begin, end)
             if self.filter is not None:
                 self.filter.note_result(match[2], line)
         elif not line.startswith(FRAME):
-            self.add_event(number, line)
+            self.add_event(end, line)
         elif self.call_with_frames is not None:
             self.call_with_frames.frames.append(line[len(FRAME) :])
 
@@ -174,9 +177,9 @@ class LogReader:
         self.log.calls.append(self.call_with_frames)
 
     def add_event(self, number: int, line: str) -> None:
-        """Adds what a line that is no call reports: that a thread ended, or got another number. Of
-        other lines only the first that begins a call is noted, as the log's cut_line; the rest are
-        left out. Frames that come next belong to no call."""
+        """Adds what a line that is no call reports: that a thread ended, or got another number. If
+        it begins a call, its number becomes the log's cut_line, unless there is one. Any other line
+        is left out, and so are the frames after each of these lines."""
         self.call_with_frames = None
         ended, superseded = ENDED.match(line), SUPERSEDED.match(line)
         if ended:
@@ -188,16 +191,17 @@ class LogReader:
             self.log.cut_line = number
 
     def add_event_call(self, number: int, thread: int, name: str, result: int) -> None:
-        """Adds an event of a thread as a call without arguments, on one line. The result is 0 for
-        EXIT; for SUPERSEDE it is the number that the thread had before."""
+        """Adds an event of a thread, on one line, as a call without arguments, whose name is EXIT
+        or SUPERSEDE. The result is 0 for EXIT; for SUPERSEDE it is the number that the thread had
+        before."""
         no_descriptor = Descriptor(-1, None, is_deleted=False)
         event = Call(thread, name, [], result, no_descriptor, begin=number, end=number)
         self.log.calls.append(event)
 
 
 def split_and_pack(name: str, text: str) -> List[str]:
-    """The arguments of a call, from the text between its brackets; name is the call's. The bytes
-    that a call of WRITES writes are packed: they are most of a log."""
+    """The arguments of a call with this name, from the text between its brackets. If it is one of
+    WRITES, the second argument is packed, as bytes that are written are most of a log."""
     words = arguments.split_arguments(text)
     if name in WRITES and len(words) > 1:
         words[1] = arguments.pack_word(words[1])
@@ -205,6 +209,6 @@ def split_and_pack(name: str, text: str) -> List[str]:
 
 
 def read_log(lines: Iterable[str], line_filter: Optional[LogFilter] = None) -> Log:
-    """Reads the lines of a log, from its first one, without those that the filter finds needless.
-    LogError as in LogReader.read_lines()."""
+    """The log with these lines, from its first one on, without those that the filter finds
+    needless; without a filter all are read. LogError as in LogReader.read_lines()."""
     return LogReader(line_filter).read_lines(lines)

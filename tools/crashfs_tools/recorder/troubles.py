@@ -1,4 +1,4 @@
-"""The troubles of a recording: what happened and the trace doesn't have."""
+"""The troubles of a recording: what happened that the trace doesn't have."""
 
 from __future__ import annotations
 
@@ -9,8 +9,8 @@ from typing import Dict, Iterator, List, Optional, Set, Tuple
 @dataclass
 class Trouble:
     """Something that the trace doesn't have: what it is, the path or stream where it happened, and
-    the numbers of the trace's lines after which it did. A note changes no verdict on the crash
-    states."""
+    the numbers of the trace's lines after which it happened, ascending. A note (is_note) changes no
+    verdict on the crash states."""
 
     what: str
     where: str
@@ -18,8 +18,8 @@ class Trouble:
     lines: List[int] = field(default_factory=list)
 
     def __str__(self) -> str:
-        """The trouble in words, as `/f: a symbolic link was made (after line 7, 2 times)`. Without
-        lines there is nothing in brackets."""
+        """The trouble in words, as `/f: a symbolic link was made (after line 7, 2 times)`: only its
+        first line is named. If it has no lines, there is nothing in brackets."""
         times = f', {len(self.lines)} times' if len(self.lines) > 1 else ''
         after = f' (after line {self.lines[0]}{times})' if self.lines else ''
         return f'{self.where}: {self.what}{after}'
@@ -32,8 +32,9 @@ class Troubles:
     by_what_and_where: Dict[Tuple[str, str], Trouble] = field(default_factory=dict)
 
     def add(self, what: str, where: str, line: Optional[int], *, is_note: bool) -> None:
-        """Adds a trouble that happened after a line of the trace (None: after no line). If there is
-        one with this `what` and `where`, only the line is added to it."""
+        """Adds a trouble that happened after a line of the trace; None for one that has no line. If
+        there is a trouble with this `what` and `where`, only the line is added to it: is_note stays
+        as it was."""
         trouble = self.by_what_and_where.setdefault(
             (what, where), Trouble(what, where, is_note=is_note)
         )
@@ -41,13 +42,14 @@ class Troubles:
             trouble.lines.append(line)
 
     def forget_lines(self) -> None:
-        """Removes the lines from all troubles, as the trace begins again with other lines."""
+        """Removes the line numbers from all troubles, which stay: for a trace that begins again
+        with other lines."""
         for trouble in self:
             trouble.lines.clear()
 
     def reported_paths(self) -> Set[str]:
-        """The paths and streams of all troubles that aren't notes: such a path may differ at the
-        end."""
+        """The paths and streams of all troubles that aren't notes. What is at such a path at the
+        end may differ from the trace."""
         return {trouble.where for trouble in self if not trouble.is_note}
 
     def __iter__(self) -> Iterator[Trouble]:
