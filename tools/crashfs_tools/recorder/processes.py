@@ -15,10 +15,10 @@ from .strace_log import Call
 
 @dataclass(eq=False)
 class OpenFile:
-    """An open file, which all descriptors share that were duplicated or inherited from one. node is
-    None for an output stream, and `stream` too if strace doesn't show which one it is. offset is
-    that of the next read or write; is_appending means O_APPEND, and is_syncing O_SYNC or O_DSYNC:
-    each write is synced."""
+    """An open file or output stream, which all descriptors share that were duplicated or inherited
+    from one. A file has its node; node is None for a stream, and `stream` too if it isn't known
+    which one that is. offset is that of the next read or write. is_appending means O_APPEND;
+    is_syncing means O_SYNC or O_DSYNC: each write is synced."""
 
     node: Optional[Node]
     offset: int = 0
@@ -28,7 +28,8 @@ class OpenFile:
 
     @staticmethod
     def opened_with(node: Node, flags: str) -> OpenFile:
-        """A new open file, at offset 0, for flags such as `O_WRONLY|O_APPEND`."""
+        """A new open file of a node, at offset 0, with the flags of an open, such as
+        `O_WRONLY|O_APPEND`."""
         return OpenFile(
             node,
             is_appending='O_APPEND' in flags,
@@ -38,15 +39,17 @@ class OpenFile:
 
 @dataclass
 class Descriptors:
-    """A process's table of open files; threads share one. It has only the descriptors that are
-    followed: of files in the directory, and of output streams."""
+    """A process's table of open files by their descriptors; threads share one. It has only the
+    descriptors that are followed: of files in the directory, and of output streams. closed_by_exec
+    has the numbers of those that an exec closes, perhaps with numbers that aren't followed."""
 
     files: Dict[int, OpenFile] = field(default_factory=dict)
     closed_by_exec: Set[int] = field(default_factory=set)
 
     def set_file(self, number: int, file: Optional[OpenFile], *, is_closed_by_exec: bool) -> None:
-        """Sets the file of a descriptor that a call made, instead of an older one with its number.
-        If the file is None, it is outside the directory, and the descriptor isn't followed."""
+        """Sets the open file of a descriptor that a call made, and forgets an older descriptor with
+        this number. If the file is None, as it is outside the directory, the descriptor isn't
+        followed."""
         self.close(number)
         if file is not None:
             self.files[number] = file
@@ -59,13 +62,13 @@ class Descriptors:
         self.closed_by_exec.discard(number)
 
     def copy(self) -> Descriptors:
-        """The table of a forked process: a new one, of the same open files, whose offsets both
+        """The table of a forked process: a new one with the same open files, whose offsets both
         processes share."""
         return Descriptors(dict(self.files), set(self.closed_by_exec))
 
     def copy_after_exec(self) -> Descriptors:
-        """The table after exec: a new one, which no thread shares, without the descriptors that
-        exec closes."""
+        """The table after an exec: a new one, which no thread shares, without the descriptors that
+        an exec closes. The old one stays as it is."""
         return Descriptors(
             {
                 number: file
@@ -77,20 +80,20 @@ class Descriptors:
 
 @dataclass
 class PathContext:
-    """The working directory and the umask; threads share one. The directory is an absolute path
-    without symbolic links, and as removed_path() has it once it is removed."""
+    """The working directory and the umask; threads share one context. The directory is an absolute
+    path without symbolic links; once it is removed, it is that of removed_path()."""
 
     directory: str
     umask: int
 
     def copy(self) -> PathContext:
-        """A copy of the directory and the umask; later changes of one don't change the other."""
+        """The context of a forked process, which later changes of this one don't change."""
         return PathContext(self.directory, self.umask)
 
-    def follow_directories(self, new_paths: Dict[str, str]) -> None:
-        """Gives the working directory its new path if it is one of the directories that were moved
-        or removed, or below one. new_paths has the new path of each by its old one; all paths are
-        absolute."""
+    def update_directory(self, new_paths: Dict[str, str]) -> None:
+        """Gives the working directory its new path if it is one of some directories that were
+        renamed or removed, or below one; if it is below several, the first of them decides.
+        new_paths has their new paths by the old ones; all are absolute."""
         for old_path, new_path in new_paths.items():
             if (self.directory + '/').startswith(old_path + '/'):
                 self.directory = new_path + self.directory[len(old_path) :]
@@ -107,10 +110,10 @@ class Process:
     memory: Memory = field(default_factory=Memory)
 
     def directory_of(self, shown: Descriptor) -> str:
-        """The absolute path at which a relative path begins that is after this descriptor in a
-        call: that of its directory, or removed_path() if that is removed. It is that of the working
-        directory for a descriptor of which strace shows no path, and for AT_FDCWD if the working
-        directory is removed: strace shows no path that a call can have then."""
+        """The absolute path of a descriptor's directory, at which a relative path after it begins:
+        that of removed_path() if strace shows it as removed. It is the working directory's path if
+        strace shows none, and for AT_FDCWD in a removed working directory, whose path strace shows
+        with ` (deleted)` at its end."""
         own_directory = self.path_context.directory
         is_removed = shown.number == CURRENT_DIRECTORY and REMOVED in own_directory
         if shown.path is None or is_removed:
@@ -118,8 +121,8 @@ class Process:
         return removed_path(shown.path) if shown.is_deleted else shown.path
 
     def forked_child(self, fork: Call) -> Process:
-        """The process or thread that a call of FORKS makes. The call's flags say what both share;
-        the rest is copied as it is now."""
+        """The process or thread that a call of FORKS by this process makes. The call's flags say
+        what both share; the rest is copied as it is now."""
         flags = ' '.join(fork.arguments)
         has_shared_memory = 'CLONE_VM' in flags or fork.name == 'vfork'
         return Process(
@@ -130,8 +133,8 @@ class Process:
 
 
 def move_working_directories(processes: Iterable[Process], new_paths: Dict[str, str]) -> None:
-    """Does follow_directories() for each process, once for threads that share their working
-    directory. The directories of new_paths may be outside the recorded one."""
+    """Gives each process that is in a renamed or removed directory the new path of its working
+    directory, once for all threads that share it. new_paths is that of update_directory()."""
     contexts = {id(process.path_context): process.path_context for process in processes}
     for context in contexts.values():
-        context.follow_directories(new_paths)
+        context.update_directory(new_paths)

@@ -37,9 +37,9 @@ IDLE_SECONDS, RESEND_SECONDS = 0.5, 0.1
 
 
 def find_strace() -> str:
-    """The path of strace, which is started once for its version. Refused if it isn't there, or is
-    too old to print AT_FDCWD's path; OSError if it can't be started. If its version can't be read,
-    it is accepted: a log in another form is refused later."""
+    """The path of strace, which is started once for its version. Refused if there is no strace, or
+    one before OLDEST, which prints no path of AT_FDCWD; OSError if it can't be started. If it
+    prints no version, it is accepted: a log in another form is refused later."""
     path = shutil.which('strace')
     if path is None:
         raise Refused('strace: command not found; it is in the package strace of most systems')
@@ -54,9 +54,9 @@ def find_strace() -> str:
 
 
 def strace_command(strace: str, log_path: str, options: RecordOptions) -> List[str]:
-    """The words that start strace, which writes its log to a file, and COMMAND under it. Only the
-    calls that the options need are traced. With --mapped SIGSTOP stops COMMAND at each of
-    STOPPING_CALLS; with --stacks the log has stacks, unless COMMAND is a Python program."""
+    """The words that start strace, with its log at log_path, and COMMAND under it. Only the calls
+    that the options need are traced. With --mapped SIGSTOP stops COMMAND at each of STOPPING_CALLS;
+    with --stacks the log has stacks, unless COMMAND is a Python program."""
     is_standard_only = set(options.acknowledging_descriptors) <= {'1', '2'}
     socket_calls = [] if is_standard_only else SOCKET_HANDLERS
     marking_calls = stacks.MARKING_CALLS if options.stacks else ()
@@ -88,16 +88,17 @@ def strace_command(strace: str, log_path: str, options: RecordOptions) -> List[s
 
 
 class StraceRun:
-    """A run of COMMAND under strace; to be used once. SIGINT, SIGTERM and SIGHUP are passed to it,
-    and a second one kills it: what it did before is recorded. `signals` has those that came,
-    signal_to_send the one that is still to be passed. output_pipe is what strace shows for
-    COMMAND's standard output, None before it runs; strace_process is 0 before it runs."""
+    """A run of COMMAND under strace; to be used once. SIGINT, SIGTERM and SIGHUP are passed to
+    COMMAND, and a second one kills it: what it did before is recorded. `signals` has those that
+    came, signal_to_send the one that isn't passed yet. output_pipe is what strace shows for
+    COMMAND's standard output, strace_process strace's number: None and 0 before the run."""
 
     def __init__(
         self, command_line: List[str], options: RecordOptions, stream: LogStream, guard: Guard
     ) -> None:
-        """Starts nothing yet. command_line is that of strace_command(), stream reads strace's log,
-        and guard has the environment that COMMAND and all its processes get."""
+        """Starts nothing yet. command_line is that of strace_command(), `stream` reads strace's
+        log, and isn't started yet; `guard` has the environment that COMMAND and all its processes
+        get."""
         self.command_line, self.options = command_line, options
         self.stream, self.guard = stream, guard
         self.signals: List[int] = []
@@ -108,10 +109,9 @@ class StraceRun:
 
     def run_command(self) -> int:
         """Runs COMMAND to its end, without a time limit, and returns its status as Popen has it.
-        Its standard output is a pipe, which is copied to that of the recorder. Must be called in
-        the main thread; restores the old handlers of signals. OSError if strace can't be started,
-        the pipe of its log can't be opened, or standard output can't be written: then strace and
-        COMMAND may still run."""
+        To be called in the main thread, and before stream.finish(), which returns the log. Signals
+        get their old handlers back. OSError if strace can't be started, the log's pipe can't be
+        opened, or standard output can't be written: strace and COMMAND may still run then."""
         old_handlers = {
             number: signal.signal(number, self.note_signal) for number in stop_signals()
         }
@@ -138,39 +138,46 @@ class StraceRun:
                 signal.signal(number, handler)
 
     def progress_lines(self) -> ContextManager[object]:
-        """A context in which lines on the progress are printed, if standard error is a terminal;
-        else nothing is."""
+        """A context in which lines on the progress are printed if standard error is a terminal, and
+        nothing if it isn't."""
         if not sys.stderr.isatty():
             return nullcontext()
         return CallProgress(NAME, lambda: len(self.stream.reader.log.calls))
 
     def copy_output(self, strace: subprocess.Popen[bytes], pipe: int) -> None:
-        """Copies a pipe to standard output until it ends, or until strace has ended and no more
-        bytes come, as a process that strace doesn't follow may keep the pipe open. Signals that
-        come meanwhile are passed to COMMAND. If nobody reads standard output any more, the pipe is
-        still read; any other fault of standard output is an OSError."""
+        """Copies COMMAND's output from a pipe, as read_output() reads it, to standard output. If
+        nobody reads standard output any more, the pipe is still read; OSError if it can't be
+        written for another reason. To be called in the main thread."""
         wakeup_read, wakeup_write = os.pipe2(os.O_NONBLOCK | os.O_CLOEXEC)
         signal.set_wakeup_fd(wakeup_write, warn_on_full_buffer=False)
         try:
-            while True:
-                seconds = IDLE_SECONDS if self.signal_to_send is None else RESEND_SECONDS
-                ready = select.select([pipe, wakeup_read], [], [], seconds)[0]
-                if wakeup_read in ready:
-                    os.read(wakeup_read, 64)
-                self.send_noted_signal()
-                piece = os.read(pipe, 65_536) if pipe in ready else None
-                if piece == b'' or piece is None and not ready and strace.poll() is not None:
-                    return
+            for piece in iter(lambda: self.read_output(strace, pipe, wakeup_read), None):
                 with flushed_output():
-                    sys.stdout.buffer.write(piece or b'')
+                    sys.stdout.buffer.write(piece)
         finally:
             signal.set_wakeup_fd(-1)
             os.close(wakeup_read)
             os.close(wakeup_write)
 
+    def read_output(
+        self, strace: subprocess.Popen[bytes], pipe: int, wakeup_pipe: int
+    ) -> Optional[bytes]:
+        """Waits for bytes of a pipe, or for a signal, which ends the wait by the wakeup pipe, and
+        passes the signal to COMMAND. Returns the bytes: empty if none came for a while. None at the
+        pipe's end, or if strace has ended and none came: a process that strace doesn't follow may
+        keep the pipe open."""
+        seconds = IDLE_SECONDS if self.signal_to_send is None else RESEND_SECONDS
+        ready = select.select([pipe, wakeup_pipe], [], [], seconds)[0]
+        if wakeup_pipe in ready:
+            os.read(wakeup_pipe, 64)
+        self.send_noted_signal()
+        if pipe in ready:
+            return os.read(pipe, 65_536) or None
+        return None if not ready and strace.poll() is not None else b''
+
     def wait_for_status(self, strace: subprocess.Popen[bytes]) -> int:
-        """Waits for strace's end, without a time limit, and returns its status, which is COMMAND's.
-        Signals that come meanwhile are passed to COMMAND."""
+        """Waits for strace's end, without a time limit, and returns its status, as Popen has it,
+        which is COMMAND's. Signals that come meanwhile are passed to COMMAND."""
         while True:
             try:
                 return strace.wait(0.2)
@@ -178,9 +185,9 @@ class StraceRun:
                 self.send_noted_signal()
 
     def note_signal(self, number: int, _: object) -> None:
-        """Adds a signal to `signals`, as its handler. The first one is noted to be passed to
-        COMMAND, unless the terminal sent it there too; after a later one COMMAND is killed. One
-        within SAME_SIGNAL_SECONDS after the first is left out."""
+        """The handler of signals: adds one to `signals`, but none within SAME_SIGNAL_SECONDS after
+        the first. Sets signal_to_send: to the first signal, unless it is a Ctrl-C that COMMAND gets
+        from the terminal too, and to SIGKILL after a later one."""
         if self.signals and time.monotonic() < self.first_signal_time + SAME_SIGNAL_SECONDS:
             return
         self.signals.append(number)
@@ -192,9 +199,9 @@ class StraceRun:
             self.signal_to_send = number
 
     def send_noted_signal(self) -> None:
-        """Sends the noted signal, if there is one, to COMMAND's processes, but not to strace. If no
-        process has begun, the next call tries again. Each later call sends SIGKILL again, as a
-        process may have forked meanwhile."""
+        """Sends signal_to_send, if there is one, to COMMAND's processes, but not to strace. It is
+        None afterwards, unless no process got the signal, or it is SIGKILL: then the next call
+        sends it again, as a process may have begun meanwhile."""
         number = self.signal_to_send
         if number is None or not self.guard.send_signal(number, spared_process=self.strace_process):
             return
@@ -204,14 +211,15 @@ class StraceRun:
 
 
 def inherited_descriptors(acknowledging_descriptors: Sequence[str]) -> List[int]:
-    """The numbers of the acknowledging descriptors above 2 that COMMAND inherits; the recorder's
-    own descriptors aren't inherited."""
+    """The numbers above 2 among the values of --say-fd whose descriptors COMMAND inherits from the
+    recorder: those with which the recorder was started, but none that it has opened itself."""
     numbers = numbered_descriptors(acknowledging_descriptors)
     return [number for number in numbers if number > 2 and is_inherited(number)]
 
 
 def is_inherited(number: int) -> bool:
-    """Whether a descriptor is open in this process, and programs that it starts get it."""
+    """Whether a descriptor is open in this process, and is inherited by programs that it
+    starts."""
     try:
         return os.get_inheritable(number)
     except OSError:
@@ -219,8 +227,8 @@ def is_inherited(number: int) -> bool:
 
 
 def is_on_terminal() -> bool:
-    """Whether Ctrl-C on the terminal reaches COMMAND by itself, as this process is in its
-    foreground group. False if standard input isn't the terminal that controls this process."""
+    """Whether Ctrl-C on the terminal also reaches COMMAND, since this process's group is in the
+    terminal's foreground. False if standard input isn't the terminal that controls this process."""
     try:
         return os.tcgetpgrp(0) == os.getpgrp()
     except OSError:
