@@ -42,8 +42,8 @@ from .troubles import Troubles
 @dataclass(frozen=True)
 class TraceSettings:
     """How a trace is made. acknowledging_descriptors and say_each are those of OutputStreams.
-    profile says which directory operations the file system keeps in order, and block how many bytes
-    the disk writes whole. The version None is the oldest that has all that happens."""
+    `profile` says which directory operations the file system keeps in order, and `block` how many
+    bytes the disk writes whole. The version None means the oldest one that has all that happens."""
 
     acknowledging_descriptors: Sequence[str] = ('1',)
     say_each: Optional[SayEach] = None
@@ -53,7 +53,7 @@ class TraceSettings:
 
 
 def path_to_report(operation: Operation) -> str:
-    """The path that a report names for an operation: the old one of a rename or a link, and `/` for
+    """The path that a report on an operation names: the old one of a rename or a link, and `/` for
     a sync of everything or an acknowledgement."""
     if isinstance(operation, (Rename, Link)):
         return operation.source
@@ -61,8 +61,8 @@ def path_to_report(operation: Operation) -> str:
 
 
 def is_private(trace: Trace) -> bool:
-    """Whether a trace has a file or directory, the root among them, that group and others may not
-    both read: at its start, when it is made, or after a chmod."""
+    """Whether a trace has, at any time, a file or directory that group and others may not both
+    read: the root, or one of the start tree, or with the mode of a creat, mkdir or chmod."""
     modes = [trace.header.mode]
     modes += [line.mode for line in trace.start if isinstance(line, Start)]
     modes += [
@@ -74,8 +74,8 @@ def is_private(trace: Trace) -> bool:
 
 
 def least_file_size(operation: Operation) -> int:
-    """The size that a file has at least after an operation: the offset at which a write's bytes
-    end, or the length that a truncate sets; 0 for any other operation."""
+    """The size, in bytes, that a file has at least after an operation: the offset at which a
+    write's bytes end, or the length that a truncate sets. 0 for any other operation."""
     if isinstance(operation, Write):
         return operation.offset + len(operation.data)
     return operation.length if isinstance(operation, Truncate) else 0
@@ -99,15 +99,15 @@ def large_file_reason(path: str) -> str:
 class Recording:
     """The trace, the tree at its end, the streams that COMMAND writes to, and the troubles.
 
-    current_call is the one that is translated now; None before the first and after the last.
-    differing_paths may differ from the directory at the end, like those of the troubles.
-    change_count is the number of operations that are no acknowledgements. newest_version_reason
-    says why the trace has the newest version, and is empty if it has another. on_acknowledged is
-    called after each acknowledgement. has_late_start means that --begin-after began the trace
-    again."""
+    current_call is the call that is translated now; None before the first and after the last. What
+    is at one of differing_paths at the end may differ from the trace, as at the troubles' paths.
+    change_count is how many operations but acknowledgements were added. newest_version_reason says
+    why the trace has the newest version, and is empty if it has another. on_acknowledged is called
+    after each acknowledgement. has_late_start means that --begin-after began the trace again."""
 
     def __init__(self, header: Header, settings: TraceSettings) -> None:
-        """Begins a trace that has only the header, and the streams that the settings ask for."""
+        """Begins a trace that has only the header, as begin_trace() does, and makes the streams
+        that the settings ask for."""
         self.settings = settings
         self.begin_trace(header)
         self.streams = OutputStreams(settings.acknowledging_descriptors, settings.say_each)
@@ -119,9 +119,9 @@ class Recording:
         self.change_count = 0
 
     def begin_trace(self, header: Header) -> None:
-        """Begins the trace, in the oldest version that it may have, and a tree of the root only. If
-        it is begun again, its version and newest_version_reason begin again too; all else of the
-        recording stays."""
+        """Begins the trace, in the oldest version that the settings allow, and a tree of the root
+        only. An earlier trace and tree are dropped; all else of the recording stays, also
+        change_count."""
         profile, block = self.settings.profile, self.settings.block
         version = self.settings.version or WRITTEN_VERSION
         self.trace = Trace(header, version=version, profile=profile, block=block)
@@ -131,10 +131,10 @@ class Recording:
             self.use_newest_version(f'--profile {JOURNAL}')
 
     def add_start_line(self, line: StartLine) -> bool:
-        """Adds a start line to the trace and its tree, which checks nothing: its directory must be
-        there, and its path free. A symbolic link, or a file above FILE_BYTES, gives the trace the
-        newest version. Returns False, and adds nothing, for a symbolic link if --trace-version
-        names an older one."""
+        """Adds a start line to the trace and its tree, and returns True. Nothing is checked: its
+        directory must be there, and its path free. A symbolic link, or a file above FILE_BYTES,
+        gives the trace the newest version. For a symbolic link that the version of --trace-version
+        can't have it returns False, and adds nothing."""
         if isinstance(line, StartSymlink):
             if not self.use_newest_version(symlink_reason(line.path)):
                 return False
@@ -155,9 +155,9 @@ class Recording:
         self.add_trouble(what, where, is_note=True)
 
     def add_trouble(self, what: str, where: str, *, is_note: bool) -> None:
-        """Adds a trouble: what happened, and where, which is a path or a stream. It is after the
-        last line that the trace has now, or after none if no call is translated. If the trouble is
-        known already, only this line is added to it."""
+        """Adds a trouble: what happened, and where, which is a path or a stream. The last line that
+        the trace has now becomes its line; it gets none if no call is translated. If the trouble is
+        known already, only the line is added to it. A note (is_note) is as in report_note()."""
         line = None
         if self.current_call is not None:
             line = self.trace.line_number(len(self.trace.operations)) - 1
@@ -165,26 +165,27 @@ class Recording:
 
     @property
     def may_have_newest_version(self) -> bool:
-        """Whether the trace has the newest version, or would get it for an operation that needs it:
+        """Whether the trace has the newest version, or gets it for an operation that needs it.
         False if --trace-version names an older one."""
         return self.trace.version >= NEWEST or self.settings.version is None
 
     def use_newest_version(self, reason: str) -> bool:
-        """Gives the trace and its tree the newest version, for this reason, unless they have it
+        """Gives the trace and its tree the newest version, and sets its reason, unless they have it
         already, or --trace-version names an older one. Returns whether they have it now."""
         if self.trace.version < NEWEST and self.may_have_newest_version:
             self.set_version(NEWEST, reason)
         return self.trace.version >= NEWEST
 
     def set_version(self, version: int, reason: str) -> None:
-        """Gives the trace and its tree a version, and newest_version_reason, which is empty if the
-        version isn't the newest."""
+        """Gives the trace and its tree a version, and sets newest_version_reason, which must be
+        empty if the version isn't the newest."""
         self.trace.version = self.tree.version = version
         self.newest_version_reason = reason
 
     def reason_for_newest_version(self, operation: Operation) -> str:
-        """Why only the newest version may have an operation; empty if older ones may have it too,
-        or if no version may, because of the file's size."""
+        """Why only the newest version may have an operation. Empty if older ones may have it too,
+        and if no version may, because of the file's size. The operation must not be applied to the
+        tree yet."""
         if isinstance(operation, Symlink):
             return symlink_reason(operation.path)
         if isinstance(operation, Rename):
@@ -196,9 +197,9 @@ class Recording:
 
     def add_operation(self, operation: Operation) -> bool:
         """Adds an operation, with its call's note, to the trace and its tree, and returns True. The
-        trace gets the newest version if the operation needs it. Returns False, and adds nothing, if
-        `crashfs` would refuse it, which is reported: the version stays as it was. Returns what
-        add_in_older_version() does if the trace's version has no line for the operation."""
+        trace gets the newest version if the operation needs it. If `crashfs` would refuse it, that
+        is reported, nothing changes, and it returns False. If the trace's version has no line for
+        it, it returns what add_in_older_version() does."""
         old_version, old_reason = self.trace.version, self.newest_version_reason
         reason = self.reason_for_newest_version(operation)
         if reason:
@@ -219,15 +220,15 @@ class Recording:
         return True
 
     def has_line_for(self, operation: Operation) -> bool:
-        """Whether the trace's version has a line for an operation. Version 3 has one for an
-        fdatasync: an FsyncRange of the whole file."""
+        """Whether the trace's version has a line for an operation. If it has an FsyncRange, it has
+        one for an Fdatasync: an FsyncRange of the whole file."""
         kind = FsyncRange if isinstance(operation, Fdatasync) else type(operation)
         return self.trace.has_kind(kind)
 
     def add_in_older_version(self, operation: Operation) -> bool:
-        """Adds an Fsync of the whole file for an FsyncRange or Fdatasync for which the trace's
-        version has no line, reports that, and returns what add_operation() does. Any other such
-        operation is neither added nor reported: returns False."""
+        """Adds an Fsync for an operation for which the trace's version has no line, if that is an
+        FsyncRange or Fdatasync; reports that, and returns what add_operation() does. Returns False
+        for any other operation, which is neither added nor reported."""
         if not isinstance(operation, (FsyncRange, Fdatasync)):
             return False
         self.report('a sync of a part is written as one of the file', operation.path)
@@ -235,16 +236,16 @@ class Recording:
 
     def add_output(self, stream: OutputStream, data: bytes) -> None:
         """Adds bytes that COMMAND wrote to a stream: an acknowledgement for each text that they
-        complete, which is a line or the whole write. The beginning of a line waits in the stream.
-        If the stream acknowledges nothing, its texts are only counted."""
+        complete, which is a line or the whole write. A line without its end waits in the stream. If
+        the stream acknowledges nothing, its texts are only counted."""
         for text in stream.complete_texts(data, self.change_count):
             if stream.is_acknowledged:
                 self.add_acknowledgement(stream, text)
 
     def add_acknowledgement(self, stream: OutputStream, text: bytes) -> None:
-        """Adds an acknowledgement, and calls on_acknowledged, even if the trace can't have it. One
-        that is cut at 1,024 bytes, or that isn't UTF-8, is reported; if the stream acknowledges by
-        writes, it is only noted."""
+        """Adds an acknowledgement with this text, and calls on_acknowledged with it. If the text is
+        cut at 1,024 bytes, or isn't UTF-8, that is reported; for a stream that acknowledges by
+        writes it is only noted."""
         acknowledgement = Say.from_line(text)
         is_changed = acknowledgement.text.encode() != text
         if is_changed and stream.say_each is SayEach.WRITE:
@@ -255,8 +256,8 @@ class Recording:
         self.on_acknowledged(acknowledgement)
 
     def end_streams(self) -> None:
-        """Adds, at the end, the last line of each stream, if it has no line feed. Sets the stream's
-        is_held if files were changed after that line began."""
+        """Adds the last line of each stream that has no line feed: to be called after the last
+        call. Sets the stream's is_held if files were changed after that line began."""
         for stream in self.streams.all_streams():
             if stream.pieces:
                 self.add_output(stream, b'\n')
