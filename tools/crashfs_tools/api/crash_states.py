@@ -83,7 +83,7 @@ def states(
     options.crashfs, options.unproved = path_text(crashfs), unproved
     refuse_every_with_families(options)
     refuse_unreadable(os.fspath(trace))
-    program = Crashfs.find_or_second_reading(options.crashfs, unproved)
+    program = Crashfs.find_or_second_reading(options.crashfs, is_unproved=unproved)
     with Guard(NAME, may_reap=False) as guard:
         checked = CheckedTrace(options, program, guard)
         before: Optional[Plan] = None

@@ -361,7 +361,7 @@ def open_trace(options: Options, guard: Guard, progress: Progress) -> Iterator[C
         from crashfs_tools.disks.filesystems import require_filesystems
 
         require_filesystems(options.disks)
-    program = Crashfs.find_or_second_reading(options.crashfs, options.unproved)
+    program = Crashfs.find_or_second_reading(options.crashfs, is_unproved=options.unproved)
     if options.function is None:
         options.command = with_program_path(options.command)
     else:

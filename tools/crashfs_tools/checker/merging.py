@@ -35,7 +35,7 @@ def merged_report(options: Options) -> CheckReport:
     results = merge_shards([read_shard(path) for path in options.merge or []])
     if options.trace is None:
         return report_of_results(options, results)
-    program = Crashfs.find_or_second_reading(options.crashfs, options.unproved)
+    program = Crashfs.find_or_second_reading(options.crashfs, is_unproved=options.unproved)
     with Guard(NAME) as guard:
         trace = CheckedTrace(options, program, guard)
         if trace.digest() != results.head.digest:

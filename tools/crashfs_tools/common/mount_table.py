@@ -16,8 +16,8 @@ UNMOUNTS = (['umount', '-l'], ['fusermount3', '-uz'], ['fusermount', '-uz'])
 
 class MountTable:
     """The mount points that this process sees, by the numbers of the mounts. They are read again
-    only if they changed. Without /proc there are none. The table stays open as long as the process
-    runs."""
+    only if the system has changed them. Without /proc there are none. The table stays open as long
+    as the process runs."""
 
     def __init__(self) -> None:
         """Opens the table, and reads it. OSError if it can be opened but not read."""
@@ -44,11 +44,10 @@ class MountTable:
         }
 
     def unmount(self, points: Mapping[int, str]) -> List[str]:
-        """Unmounts these mount points, the last one first, even those in use: tries each of
-        UNMOUNTS until one succeeds, without a time limit. Returns the paths that are still mounted.
-        OSError as points_below()."""
+        """Unmounts these mount points, the last one first, each by try_to_unmount(). Returns the
+        paths that are still mounted by the same mounts. OSError as points_below()."""
         for point in reversed(list(points.values())):
-            any(run_quietly([*words, point]) for words in UNMOUNTS)
+            try_to_unmount(point)
         remaining = self.points_below('/') if points else {}
         return [point for number, point in points.items() if remaining.get(number) == point]
 
@@ -67,6 +66,12 @@ def read_mount_points() -> Dict[int, str]:
 def byte_of_escape(match: re.Match[bytes]) -> bytes:
     """The byte of an escape, such as `\\040` for a blank."""
     return bytes([int(match[1], 8)])
+
+
+def try_to_unmount(point: str) -> bool:
+    """Unmounts what was mounted last at a path, even if it is in use, by the first of UNMOUNTS that
+    succeeds. Returns whether one does; each may take any time."""
+    return any(run_quietly([*words, point]) for words in UNMOUNTS)
 
 
 def run_quietly(words: List[str]) -> bool:

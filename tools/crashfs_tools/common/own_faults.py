@@ -13,10 +13,10 @@ FAULT_CHARACTERS = 500
 
 
 def print_own_fault(program: str, error: Exception, result: str = '') -> None:
-    """Prints a line on standard error: that an error is the program's own, with its type and its
-    text, cut to FAULT_CHARACTERS. A `result` that isn't empty, as `no trace is written`, says what
-    the run did nevertheless. If the variable TRACEBACK is set and not empty, the traceback comes
-    before the line."""
+    """Prints a line on standard error: that an error is the program's own, with the error's type
+    and text, cut to FAULT_CHARACTERS. A `result` that isn't empty says what the run did
+    nevertheless, as `no trace is written`. If the variable TRACEBACK is set and not empty, the
+    traceback is printed before the line."""
     is_traceback_asked = bool(os.environ.get(TRACEBACK))
     if is_traceback_asked:
         # Few runs need it, and each start would take it.

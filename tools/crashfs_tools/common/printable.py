@@ -26,8 +26,8 @@ def escape_unprintable(text: str, allowed: str = '') -> str:
 
 
 def escape_character(character: str) -> str:
-    """The escape of a character. Python has a byte that isn't UTF-8 as half of a surrogate pair:
-    its escape is that of the byte."""
+    """The escape of a character, in hexadecimal digits unless SHORT has it. For a byte that isn't
+    UTF-8, which Python has as half of a surrogate pair, it is the escape of the byte."""
     code = ord(character)
     if character in SHORT:
         return SHORT[character]
@@ -54,9 +54,9 @@ def set_utf8_streams() -> None:
 
 
 def prepare_standard_streams() -> None:
-    """Opens each standard stream that is closed as /dev/null, also for programs that are started,
-    so that no other file gets its number. Python's own sys.stdin may still be None. Then calls
-    set_utf8_streams()."""
+    """Opens /dev/null for each standard stream that is closed, also for programs that are started,
+    so that no other file gets the stream's number. Python's own sys.stdin may still be None. Then
+    calls set_utf8_streams()."""
     for number in (0, 1, 2):
         try:
             os.fstat(number)

@@ -51,13 +51,14 @@ RunningProgram = Union['subprocess.Popen[bytes]', ForkedReading]
 
 
 class ProgramFault(Exception):
-    """`crashfs` refused what it was asked, or failed: its status, and as text the line that says
-    why. If it printed nothing, the line says how it ended. `text` has all that it printed as an
-    error."""
+    """`crashfs` refused what it was asked, or failed. `status` is the program's; the exception's
+    own text is the line that says why or, if nothing was printed, how the program ended. `text` has
+    all that it printed as an error."""
 
     def __init__(self, status: int, error_text: bytes) -> None:
-        """error_text is all that the program printed as an error: its last line becomes the fault's
-        text, but its first one if the command line was wrong, since the usage comes after that."""
+        """error_text is all that the program printed as an error. Its last line becomes the
+        exception's own text; if the command line was wrong, its first line, since the usage comes
+        after that."""
         self.text = error_text.decode('utf-8', 'replace').strip()
         # A path in it may have other characters that end a line for Python, such as U+2028.
         lines = self.text.split('\n')
@@ -68,42 +69,42 @@ class ProgramFault(Exception):
 
     @property
     def is_unknown_option(self) -> bool:
-        """Whether the program doesn't know an option: it is older than these tools."""
+        """Whether the program doesn't know an option, as one that is older than these tools."""
         return self.status == UNKNOWN_OPTION
 
 
 class Crashfs:
-    """One program file; or, if it is_unproved, the second reading. refused_version: the version of
-    traces that the program refuses, so that the second reading is used; else 0. has_sparse: whether
-    archives have large files in pieces, without zeros."""
+    """One program file, or, if is_unproved, the second reading. refused_version is the version of
+    traces that made another program refuse, so that this second reading is used; else 0. If
+    has_sparse, large files in archives are in pieces, without zeros."""
 
-    def __init__(self, path: str, is_unproved: bool = False, refused_version: int = 0) -> None:
-        """has_sparse is False at first, unless it is the second reading; program_for_version() sets
-        it."""
+    def __init__(self, path: str, *, is_unproved: bool = False, refused_version: int = 0) -> None:
+        """has_sparse is False for a program, until program_for_version() sets it; the second
+        reading has it always."""
         self.path = path
         self.is_unproved = is_unproved
         self.refused_version = refused_version
         self.has_sparse = is_unproved
 
     @staticmethod
-    def find_or_second_reading(crashfs_option: Optional[str], is_unproved: bool) -> Crashfs:
-        """The program, as find() finds it, or the second reading if there is none; its
-        `is_unproved` says which. With is_unproved it is the second reading, and `crashfs_option`
-        isn't looked at. Refused if --crashfs names no program."""
+    def find_or_second_reading(crashfs_option: Optional[str], *, is_unproved: bool) -> Crashfs:
+        """The program, as find() finds it; the second reading if there is none, or if is_unproved,
+        without a look at `crashfs_option`. The result's own is_unproved says which of the two it
+        is. Refused if --crashfs names no program."""
         program = None if is_unproved else Crashfs.find(crashfs_option)
         return program or Crashfs.second_reading()
 
     @staticmethod
     def second_reading(refused_version: int = 0) -> Crashfs:
-        """The second reading as a program. `refused_version` is the version of traces that made the
-        program refuse; 0 if it is used for another reason."""
+        """The second reading as a program. `refused_version` is the version of traces that another
+        program refused; 0 if the second reading is used for another reason."""
         return Crashfs(READING, is_unproved=True, refused_version=refused_version)
 
     @staticmethod
     def find(crashfs_option: Optional[str]) -> Optional[Crashfs]:
-        """The program that --crashfs names, by a path or a name in PATH. Without --crashfs (None)
-        it is `crashfs` in PATH, else the one that was installed with these tools, or built here;
-        None if there is none. Refused if --crashfs names no program. It isn't started."""
+        """The program that --crashfs names, by a path or a name in PATH; it isn't started. Without
+        --crashfs (None) it is `crashfs` in PATH, else the one that was installed with these tools
+        or built here, and None if there is none. Refused if --crashfs names no program."""
         if crashfs_option is None:
             path = shutil.which('crashfs') or program_of_tools(LIBRARY)
             return None if path is None else Crashfs(path)
@@ -113,10 +114,10 @@ class Crashfs:
         return Crashfs(os.path.abspath(path))
 
     def program_for_version(self, version: int) -> Crashfs:
-        """This program; or, if it doesn't read traces of a version, the second reading, with this
-        version as refused_version. Sets has_sparse if the program can write large files in pieces.
-        Versions before NEW_VERSION aren't tried. For others the program is started: OSError as
-        can_read_version()."""
+        """This program; or, if it doesn't read traces of a version, the second reading, with the
+        version as refused_version. Sets has_sparse of this program if it can write large files in
+        pieces. It isn't started for versions before NEW_VERSION, which all programs read. OSError
+        as can_read_version()."""
         if self.is_unproved or version < NEW_VERSION:
             return self
         if not self.can_read_version(version):
@@ -125,9 +126,9 @@ class Crashfs:
         return self
 
     def can_read_version(self, version: int) -> bool:
-        """Whether the program reads traces of a version: it gets a trace that has only a header.
-        Any fault but REFUSED counts as yes, since the next command reports it. OSError if no
-        temporary file can be written."""
+        """Whether the program reads traces of a version: it is started with a trace that has only a
+        header. Any fault but REFUSED counts as yes, since the next command reports that. OSError if
+        no temporary file can be written."""
         with tempfile.NamedTemporaryFile('w', suffix='.trace') as file:
             file.write(EMPTY_TRACE % version)
             file.flush()
@@ -153,8 +154,8 @@ class Crashfs:
 
     def output_of(self, words: List[str], environment: Optional[Dict[str, str]] = None) -> str:
         """What a command prints on standard output; what it prints as an error is dropped.
-        ProgramFault if its status isn't 0; errors of the start as start(). With the `environment`
-        None, and for the second reading, it has that of this process."""
+        ProgramFault if its status isn't 0; errors as start() too. An `environment` of None is that
+        of this process, which the second reading has in any case."""
         child = self.start(words, environment)
         output, error_text = child.communicate()
         if child.returncode != 0:
@@ -164,7 +165,8 @@ class Crashfs:
     def start(self, words: List[str], environment: Optional[Dict[str, str]]) -> RunningProgram:
         """Starts a command, with pipes as its two outputs and no input. The caller must read both
         and wait for it. ProgramFault if the program can't be started. The second reading is a fork
-        of this process instead, which ignores `environment`: OSError if it can't be forked."""
+        of this process, and ignores `environment`: OSError if the system can't fork, or has no more
+        pipes."""
         if os.path.realpath(self.path) == READING:
             return ForkedReading(words)
         try:
@@ -186,7 +188,7 @@ class Crashfs:
         """Yields the entries of the archive that `crashfs tar` writes, as a stream that can be read
         once, within the `with`; its end drops what wasn't read. ProgramFault at the end if the
         program failed, or if an ArchiveFault was raised within. Any other exception within kills
-        the program, and is raised. Errors of the start as start()."""
+        the program, and is raised. Errors of the start as start() raises them."""
         sparse = ['--sparse'] if self.has_sparse else []
         child = self.start(['tar', *sparse, *words], environment)
         assert child.stdout is not None and child.stderr is not None
@@ -210,12 +212,12 @@ class Crashfs:
                 child.returncode, error_text or (f'{ending}; {fault}' if fault else ending).encode()
             )
 
-    def count_states(self, trace: str, with_holes: bool = True) -> int:
-        """How many states a trace has: its prefixes, and with_holes also the holes, even those that
-        are equal. ProgramFault if the program refuses the trace, or prints no list."""
-        lines = self.output_of(['list', '--trace', trace, *(['--holes'] if with_holes else [])])
-        words = lines.rstrip('\n').rpartition('\n')[2].split(' ')
-        # The states are numbered from 0, and the last line is that of the last one.
+    def count_states(self, trace: str, *, with_holes: bool = True) -> int:
+        """How many states a trace has: its prefixes, and, if with_holes, also the holes; equal
+        states count too. ProgramFault if the program refuses the trace, or prints no list."""
+        listing = self.output_of(['list', '--trace', trace, *(['--holes'] if with_holes else [])])
+        words = listing.rstrip('\n').rpartition('\n')[2].split(' ')
+        # The states are numbered from 0, and the last line is that of the last state.
         if words[0] != 'state' or not words[1:2] or not words[1].isdigit():
             raise ProgramFault(0, b'crashfs: what it printed is no list')
         return int(words[1]) + 1
@@ -232,8 +234,8 @@ class Crashfs:
     ) -> Iterator[Tuple[int, Entries]]:
         """The number and the tree, with the root, of each state that the option `--states` among
         the words names, in the order of its list; a number twice in a row gives one state. The
-        program is started when the first is taken, and killed if the stream is closed early. Errors
-        as open_archive(); ProgramFault too if the first name of a path isn't a number."""
+        program is started when the first is asked for, and killed if the iterator is closed early.
+        Errors as open_archive(); ProgramFault too if the first name of a path isn't a number."""
         with self.open_archive(words, environment) as archive:
             for name, members in groupby(archive, first_name_of_path):
                 number = parse_state_number(name)
@@ -243,7 +245,7 @@ class Crashfs:
         self, words: List[str], environment: Optional[Dict[str, str]] = None
     ) -> Entries:
         """The tree, with the root, of the state that the option `--state` among the words names.
-        Errors as open_archive(): ProgramFault if the program refuses that."""
+        Errors as open_archive(), also if there is no such state."""
         with self.open_archive(words, environment) as archive:
             return {'/' + path: entry for path, entry in archive}
 
@@ -255,8 +257,8 @@ def first_name_of_path(member: Member) -> str:
 
 def program_of_tools(tools_folder: str) -> Optional[str]:
     """The program that goes with the tools in a folder: for a release, whose tools are in
-    lib/crashfs, the one in its bin/; else the one that tools/build makes in this clone. None if it
-    isn't there, or may not be executed."""
+    lib/crashfs, the one in its bin/; else the one that tools/build makes in this clone. None if
+    that isn't there, or may not be executed."""
     parent_folder, name = os.path.split(tools_folder)
     is_release = name == 'crashfs' and os.path.basename(parent_folder) == 'lib'
     path = os.path.join(os.path.dirname(parent_folder), 'bin', 'crashfs') if is_release else BUILT
@@ -264,14 +266,13 @@ def program_of_tools(tools_folder: str) -> Optional[str]:
 
 
 class ProgramOutput(io.RawIOBase):
-    """A program's standard output, as a stream. Meanwhile it reads what the program prints as an
+    """A program's standard output, as a stream. Each read also takes what the program prints as an
     error, since the program would wait forever once that pipe is full; error_text has its last
     PIECE_BYTES."""
 
     def __init__(self, output_pipe: int, error_pipe: int) -> None:
-        """Reads from the descriptors of two pipes, which the caller closes."""
+        """Takes the descriptors of two pipes, which the caller closes."""
         super().__init__()
-        # The descriptors of the two pipes.
         self.output_pipe, self.error_pipe = output_pipe, error_pipe
         self.error_text = b''
         self.has_error_end = False
@@ -296,8 +297,8 @@ class ProgramOutput(io.RawIOBase):
 
     def read_errors(self) -> bool:
         """Waits without limit for a piece of what the program prints as an error, and adds it to
-        error_text, which keeps only the last PIECE_BYTES. Returns False at the end of the pipe, at
-        each call."""
+        error_text, which keeps only the last PIECE_BYTES. Returns False if the pipe is at its end,
+        at each further call too."""
         piece = os.read(self.error_pipe, PIECE_BYTES)
         self.error_text = (self.error_text + piece)[-PIECE_BYTES:]
         if not piece and not self.has_error_end:
@@ -305,30 +306,39 @@ class ProgramOutput(io.RawIOBase):
             self.has_error_end = True
         return bool(piece)
 
+    def drop_rest(self) -> None:
+        """Reads standard output to its end, and drops what it reads. Waits without limit."""
+        while self.read(PIECE_BYTES):
+            pass
+
+    def all_error_text(self) -> bytes:
+        """Reads what the program prints as an error to the end of that pipe, without limit. Returns
+        error_text, which has only the last PIECE_BYTES."""
+        while self.read_errors():
+            pass
+        return self.error_text
+
 
 def read_rest_and_wait(child: RunningProgram, output: ProgramOutput) -> bytes:
     """Reads the rest of what a program prints, so that it can end, closes both pipes, and waits for
-    it: child.returncode is set then. `output` must be of this child. Returns error_text, the end of
-    what it printed as an error."""
+    the program: child.returncode is set then. `output` must be of this child. Returns error_text,
+    the end of what it printed as an error."""
     assert child.stdout is not None and child.stderr is not None
-    while output.read(PIECE_BYTES):
-        pass
-    child.stdout.close()
-    while output.read_errors():
-        pass
-    child.stderr.close()
+    with child.stdout, child.stderr:
+        output.drop_rest()
+        error_text = output.all_error_text()
     child.wait()
-    return output.error_text
+    return error_text
 
 
 def is_plan_too_large(fault: Exception) -> bool:
     """Whether a fault of the program or of the second reading means that a trace is too long for
-    one plan: a text of TOO_LARGE is somewhere in it."""
+    one plan: the fault's text has one of TOO_LARGE."""
     message = fault.text if isinstance(fault, ProgramFault) else str(fault)
     return any(text in message for text in TOO_LARGE)
 
 
 def last_line(output: str) -> str:
-    """The last line of what a program printed that isn't blank; an empty text if there is none."""
+    """The last line of a program's output that isn't blank; an empty text if there is none."""
     lines = output.strip().splitlines()
     return lines[-1] if lines else ''

@@ -29,8 +29,8 @@ def remove_tree(path: str, dir_fd: Optional[int] = None, trash: str = '') -> boo
     """Removes a file, or a directory whatever the modes in it; the path may be relative to the open
     directory `dir_fd`. Returns whether it is gone, also if nothing was there. What is mounted in it
     or may not be removed is left in the directory `trash`, or else at its path. `trash` must be on
-    the same file system; it is made if it isn't there, and stays. By default it is PATH +
-    TRASH_ENDING, removed if it is empty; with `dir_fd` it must be passed. OSError if it can't be
+    the same file system, and with `dir_fd` it must be passed; it is made if it isn't there, and
+    stays, but the default, PATH + TRASH_ENDING, is removed if it is empty. OSError if it can't be
     made."""
     try:
         os.unlink(path, dir_fd=dir_fd)
@@ -48,9 +48,9 @@ def remove_tree(path: str, dir_fd: Optional[int] = None, trash: str = '') -> boo
 
 
 def remove_directory(path: str, dir_fd: Optional[int], trash: str) -> bool:
-    """Removes a directory, without `trash` if it is empty. Returns whether all of it is gone. What
-    can't be removed is left in `trash`, or, if it can't be moved there, at its path. OSError if
-    `trash` can't be made."""
+    """Removes a directory; `trash` is needed only if the directory isn't empty. Returns whether all
+    of it is gone. What can't be removed is left in `trash`, or, if it can't be moved there, at its
+    path. OSError if `trash` can't be made or opened."""
     if remove_if_empty(path, dir_fd):
         return True
     if not os.path.isdir(trash):
@@ -86,8 +86,8 @@ def make_trash(trash: str, path: str, dir_fd: Optional[int]) -> None:
 
 def make_room(path: str, dir_fd: Optional[int]) -> None:
     """Removes one file or empty directory that is in a directory, at any depth, but nothing that is
-    mounted there. Looks only at the first entry of each directory, and removes nothing if one has
-    no entry. OSError if the entry may not be removed."""
+    mounted there. Follows only the first entry of each directory; nothing happens if the directory
+    itself is empty. OSError if the entry that it finds may not be removed."""
     directory_fd = os.open(path, FOLDER, dir_fd=dir_fd)
     device = os.fstat(directory_fd).st_dev
     try:
@@ -121,8 +121,8 @@ def remove_first_entry(directory_fd: int) -> Optional[int]:
 class Removal:
     """Empties directories in an open one, the trash, to which it moves each of them first, so that
     no path has more than two names. The system moves no mount point, and nothing to another file
-    system: what is mounted in a directory is never reached. waiting has the names of those that are
-    in the trash and not yet empty."""
+    system, so what is mounted in a directory is never reached. waiting has the names of directories
+    that are in the trash and not yet empty."""
 
     def __init__(self, trash_fd: int) -> None:
         """trash_fd is the open trash, which the caller closes."""
@@ -132,9 +132,9 @@ class Removal:
         self.waiting: List[str] = []
 
     def remove(self, path: str, dir_fd: Optional[int]) -> bool:
-        """Removes as much of a directory as it can. Returns whether it is gone with all that was in
-        it. What may not be removed stays in the trash, or, if it can't be moved, at its path. It
-        raises no OSError."""
+        """Removes what can be removed of a directory. Returns whether it is gone with all that was
+        in it. The rest stays in the trash, or, if it can't be moved there, at its path. No OSError
+        is raised."""
         is_gone = self.move_to_trash(path, dir_fd)
         while self.waiting:
             name = self.waiting.pop()
@@ -146,9 +146,9 @@ class Removal:
         return is_gone
 
     def move_to_trash(self, name: str, dir_fd: Optional[int]) -> bool:
-        """Moves a directory to the trash under a new name, and adds this name to `waiting`. Returns
-        False if it can't be moved: then it stays, perhaps with the mode OPEN_MODE, which it gets if
-        the first try isn't permitted."""
+        """Moves a directory to the trash under a new name, which is added to `waiting`. Returns
+        False if it can't be moved: then it stays at its path, perhaps with the mode OPEN_MODE,
+        which it gets if the first try isn't permitted."""
         new_name = f'{self.prefix}-{self.moved_count}'
         self.moved_count += 1
         try:
@@ -163,8 +163,8 @@ class Removal:
         return True
 
     def empty_directory(self, name: str) -> None:
-        """Removes the files of a directory in the trash, and moves its directories to the trash;
-        one that can't be moved stays. OSError for a file that can't be removed: the entries after
+        """Removes the files of a directory in the trash, and moves its directories to the trash; a
+        directory that can't be moved stays. OSError if a file can't be removed: the entries after
         it stay too."""
         directory_fd = self.open_in_trash(name)
         try:

@@ -29,8 +29,8 @@ class SparseBytes:
     __slots__ = ('length', 'pages')
 
     def __init__(self, length: int = 0, parts: Iterable[Part] = ()) -> None:
-        """So many zeros, into which the parts are written in turn: a part past the length makes
-        them longer."""
+        """`length` zeros, into which the parts are written in turn; a part that ends past the
+        length makes the bytes longer."""
         self.length = length
         self.pages: Dict[int, bytearray] = {}
         for offset, data in parts:
@@ -79,8 +79,8 @@ class SparseBytes:
                 yield number, bytes(page)
 
     def read(self, offset: int, count: int) -> bytes:
-        """The next `count` bytes from an offset: fewer if they would end past the length, none if
-        the offset is past it."""
+        """The `count` bytes from an offset on: only those before the length, so none if the offset
+        is past it."""
         end = min(offset + count, self.length)
         pieces = []
         while offset < end:
@@ -91,52 +91,51 @@ class SparseBytes:
         return b''.join(pieces)
 
     def write(self, offset: int, data: Union[bytes, bytearray]) -> None:
-        """Puts bytes at an offset. If they end past the length, it grows, with zeros before them,
-        also if there are none. Zeros make no new pages; pages that get only zeros are kept."""
+        """Puts bytes at an offset. The length grows to their end if it is less, also for no bytes,
+        with zeros up to the offset. Zeros make no new pages; pages that get only zeros are kept."""
         self.length = max(self.length, offset + len(data))
         written = 0
         while written < len(data):
             number, begin_in_page = divmod(offset + written, PAGE_BYTES)
             piece = data[written : written + PAGE_BYTES - begin_in_page]
             written += len(piece)
-            if number in self.pages:
-                self.pages[number][begin_in_page : begin_in_page + len(piece)] = piece
-            elif piece.count(0) != len(piece):
+            if number not in self.pages:
+                if piece.count(0) == len(piece):
+                    continue
                 self.pages[number] = bytearray(PAGE_BYTES)
-                self.pages[number][begin_in_page : begin_in_page + len(piece)] = piece
+            self.pages[number][begin_in_page : begin_in_page + len(piece)] = piece
 
     def clear(self, begin: int, end: int) -> None:
         """Makes the bytes from offset `begin` to before `end` zeros, and drops pages that are
-        wholly among them. The length stays."""
+        wholly in this range. The length stays."""
         end = min(end, self.length)
         first_number, end_number = begin // PAGE_BYTES, -(-end // PAGE_BYTES)
         numbers: Iterable[int] = range(first_number, end_number)
         if end_number - first_number > len(self.pages):
             numbers = [number for number in self.pages if first_number <= number < end_number]
         for number in numbers:
-            page, page_begin = self.pages.get(number), number * PAGE_BYTES
-            begin_in_page, end_in_page = max(0, begin - page_begin), min(
-                PAGE_BYTES, end - page_begin
-            )
-            if page is None:
-                continue
+            page_begin = number * PAGE_BYTES
+            begin_in_page = max(0, begin - page_begin)
+            end_in_page = min(PAGE_BYTES, end - page_begin)
             if end_in_page - begin_in_page == PAGE_BYTES:
-                del self.pages[number]
-            elif begin_in_page < end_in_page:
-                page[begin_in_page:end_in_page] = bytes(end_in_page - begin_in_page)
+                self.pages.pop(number, None)
+            elif begin_in_page < end_in_page and number in self.pages:
+                self.pages[number][begin_in_page:end_in_page] = bytes(end_in_page - begin_in_page)
 
     def data_ranges(self, begin: int, end: int) -> List[Tuple[int, int]]:
-        """The parts of a range whose pages aren't all zeros, each as its two ends, ascending. One
-        may begin where the one before ends: page_runs() ends each at about PART_BYTES."""
+        """The parts of a range whose pages aren't all zeros, each as its two ends, ascending. A
+        part may begin where another one ends, since page_runs() ends each run at about
+        PART_BYTES."""
         ranges = []
-        for run_begin, run in list(self.page_runs()):
+        for run_begin, run in self.page_runs():
             range_begin, range_end = max(begin, run_begin), min(end, run_begin + len(run))
             if range_begin < range_end:
                 ranges.append((range_begin, range_end))
         return ranges
 
     def resize(self, length: int) -> None:
-        """Cuts the bytes, or adds zeros; bytes that were cut are zeros if it grows again."""
+        """Cuts the bytes, or adds zeros. Bytes that were cut are zeros if the length grows
+        again."""
         if length < self.length:
             self.clear(length, self.length + PAGE_BYTES)
         self.length = length
@@ -148,8 +147,8 @@ class SparseBytes:
         return [part for begin, run in self.page_runs() for part in split_parts(begin, run)]
 
     def page_runs(self) -> Iterator[Part]:
-        """The pages that aren't all zeros, each after its offset, ascending; neighbours are joined
-        up to PART_BYTES. The last page ends at the length."""
+        """The pages that aren't all zeros, as runs after their offsets, ascending: neighbours are
+        joined up to PART_BYTES. The last page ends at the length."""
         run_begin = 0
         pages: List[bytes] = []
         for number, page in sorted(self.data_pages()):
@@ -165,8 +164,8 @@ class SparseBytes:
 
 
 def split_parts(begin: int, data: bytes) -> Iterator[Part]:
-    """The bytes at offset `begin` of a file as parts, each after its offset, as SparseBytes.parts()
-    has them."""
+    """The bytes at offset `begin` of a file, as parts in the form of SparseBytes.parts(), each
+    after its offset."""
     piece_begin = 0
     for gap in GAP.finditer(data):
         yield from split_texts(begin + piece_begin, data[piece_begin : gap.start()])
@@ -175,8 +174,9 @@ def split_parts(begin: int, data: bytes) -> Iterator[Part]:
 
 
 def split_texts(begin: int, data: bytes) -> Iterator[Part]:
-    """Bytes at an offset, without the zeros at their edges, split so that each long text (TEXT) is
-    a part by itself; each part is after its offset. No part if all bytes are zeros."""
+    """The bytes at an offset of a file, without the zeros at their edges, split so that each long
+    text (TEXT) is a part by itself. Each part comes after its offset; there is none if all bytes
+    are zeros."""
     stripped = data.strip(b'\0')
     begin, end = begin + len(data) - len(data.lstrip(b'\0')), 0
     for text in TEXT.finditer(stripped):
@@ -189,8 +189,8 @@ def split_texts(begin: int, data: bytes) -> Iterator[Part]:
 
 
 def first_difference(left: Content, right: Content) -> int:
-    """The offset of the first byte in which two files differ. If one begins with the other, it is
-    the length of the shorter one; if they are equal, that of both."""
+    """The offset of the first byte in which two files differ. If one is the beginning of the other,
+    it is the length of the shorter one; if they are equal, the length of both."""
     length = min(len(left), len(right))
     for begin in pages_to_compare(left, right, length):
         end = min(begin + PAGE_BYTES, length)
@@ -204,7 +204,7 @@ def first_difference(left: Content, right: Content) -> int:
 
 def pages_to_compare(left: Content, right: Content, length: int) -> Iterable[int]:
     """The offsets of the pages before `length` in which two files can differ, ascending. If both
-    are SparseBytes, pages that neither has are left out."""
+    are SparseBytes, pages that neither of them has are left out."""
     if isinstance(left, SparseBytes) and isinstance(right, SparseBytes):
         numbers = sorted(left.pages.keys() | right.pages.keys())
         return (number * PAGE_BYTES for number in numbers if number * PAGE_BYTES < length)

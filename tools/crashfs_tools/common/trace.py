@@ -188,9 +188,9 @@ class Say:
 
     @staticmethod
     def from_line(line: bytes) -> Say:
-        """The Say of a line or a piece that a program printed, as far as a trace can have it: at
-        most its first SAY_BYTES bytes, without a character that would be cut. Bytes that aren't
-        UTF-8 become replacement characters; line feeds stay."""
+        """The Say of a line, or of a piece of one, that a program printed. It has at most the first
+        SAY_BYTES bytes, without a character that this would cut. Bytes that aren't UTF-8 become
+        replacement characters; line feeds stay."""
         text = line.decode('utf-8', 'replace').encode()[: limits.SAY_BYTES]
         return Say(text.decode('utf-8', 'ignore'))
 
@@ -268,13 +268,13 @@ class Trace:
         an operation of an unknown class. Whether the version has each line isn't checked:
         has_kind() does that."""
         yield json_line({**self.version_values(), **line_values(self.header)})
-        for entry in self.start:
-            yield json_start_line(entry, self.version)
+        yield from (json_start_line(entry, self.version) for entry in self.start)
         for place, operation in enumerate(self.operations):
             yield json_line(self.operation_values(place, operation))
 
     def version_values(self) -> Dict[str, Any]:
-        """The first keys and values of the header's line, in their order."""
+        """The keys and values that begin the header's line, in their order: the version, and what
+        only later versions have."""
         values: Dict[str, Any] = {'trace': self.version}
         if self.version >= 2:
             values['profile'] = self.profile
@@ -284,7 +284,7 @@ class Trace:
 
     def operation_values(self, place: int, operation: Operation) -> Dict[str, Any]:
         """The keys and values of the line of an operation, which is at a place from 0. Before
-        version 4 an fdatasync is written as a sync of the whole file's bytes; before version 3
+        version 4 an fdatasync is written as an fsync_range of the whole file; before version 3
         notes are left out."""
         if self.version < SINCE[Fdatasync] and isinstance(operation, Fdatasync):
             operation = FsyncRange(operation.path, 0, limits.FILE_BYTES)
@@ -312,9 +312,9 @@ def json_start_line(entry: StartLine, version: int) -> str:
 
 
 def with_parts_if_shorter(entry: StartLine) -> StartLine:
-    """An entry of the start tree: a file whose parts take less room than its bytes has SparseBytes
-    instead, anything else is itself. Text that people can read, and files of less than
-    LEAST_BYTES_IN_PARTS, are never in parts."""
+    """An entry of the start tree; a file whose parts take less room than its bytes gets SparseBytes
+    in their place. Files of less than LEAST_BYTES_IN_PARTS, and text that people can read, are
+    never in parts."""
     if not isinstance(entry, Start) or not isinstance(entry.data, bytes):
         return entry
     if len(entry.data) < LEAST_BYTES_IN_PARTS or readable_text(entry.data):
@@ -328,9 +328,9 @@ DIRECTORY_KEYS = ('path', 'owner', 'group', 'mode')
 
 
 def line_values(item: Any, version: int = 1) -> Dict[str, Any]:
-    """The keys and values of a line of this version for an operation, a start line or a header,
-    without the key that says what it is. They are the attributes, in their order; KEYS has the keys
-    with another name."""
+    """The keys and values of an operation, a start line or a header, for a line of this version,
+    without the key that says which of these it is. They are the attributes, in their order; KEYS
+    has the keys with another name."""
     values: Dict[str, Any] = {}
     for attribute in dataclasses.fields(item):
         value = getattr(item, attribute.name)
@@ -344,8 +344,8 @@ def line_values(item: Any, version: int = 1) -> Dict[str, Any]:
 
 def bytes_values(data: Union[bytes, SparseBytes], version: int) -> Dict[str, Any]:
     """The keys and values of bytes in a line of this version: since version 3 `text`, if people can
-    read it; else `bytes`, in hexadecimal digits, also for no bytes. SparseBytes are `length` and
-    `parts` since version 4, and whole before."""
+    read it; else `bytes`, in hexadecimal digits, also for no bytes. Since version 4 SparseBytes are
+    `length` and `parts`; in earlier versions they are written whole."""
     if isinstance(data, SparseBytes):
         if version >= 4:
             parts = [{'at': offset, **bytes_values(part, version)} for offset, part in data.parts()]
@@ -359,8 +359,8 @@ def bytes_values(data: Union[bytes, SparseBytes], version: int) -> Dict[str, Any
 
 
 def readable_text(data: bytes) -> str:
-    """Bytes as a text that people can read, of printable characters and line feeds. An empty text
-    if the bytes aren't such a text, or are none."""
+    """Bytes as a text that people can read: printable characters and line feeds. An empty text if
+    they aren't such a text, or if there are none."""
     try:
         text = data.decode('utf-8')
     except UnicodeDecodeError:

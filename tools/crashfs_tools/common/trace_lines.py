@@ -7,6 +7,8 @@ import json
 import re
 from functools import lru_cache
 from io import StringIO
+from itertools import groupby
+from operator import itemgetter
 from typing import Any, Dict, Iterable, List, NamedTuple, Optional, Tuple
 
 from . import limits
@@ -73,7 +75,8 @@ class TraceLine(NamedTuple):
 
     def is_apart_from(self, other: TraceLine) -> bool:
         """Whether no path of one line is equal to, above or below a path of the other: then a
-        program may change their order. A line without a path, such as a sync, is apart from all."""
+        program may change the order of the two. A line without a path, such as a sync, is apart
+        from all."""
         return not any(
             own_path.startswith(other_path) or other_path.startswith(own_path)
             for own_path in self.paths_with_slash
@@ -87,18 +90,18 @@ class TraceLine(NamedTuple):
         return [path.rstrip('/') + '/' for path in (self.path, self.target) if path]
 
     def may_change_path(self, path: str) -> bool:
-        """Whether a path may name another file or directory, or none, after this line. So it is if
-        the line renames or removes what is there or a directory above it, or renames something to
-        it; a rename of something to itself changes nothing."""
+        """Whether after this line a path may name another file or directory, or none: the line
+        renames or removes what is there or a directory above it, or renames something to it. A
+        rename of something to itself changes nothing."""
         if self.word not in PATH_CHANGES or self.path == self.target:
             return False
         return self.target == path or f'{path}/'.startswith(f'{self.path}/')
 
     @property
     def path_to_fsync(self) -> Optional[str]:
-        """The path whose fsync makes the line durable: its own if it changes a file or directory,
-        or the parent of the entry that it makes or removes; of a rename or link the new entry's
-        parent. None if no fsync makes it durable, as a sync or say."""
+        """The path whose fsync makes the line durable: its own if it changes a file or directory;
+        the parent of the entry that it makes or removes; for a rename or link the parent of the new
+        entry. None if no fsync makes it durable, as for a sync or say."""
         if self.word in CHANGES:
             return self.path
         if self.word in ENTRY_CHANGES:
@@ -122,9 +125,9 @@ def trace_line_of_fields(number: int, fields: Dict[str, Any]) -> TraceLine:
 
 def details_text(fields: Dict[str, Any]) -> str:
     """What reports show of an operation in addition to its paths: a say's text, cut to LARGEST_SAY
-    letters; how many bytes a write or an fsync_range has, and where, or `all bytes` if that is any
-    file before version 4; a symlink's target; a length; the rights that a chmod or chown sets.
-    Empty for the others. KeyError if a key of its operation is missing."""
+    characters; the number of bytes of a write or an fsync_range, and their offset, or `all bytes`
+    for the largest file of versions before 4; a symlink's target; a length; the rights that a chmod
+    or chown sets. Empty for the others. KeyError if a key of its operation is missing."""
     if fields['op'] == 'say':
         text: str = fields['text']
         return text if len(text) <= LARGEST_SAY else f'{text[:LARGEST_SAY]}..'
@@ -154,7 +157,7 @@ class TraceText(NamedTuple):
 
 def parse_trace_text(text: str) -> TraceText:
     """The operations and acknowledged texts of a trace of any version that `crashfs` has accepted.
-    For other texts it may raise TraceError, KeyError, TypeError or AttributeError."""
+    Another text may raise TraceError, KeyError, TypeError or AttributeError."""
     operations: Dict[int, TraceLine] = {}
     acknowledged: List[str] = []
     for number, fields in parse_lines(text.split('\n')):
@@ -188,12 +191,13 @@ def with_syncs(text: str, sync_points: Iterable[Tuple[int, str]]) -> str:
     now, and the path of an fsync that is added after it; several after one line are in the order of
     their paths. A point after the last line is left out. Whether the trace has the paths isn't
     checked."""
-    paths_by_line: Dict[int, List[str]] = {}
-    for number, path in sorted(sync_points):
-        paths_by_line.setdefault(number, []).append(path)
+    syncs_by_line = {
+        number: [{'op': 'fsync', 'path': path} for _, path in points]
+        for number, points in groupby(sorted(sync_points), itemgetter(0))
+    }
     lines: List[str] = []
     for number, line in enumerate(text.split('\n'), 1):
-        syncs = [{'op': 'fsync', 'path': path} for path in paths_by_line.get(number, [])]
+        syncs = syncs_by_line.get(number, [])
         lines += [line, *(json.dumps(sync, ensure_ascii=False) for sync in syncs)]
     return '\n'.join(lines)
 
@@ -208,8 +212,8 @@ def without_says(text: str) -> str:
 
 def is_large_trace(lines: Iterable[str], least_entries: int, least_bytes: int) -> bool:
     """Whether a trace has at least `least_entries` start lines, or `least_bytes` bytes: those of
-    its lines, with their ends, and the lengths that truncates set. No more lines are read than that
-    needs. TraceError if one of these isn't JSON, AttributeError if it isn't an object."""
+    its lines, with their ends, and the lengths that truncates set. No more lines are read than
+    needed. TraceError if a line that is read isn't JSON, AttributeError if it isn't an object."""
     entries = size = 0
     for number, line in enumerate(lines, 1):
         fields = parse_line(number, line) if line.strip(BLANKS) else {}

@@ -27,8 +27,8 @@ STARTS: Dict[str, Type[Any]] = {'link': StartLink, 'symlink': StartSymlink}
 
 
 def read_trace(trace_text: str) -> Trace:
-    """The trace that a text has. TraceError if a line isn't one of its version, or if there is no
-    header. Whether lines fit together isn't checked."""
+    """The trace that a text has. TraceError if a line isn't one of the trace's version, or if there
+    is no header. Whether the lines fit together isn't checked."""
     *_, (_, trace) = read_lines(trace_text.split('\n'))
     return trace
 
@@ -46,13 +46,13 @@ def read_trace_with_numbers(trace_text: str) -> Tuple[Trace, List[int]]:
 def tree_at_end(lines: Iterable[str]) -> Tree:
     """The tree at a trace's end; only one line at a time is in memory. TraceError for a line that
     isn't one of the trace's version, ValueError for an operation that is impossible in the tree.
-    Start lines aren't checked so: an impossible one may raise KeyError."""
+    Start lines aren't checked in this way: an impossible one may raise KeyError."""
     tree: Optional[Tree] = None
     for number, trace in read_lines(lines):
         tree = tree or tree_without_start(trace)
-        while trace.start:
+        if trace.start:
             tree.add_start(trace.start.pop())
-        while trace.operations:
+        if trace.operations:
             operation = trace.operations.pop()
             fault = tree.fault(operation)
             if fault:
@@ -146,7 +146,7 @@ def read_values(fields: Dict[str, Any], line_class: Type[Any], version: int) -> 
 def read_value(attribute: str, fields: Dict[str, Any], version: int) -> Any:
     """The value of an attribute of a line; None for the bytes of a directory. KeyError if the line
     has no such field; ValueError or TypeError if bytes, parts or a mode can't be read. Parts may be
-    in any order, and past the length. Other values are kept as they are, of any type."""
+    in any order, and end past the length. Other values are kept as they are, of any type."""
     if attribute == 'data':
         if fields.get('start') == 'dir':
             return None

@@ -2,7 +2,7 @@
 
 from __future__ import annotations
 
-from typing import Dict, List, Optional, Tuple, Union
+from typing import Dict, Iterator, List, Optional, Tuple, Union
 
 from . import limits
 from .entry import Entries, Entry, parent_of
@@ -36,8 +36,8 @@ ROOT_FAULT = '/ is the root'
 
 
 def path_fault(path: str) -> Optional[str]:
-    """Why a trace can't have a path, in words; None if it can. It doesn't ask what is there, nor
-    whether a name is empty, `.` or `..`: the caller's paths are resolved."""
+    """Why a trace can't have a path, in words; None if it can. What is at the path isn't looked at,
+    nor names that are empty, `.` or `..`: the caller's paths are resolved."""
     names = path.split('/')[1:]
     if len(names) > limits.PATH_NAMES:
         return f'a path of more than {limits.PATH_NAMES} names'
@@ -51,8 +51,8 @@ def path_fault(path: str) -> Optional[str]:
 class Tree:
     """The entries by path. files has the number of the file, link or directory at each path; all
     paths of a file have one number, and share its entry. made_count counts all that was made or
-    linked, the root too; move_count the renames into another directory. version may be set from 3
-    to 4: then the counts are those of version 4, also of earlier operations."""
+    linked, the root too; move_count the renames into another directory. version may be changed from
+    3 to 4: then the counts are those of version 4, also for earlier operations."""
 
     def __init__(
         self,
@@ -86,9 +86,9 @@ class Tree:
         return self.steps_of_all_versions + (self.steps_of_version_4 if self.version >= 4 else 0)
 
     def add_start(self, entry: StartLine) -> None:
-        """Adds the file, directory or link of a start line; bytes that can be changed are copied.
-        Nothing is checked: the parent must be there, and the path free. KeyError if the source of a
-        link isn't there."""
+        """Adds the file, directory or link of a start line, with a copy of bytes that can be
+        changed. Nothing is checked: the parent must be there, and the path free. KeyError if the
+        source of a link isn't there."""
         if isinstance(entry, StartLink):
             self.add_link(entry.source, entry.path)
         elif isinstance(entry, StartSymlink):
@@ -112,9 +112,9 @@ class Tree:
     # What an operation needs
 
     def fault(self, operation: Operation) -> Optional[str]:
-        """Why the trace can't have an operation here, in words; None if it can. Nothing is changed.
-        Users, modes, the count of micro-operations and the bytes of a say aren't looked at: a say
-        or a sync of all is always possible."""
+        """Why the trace can't have an operation here, in words; None if it can. The tree isn't
+        changed. Users, modes, the count of micro-operations and the bytes of a say aren't looked
+        at: a say or a sync of all is always possible."""
         if isinstance(operation, (Creat, Mkdir, Symlink)):
             return self.creation_fault(operation.path)
         if isinstance(operation, Rename):
@@ -132,8 +132,8 @@ class Tree:
         return None
 
     def creation_fault(self, path: str) -> Optional[str]:
-        """Why nothing can be made at a path: its parent, what is there, the count of records, or
-        its names. None if something can."""
+        """Why nothing can be made at a path: the parent is no directory, something is there, there
+        are too many records, or path_fault() has a reason. None if something can be made."""
         parent = self.entries.get(parent_of(path))
         if parent is None or not parent.is_directory:
             return f'{parent_of(path)} is no directory of the trace'
@@ -144,26 +144,27 @@ class Tree:
         return path_fault(path)
 
     def unlink_fault(self, path: str) -> Optional[str]:
-        """Why a path can't be unlinked: nothing, or a directory, is there. None if it can."""
+        """Why a path can't be unlinked: nothing is there, or a directory. None if it can."""
         entry = self.entries.get(path)
         if entry is None:
             return f'{path} is not there'
         return f'{path} is a directory' if entry.is_directory else None
 
     def file_fault(self, path: str) -> Optional[str]:
-        """Why a path isn't that of a file with bytes; None if it is."""
+        """Why a path isn't that of a file with bytes: nothing, a directory or a symbolic link is
+        there. None if a file is."""
         return self.unlink_fault(path) or self.symlink_fault(path)
 
     def change_fault(self, operation: Union[Chmod, Chown, Fsync]) -> Optional[str]:
-        """Why a chmod, chown or fsync of its path is impossible: nothing is there, or a symbolic
-        link, which only a chown may change. None if it is possible."""
+        """Why a chmod, chown or fsync is impossible: nothing is at its path, or a symbolic link,
+        which only a chown may change. None if it is possible."""
         if operation.path not in self.entries:
             return f'{operation.path} is not there'
         return None if isinstance(operation, Chown) else self.symlink_fault(operation.path)
 
     def symlink_fault(self, path: str) -> Optional[str]:
-        """Why an operation that follows symbolic links can't be on a path: a link is there. None if
-        another entry is. KeyError if nothing is."""
+        """Why an operation that follows symbolic links is impossible on a path: a symbolic link is
+        there. None if something else is. KeyError if nothing is."""
         is_link = self.entries[path].link is not None
         return f'{path} is a symbolic link' if is_link else None
 
@@ -185,8 +186,8 @@ class Tree:
 
     def directory_rename_fault(self, source: str, target: str) -> Optional[str]:
         """Why a directory can't be renamed from `source` to `target`; None if it can. Before
-        version 4 none can; the root never can. It may replace an empty directory, or be renamed to
-        itself."""
+        version 4 no directory can, and the root never. A directory may replace an empty one, or be
+        renamed to itself."""
         if self.version < 4:
             return f'{source} is a directory'
         if source == '/':
@@ -198,35 +199,40 @@ class Tree:
         return self.rmdir_fault(target)
 
     def records_fault(self, operation: Rename) -> Optional[str]:
-        """Why there is no record left for a rename; None if there is. A rename needs one only in
-        version 4, and only if it moves something into another directory."""
+        """Why there is no record left for a rename. None if there is one, or if the rename needs
+        none: it needs one only in version 4, to move something into another directory."""
         is_counted = self.version >= 4 and self.is_move(operation)
         if is_counted and self.records >= limits.RECORDS:
             return f'more than {limits.RECORDS} files and directories'
         return None
 
     def is_move(self, operation: Rename) -> bool:
-        """Whether a rename moves something into another directory. False if the target is another
-        path of the same file: then it does nothing. KeyError if the source isn't there."""
+        """Whether a rename moves something into another directory. A rename to another path of the
+        same file does nothing, so it isn't a move. KeyError if the source isn't there."""
         source, target = operation.source, operation.target
         is_same_file = self.files[source] == self.files.get(target)
         return parent_of(source) != parent_of(target) and not is_same_file
 
     def rmdir_fault(self, path: str) -> Optional[str]:
-        """Why a directory can't be removed: it is the root, has entries, or isn't there. None if it
+        """Why a directory can't be removed: it is the root, isn't there, or has entries. None if it
         can."""
         if path == '/':
             return ROOT_FAULT
         entry = self.entries.get(path)
         if entry is None or not entry.is_directory:
             return f'{path} is no directory of the trace'
-        prefix = path + '/'
-        has_entries = any(other.startswith(prefix) for other in self.entries)
-        return f'{path} has entries' if has_entries else None
+        is_empty = next(self.paths_below(path), None) is None
+        return None if is_empty else f'{path} has entries'
+
+    def paths_below(self, directory: str) -> Iterator[str]:
+        """The paths of all that is below a directory, which isn't the root, at any depth. The tree
+        must not be changed before the last one is yielded."""
+        prefix = directory + '/'
+        return (path for path in self.entries if path.startswith(prefix))
 
     def size_fault(self, operation: Operation) -> Optional[str]:
-        """Why a file can't have the size that a write or truncate gives it; None if it can, also
-        for other operations. A write of no bytes changes no size, whatever its offset."""
+        """Why a file can't have the size that a write or truncate gives it; None if it can, and for
+        other operations. A write of no bytes changes no size, whatever its offset."""
         end, largest_size = 0, limits.most_file_bytes(self.version)
         if isinstance(operation, Write):
             end = operation.offset + len(operation.data) if operation.data else 0
@@ -238,7 +244,7 @@ class Tree:
 
     def apply(self, operation: Operation) -> None:
         """Does an operation, for which fault() must be None, and counts its micro-operations and
-        records. A sync does nothing; a say only counts."""
+        records. A sync changes nothing; a say is only counted."""
         if isinstance(operation, (Creat, Mkdir)):
             data = b'' if isinstance(operation, Creat) else None
             entry = Entry(operation.owner, operation.group, operation.mode, data)
@@ -255,8 +261,8 @@ class Tree:
 
     def apply_rename(self, operation: Rename) -> None:
         """Renames a path, with all that is below a directory, and replaces what is at the target.
-        Counts its micro-operations, and a move into another directory. Does nothing, and counts
-        nothing, if both paths are the same file's."""
+        Counts its micro-operations, and a move into another directory. If both paths are the same
+        file's, it does nothing, and counts nothing."""
         source, target = operation.source, operation.target
         if self.files[source] == self.files.get(target):
             return
@@ -264,10 +270,7 @@ class Tree:
         if self.is_move(operation):
             self.move_count += 1
             self.steps_of_version_4 += self.profile == BLOCKS and not is_directory
-        prefix = source + '/'
-        inner_paths = (
-            [path for path in self.entries if path.startswith(prefix)] if is_directory else []
-        )
+        inner_paths = self.paths_below(source) if is_directory else ()
         for path in (source, *inner_paths):
             new_path = target + path[len(source) :]
             self.entries[new_path] = self.entries.pop(path)
@@ -276,8 +279,8 @@ class Tree:
 
     def apply_in_place(self, operation: Operation) -> int:
         """Changes bytes, a length or rights, if an operation does so. Returns how many
-        micro-operations the operation has in all versions, but 0 for a rename: apply_rename()
-        counts its own. Those that only version 4 has are added to steps_of_version_4."""
+        micro-operations the operation has in all versions, but 0 for a rename, which apply_rename()
+        counts. Those that only version 4 has are added to steps_of_version_4."""
         if isinstance(operation, Write):
             return self.apply_write(operation)
         if isinstance(operation, Truncate):
@@ -300,8 +303,8 @@ class Tree:
 
     def apply_truncate(self, operation: Truncate) -> int:
         """Sets a length. Returns how many micro-operations that is in all versions: 1, or 0 if the
-        file has this length. The zeros that only version 4 writes are counted in
-        steps_of_version_4."""
+        file has this length already. In version 4 it also writes zeros in the last page: these are
+        counted in steps_of_version_4."""
         entry, length = self.entries[operation.path], operation.length
         old_size = len(entry.data or b'')
         entry.resize(length)
@@ -339,16 +342,16 @@ def page_end(length: int) -> int:
 
 
 def is_growth_past_page(old_size: int, end: int) -> bool:
-    """Whether a write up to `end` gives a file two new sizes in version 4: the end of its last
-    page, which it uses only in part, and then its own end."""
+    """Whether a write up to `end` gives a file two new sizes in version 4: first the end of its
+    last page, if that isn't full, and then its own end."""
     return old_size < page_end(old_size) < end
 
 
 def start_lines(entries: Entries, files: Dict[str, int]) -> Tuple[Header, List[StartLine]]:
     """The header and the start lines of a tree, in the order of the names of their paths, so that
-    each is after its directory. files has one number for all paths of a file: its first path has
-    the file's line, and the others are links to it. Later changes of the tree don't change the
-    lines."""
+    each line comes after that of its directory. files has one number for all paths of a file: the
+    first path has the file's line, and the others are links to that path. Later changes of the tree
+    don't change the lines."""
     root = entries['/']
     first_paths: Dict[int, str] = {}
     lines: List[StartLine] = []
