@@ -31,13 +31,13 @@ def uses_by_crate(crates_text: str) -> Dict[str, List[str]]:
 def crates_below(uses: Dict[str, List[str]], name: str) -> Set[str]:
     """The crates that a crate uses, directly or not. The crate itself is among them only if it is
     in a cycle. A crate that is no key of `uses`, such as one of the kit, uses none."""
-    below: Set[str] = set()
-    remaining = [name]
-    while remaining:
-        new_crates = set(uses.get(remaining.pop(), ())) - below
-        below |= new_crates
-        remaining.extend(new_crates)
-    return below
+    crates: Set[str] = set()
+    remaining_crates = [name]
+    while remaining_crates:
+        new_crates = set(uses.get(remaining_crates.pop(), ())) - crates
+        crates |= new_crates
+        remaining_crates.extend(new_crates)
+    return crates
 
 
 def libraries() -> Dict[str, List[str]]:
@@ -55,7 +55,7 @@ def paths_of_texts(crate_folder: Path) -> Iterator[Path]:
     return (path for folder in folders for path in folder.rglob('*'))
 
 
-def count_lines(name: str) -> int:
+def count_crate_lines(name: str) -> int:
     """How many lines the texts of a crate have: the more, the longer a check takes. 0 if there is
     no such crate; OSError if a text can't be read."""
     paths = (path for path in paths_of_texts(TOP / 'crates' / name) if path.is_file())
@@ -65,13 +65,13 @@ def count_lines(name: str) -> int:
 def chain_lengths(uses: Dict[str, List[str]]) -> Dict[str, int]:
     """For each crate, how many lines the longest chain of crates has that begins with it, and in
     which each crate uses the one before. Used crates that are no keys of `uses` are ignored.
-    RecursionError if there is a cycle, OSError as count_lines()."""
+    RecursionError if there is a cycle, OSError as count_crate_lines()."""
     users = {name: [user for user in uses if name in uses[user]] for name in uses}
 
     @lru_cache(maxsize=None)
     def length_from(name: str) -> int:
         """The length of the longest chain that begins with a crate."""
-        return count_lines(name) + max((length_from(user) for user in users[name]), default=0)
+        return count_crate_lines(name) + max((length_from(user) for user in users[name]), default=0)
 
     return {name: length_from(name) for name in uses}
 

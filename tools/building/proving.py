@@ -21,10 +21,11 @@ def is_library_current(copy: Path, name: str) -> bool:
     crate: then `rt` only needs a second. False if there is no library. A removed text may go
     unnoticed, and the crates below aren't looked at. OSError if a text is removed meanwhile."""
     stamp = library_folder(copy, name) / 'stamp'
-    return stamp.is_file() and all(
-        path.stat().st_mtime <= stamp.stat().st_mtime
-        for path in paths_of_texts(copy / 'crates' / name)
-    )
+    if not stamp.is_file():
+        return False
+    library_time = stamp.stat().st_mtime
+    texts = paths_of_texts(copy / 'crates' / name)
+    return all(path.stat().st_mtime <= library_time for path in texts)
 
 
 def copy_sources_to(folder: Path) -> Path:

@@ -93,12 +93,12 @@ def provers_below(top: int) -> List[List[Prover]]:
     without /proc."""
     folders = [path for path in PROCESSES.iterdir() if path.name.isdigit()]
     parents = {int(path.name): read_parent(path) for path in folders}
-    running = {prover.number: prover for prover in map(read_prover, folders) if prover}
+    running_provers = {prover.number: prover for prover in map(read_prover, folders) if prover}
     groups: Dict[int, List[Prover]] = defaultdict(list)
-    for prover in running.values():
+    for prover in running_provers.values():
         lineage = list(process_and_ancestors(prover.number, parents))
         if top in lineage:
-            first_number = [number for number in lineage if number in running][-1]
+            first_number = [number for number in lineage if number in running_provers][-1]
             groups[first_number].append(prover)
     return [
         sorted(group, key=lambda prover: prover.number != first_number)

@@ -98,12 +98,12 @@ def text_of_argument(body: str, argument: str) -> str:
 def own_options(body: str) -> Iterator[Option]:
     """The options that a function of SOURCE adds in its own body, not by the functions that it
     calls; in the order of OPTION_CALLS, then of the body."""
-    found = (
+    all_parts = (
         {**fixed, **match.groupdict()}
         for pattern, fixed in OPTION_CALLS
         for match in re.finditer(pattern, body)
     )
-    for parts in found:
+    for parts in all_parts:
         name, help_text = parts['name'], text_of_argument(body, parts['about'])
         yield Option((f'--{name}',), help_text, parts.get('value'), CHOICES.get(name, ()))
 
@@ -113,8 +113,8 @@ def options_in(function: str, functions: Dict[str, str]) -> List[Option]:
     `with_..` that it calls. `functions` are those of functions_of_program(). KeyError if they lack
     the function, or one that it calls; RecursionError if two call each other."""
     body = functions[function]
-    called = [name for name in re.findall(r'\b(with_\w+)\(', body) if name != function]
-    shared_options = [option for name in called for option in options_in(name, functions)]
+    called_names = [name for name in re.findall(r'\b(with_\w+)\(', body) if name != function]
+    shared_options = [option for name in called_names for option in options_in(name, functions)]
     return [*own_options(body), *shared_options]
 
 

@@ -137,8 +137,8 @@ def zsh_option(option: Option) -> str:
     help_text = quoted_text(option.help).replace('[', '(').replace(']', ')').replace(':', '\\:')
     value_text = ''
     if option.value:
-        offered = f'({" ".join(option.choices)})' if option.choices else '_files'
-        value_text = f':{option.value}:{offered}'
+        offered_values = f'({" ".join(option.choices)})' if option.choices else '_files'
+        value_text = f':{option.value}:{offered_values}'
     if len(option.names) == 1:
         return f"'{option.names[0]}[{help_text}]{value_text}'"
     names = ' '.join(option.names)

@@ -38,8 +38,8 @@ def print_outdated_lines(lines: List[str]) -> int:
 
 def write_outdated_files(texts: Dict[Path, str]) -> None:
     """Writes the files of outdated_files(), and makes the folder of a file if only this folder is
-    missing. Other files aren't written again. OSError if a file can't be written: those before it
-    are. UnicodeDecodeError as outdated_files(), before anything is written."""
+    missing. Other files aren't written again. OSError if a file can't be written, after those
+    before it are written; UnicodeDecodeError as outdated_files(), before anything is written."""
     for path in outdated_files(texts):
         path.parent.mkdir(exist_ok=True)
         path.write_text(texts[path], encoding='utf-8')

@@ -42,6 +42,16 @@ class Word:
     sentence: str
 
 
+@dataclass(frozen=True)
+class Citation:
+    """A citation of a word by a contract: the word's crate, the word, and the call that has the
+    contract. A call of another crate than the word's has the name of its own crate before it."""
+
+    word_crate: str
+    word: str
+    call: str
+
+
 def crate_names() -> List[str]:
     """The crates of crates.txt, in its order. OSError if it can't be read."""
     return list(uses_by_crate((TOP / 'crates.txt').read_text('utf-8')))
@@ -175,31 +185,36 @@ def contract_text(lines: List[str], indent: str) -> str:
     return '\n'.join(clauses)
 
 
-def citations_in(path: Path, crate: str) -> Iterator[Tuple[str, str, str]]:
-    """Each citation of a word by a contract in a file of a crate: the word's crate, the word, and
-    the call with this contract. A call that cites a word of another crate has the name of its own
-    crate before it. A contract may cite a word more than once. OSError as contracts_in()."""
+def citations_in(path: Path, crate: str) -> List[Citation]:
+    """The citations of words by the contracts in a file of a crate, in their order. A contract that
+    cites a word more than once has equal ones. OSError as contracts_in()."""
     word_crates = crates_of_words(crate, path.read_text(encoding='utf-8'))
-    cited = ((call, word) for call, text in contracts_in(path) for word in IDENTIFIER.findall(text))
-    for call, word in cited:
-        if word in word_crates:
-            word_crate = word_crates[word]
-            yield word_crate, word, call if word_crate == crate else f'{crate} {call}'
+    return [
+        Citation(
+            word_crate=word_crates[word],
+            word=word,
+            call=call if word_crates[word] == crate else f'{crate} {call}',
+        )
+        for call, contract in contracts_in(path)
+        for word in IDENTIFIER.findall(contract)
+        if word in word_crates
+    ]
 
 
 def citations() -> Dict[str, Dict[str, List[str]]]:
     """By crate and by its word, the calls of all crates whose contracts cite the word, each once,
-    as citations_in() has them. A word that a contract has behind a module's name isn't found. All
-    sources are read: OSError if one can't be read."""
-    found = (
+    as Citation has them. A word that a contract has behind a module's name isn't found. All sources
+    are read: OSError if one can't be read."""
+    all_citations = dict.fromkeys(
         citation
         for crate in crate_names()
         for path in crate_files(crate, 'src', '.rt')
         for citation in citations_in(path, crate)
     )
     calls: Dict[str, Dict[str, List[str]]] = {}
-    for word_crate, word, call in dict.fromkeys(found):
-        calls.setdefault(word_crate, {}).setdefault(word, []).append(call)
+    for citation in all_citations:
+        calls_by_word = calls.setdefault(citation.word_crate, {})
+        calls_by_word.setdefault(citation.word, []).append(citation.call)
     return calls
 
 

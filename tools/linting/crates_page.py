@@ -63,8 +63,8 @@ def occurrence_faults(place: str, names: List[str], expected: List[str]) -> Iter
 
 
 def layer_faults(layers: Dict[str, int], table: List[Tuple[str, int]]) -> Iterator[str]:
-    """A sentence for each crate of the table that is in another layer of the picture. `layers` has
-    the layer of each crate of the picture: a crate that isn't there is left out."""
+    """A sentence for each crate that the table has in another layer than the picture. `layers` has
+    the layer of each crate of the picture. A crate that the picture lacks is left out."""
     for name, layer in table:
         if layers.get(name, layer) != layer:
             yield f'{name} is in layer {layers[name]} of the picture, {layer} of the table'
@@ -80,7 +80,7 @@ def row_faults(rows: List[List[str]]) -> Iterator[str]:
 
 def use_faults(layers: Dict[str, int], uses: Dict[str, List[str]]) -> List[str]:
     """A sentence for each use of a crate by a crate of a lower layer. `layers` has the layer of
-    each crate of the picture: uses of other crates are left out."""
+    each crate of the picture. Crates that the picture lacks are left out."""
     return [
         f'{name} uses {used_name} of a higher layer'
         for name, layer in layers.items()

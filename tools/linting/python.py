@@ -39,7 +39,7 @@ def run_linter(words: List[str], files: List[Path]) -> Optional[List[str]]:
     that it prints on both outputs, or its status if it prints none; None if it isn't installed."""
     if shutil.which(words[0]) is None:
         return None
-    process = subprocess.run(
+    completed = subprocess.run(
         [*words, *map(path_from_top, files)],
         cwd=TOP,
         stdout=subprocess.PIPE,
@@ -47,9 +47,9 @@ def run_linter(words: List[str], files: List[Path]) -> Optional[List[str]]:
         text=True,
         env={**os.environ, 'MYPYPATH': str(TOOLS)},
     )
-    if process.returncode == 0:
+    if completed.returncode == 0:
         return []
-    return process.stdout.strip().splitlines() or [f'{words[0]}: status {process.returncode}']
+    return completed.stdout.strip().splitlines() or [f'{words[0]}: status {completed.returncode}']
 
 
 def flake8_faults() -> Optional[List[str]]:

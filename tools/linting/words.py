@@ -52,7 +52,8 @@ def without_made_parts(page: str) -> str:
 
 def lines_of_pages() -> Iterator[Line]:
     """The lines of all pages, of the manual pages, and of the examples that print something or were
-    printed, but not of made parts. OSError if README, CHANGELOG or SECURITY isn't there."""
+    printed, but not of made parts. OSError if README, CHANGELOG or SECURITY isn't there,
+    UnicodeDecodeError if a file isn't UTF-8."""
     pages = [TOP / name for name in ('README.md', 'CHANGELOG.md', 'SECURITY.md')]
     pages += sorted((TOP / 'docs').rglob('*.md')) + sorted((TOP / 'docs' / 'man').iterdir())
     pages += sorted((TOP / 'helpers').glob('*/README.md'))

@@ -64,10 +64,12 @@ def draw_rows(picture: Picture, session: ModelledSession) -> Dict[int, float]:
 def alternative_text(needs: List[Need], last_line: int, rename: int) -> str:
     """The alternative text of the picture of these needs. last_line and rename are the places of
     the last acknowledged line and of the rename, between which a need is missing."""
-    needed: Dict[int, List[str]] = {}
+    texts_by_place: Dict[int, List[str]] = {}
     for need in needs:
-        needed.setdefault(need.later, []).append(f'{need.earlier} ({need.rule})')
-    texts = '; '.join(f'{later} needs {" and ".join(names)}' for later, names in needed.items())
+        texts_by_place.setdefault(need.later, []).append(f'{need.earlier} ({need.rule})')
+    texts = '; '.join(
+        f'{later} needs {" and ".join(names)}' for later, names in texts_by_place.items()
+    )
     return (
         'Arrows from each micro-operation to those that it needs, without what follows from '
         f'others: {texts}. Nothing makes {last_line}, the last acknowledged line, need {rename}, '
@@ -75,8 +77,8 @@ def alternative_text(needs: List[Need], last_line: int, rename: int) -> str:
     )
 
 
-def draw_key(picture: Picture, rules: Iterable[str], missing: str) -> None:
-    """Adds, below what is there, what the arrows of these rules mean, and `missing`, what the
+def draw_key(picture: Picture, rules: Iterable[str], missing_text: str) -> None:
+    """Adds, below what is there, what the arrows of these rules mean, and missing_text, what the
     missing arrow means. KeyError if RULES lacks a rule."""
     picture.y += 6
     for rule in rules:
@@ -84,7 +86,7 @@ def draw_key(picture: Picture, rules: Iterable[str], missing: str) -> None:
         picture.add(rectangle(MARGIN, picture.y + 13, 18, 2, colour))
         picture.add_line(f'{rule}: {meaning}', x=WORDS)
     picture.add(path_element(f'M{MARGIN} {picture.y + 14:g}h18', 'arrow bad'))
-    picture.add_line(missing, 'bad', WORDS)
+    picture.add_line(missing_text, 'bad', WORDS)
 
 
 def arrows_picture(session: ModelledSession) -> str:
@@ -98,6 +100,6 @@ def arrows_picture(session: ModelledSession) -> str:
     for need in needs:
         picture.add(bent_arrow(heights[need.earlier], heights[need.later], RULES[need.rule][1]))
     picture.add(bent_arrow(heights[rename], heights[last_line], 'bad'))
-    missing = f'missing: nothing makes {last_line} need {rename}, the rename'
-    draw_key(picture, dict.fromkeys(need.rule for need in needs), missing)
+    missing_text = f'missing: nothing makes {last_line} need {rename}, the rename'
+    draw_key(picture, dict.fromkeys(need.rule for need in needs), missing_text)
     return picture.svg_file(STYLE)

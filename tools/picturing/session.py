@@ -60,8 +60,8 @@ class ModelledSession:
             return states.digest(kept_set), states.count_says(kept_set)
 
         numbers = (state.number for group in checked.report.groups() for state in group.states)
-        failing = {tree_and_says(plan.kept[number]) for number in numbers}
-        return {kept_set for kept_set in self.sets if tree_and_says(kept_set) in failing}
+        failing_states = {tree_and_says(plan.kept[number]) for number in numbers}
+        return {kept_set for kept_set in self.sets if tree_and_says(kept_set) in failing_states}
 
     def rows_of_line(self, line: TraceLine) -> List[Row]:
         """The rows of a line: one without a place if the line syncs, else one for each of its
@@ -103,15 +103,16 @@ class ModelledSession:
         between them covers the earlier one; else P9 if the earlier one is an acknowledged line;
         else P2, P7 or P1 if both change one name or directory, one file's rights, or another thing;
         else P3. True of traces of version 3 with the profile `blocks` and no link."""
-        operations = self.reading.operations
         if self.order.synced_sets[later] >> earlier & 1:
             return 'P5'
         if self.operations[earlier].kind == 'say':
             return 'P9'
-        shared = set(changed_marks(operations[earlier])) & set(changed_marks(operations[later]))
-        if not shared:
+        operations = self.reading.operations
+        earlier_marks = set(changed_marks(operations[earlier]))
+        shared_marks = earlier_marks & set(changed_marks(operations[later]))
+        if not shared_marks:
             return 'P3'
-        thing = str(next(iter(shared))[0])
+        thing = str(next(iter(shared_marks))[0])
         return {'entry': 'P2', 'directory': 'P2', 'rights': 'P7'}.get(thing, 'P1')
 
 

@@ -39,8 +39,8 @@ def result_of(line: TraceLine, lost: Set[int]) -> str:
 
 
 def draw_line(picture: Picture, line: TraceLine, result: str) -> None:
-    """Adds a line of the session: its number, what it did, and its result, which is that of
-    result_of(). A lost line has a coloured background."""
+    """Adds a line of the session below what is there: its number, what it did, and its result,
+    which is that of result_of(). A lost line has a coloured background."""
     if result == LOST:
         picture.add(rectangle(1, picture.y + 5, WIDTH - 2, LINE, 'tint'))
     colour = COLOUR_OF[result]
@@ -60,8 +60,8 @@ def lines_of_files(checked: CheckedExample) -> Dict[str, List[str]]:
 
 
 def draw_files(picture: Picture, files: Dict[str, List[str]]) -> None:
-    """Adds the path of each file, in the order of `files`, and below it the file's lines. An empty
-    file has only its path."""
+    """Adds, below what is there, the path of each file, in the order of `files`, and then the lines
+    of the file. An empty file has only its path."""
     for path, lines in files.items():
         picture.add_line(f'{path}:', 'code')
         picture.add_lines(lines, 'code', WORDS)
@@ -81,8 +81,8 @@ def timeline_picture(checked: CheckedExample, first_number: int, verdict: str) -
     of these files. Errors as lost_lines_of_example() and lines_of_files()."""
     group, head = checked.report.groups()[0], checked.report.head
     files, lost = lines_of_files(checked), lost_lines_of_example(checked)
-    shown = [line for number, line in head.lines.items() if number >= first_number]
-    results = {line: result_of(line, lost) for line in shown}
+    shown_lines = [line for number, line in head.lines.items() if number >= first_number]
+    results = {line: result_of(line, lost) for line in shown_lines}
     state = f'State {group.example.number}'
     alternative = f'{state}. {alternative_text(results, files)} {verdict}'
     picture = Picture(f'{state} of {head.trace}', alternative)

@@ -130,12 +130,12 @@ def main(words: Optional[List[str]] = None) -> int:
     returns its status: 1, after a line that says why, if something is missing, fails or is refused.
     The log of the gate is read before anything is built. Waits for the build without limit. A wrong
     word ends the program (SystemExit); IndexError as kit_version()."""
-    values = make_parser().parse_args(words)
+    options = make_parser().parse_args(words)
     try:
-        provenance = read_provenance(values.gate, GIVEN if values.objects else BUILT)
-        if values.objects is None:
+        provenance = read_provenance(options.gate, GIVEN if options.objects else BUILT)
+        if options.objects is None:
             subprocess.run([TOP / 'tools' / 'build'], check=True)
-        write_release(provenance, values.objects or OBJECT_FILE, values.into)
+        write_release(provenance, options.objects or OBJECT_FILE, options.into)
     except (LinkFault, ValueError, OSError, subprocess.CalledProcessError) as fault:
         print(f'release: {fault}', file=sys.stderr)
         return 1

@@ -22,8 +22,8 @@ def kit_folder() -> Path:
     command = shutil.which('rt')
     if command is None:
         raise LinkFault('rt: not found on PATH')
-    ran = subprocess.run([command, 'doc'], stdout=subprocess.PIPE, text=True)
-    page = Path(ran.stdout.strip().splitlines()[0]) if ran.stdout.strip() else None
+    completed = subprocess.run([command, 'doc'], stdout=subprocess.PIPE, text=True)
+    page = Path(completed.stdout.strip().splitlines()[0]) if completed.stdout.strip() else None
     if page is not None and page.is_file():
         return page.parent
     return Path(os.path.realpath(command)).parent.parent
@@ -37,14 +37,14 @@ def link_statically(object_file: Path, program: Path) -> None:
     kit = kit_folder()
     libraries = [str(kit / 'c' / name) for name in ('libos_c.a', 'liblibc_c.a')]
     options = ['-static', '-s', '-Wl,--build-id=none', '-o', str(program)]
-    ran = subprocess.run(
+    completed = subprocess.run(
         ['gcc', *options, str(object_file), *libraries, '-lm', '-lpthread'],
         stdout=subprocess.PIPE,
         stderr=subprocess.STDOUT,
         text=True,
     )
-    if ran.returncode:
-        raise LinkFault(f'gcc: status {ran.returncode}\n{ran.stdout}')
-    for line in ran.stdout.splitlines():
+    if completed.returncode:
+        raise LinkFault(f'gcc: status {completed.returncode}\n{completed.stdout}')
+    for line in completed.stdout.splitlines():
         if KNOWN_WARNING not in line and 'in function' not in line:
             print(line)

@@ -12,8 +12,8 @@ TOP = Path(__file__).resolve().parent.parent.parent
 def output_of(*words: str) -> str:
     """What a command prints on standard output in the top folder of the repository, without blanks
     at its ends. CalledProcessError if it fails, OSError if it isn't installed."""
-    ran = subprocess.run(words, cwd=TOP, stdout=subprocess.PIPE, encoding='utf-8', check=True)
-    return ran.stdout.strip()
+    completed = subprocess.run(words, cwd=TOP, stdout=subprocess.PIPE, encoding='utf-8', check=True)
+    return completed.stdout.strip()
 
 
 def commit_of_tree() -> str:

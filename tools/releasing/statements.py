@@ -112,13 +112,14 @@ def linked_versions(provenance: Provenance, crates_text: str) -> Dict[str, str]:
 def spdx_document(provenance: Provenance, crates_text: str) -> str:
     """The program and the linked_versions() as an SPDX 2.3 document (JSON), by the text of
     crates.txt. The same arguments give the same text."""
-    linked = [
+    packages = [
         spdx_package(name, version)
         for name, version in linked_versions(provenance, crates_text).items()
     ]
     relationships = [spdx_relationship('SPDXRef-DOCUMENT', 'DESCRIBES', 'SPDXRef-crashfs')]
     relationships += [
-        spdx_relationship('SPDXRef-crashfs', 'STATIC_LINK', package['SPDXID']) for package in linked
+        spdx_relationship('SPDXRef-crashfs', 'STATIC_LINK', package['SPDXID'])
+        for package in packages
     ]
     document = {
         'spdxVersion': 'SPDX-2.3',
@@ -127,7 +128,7 @@ def spdx_document(provenance: Provenance, crates_text: str) -> str:
         'name': f'crashfs-{provenance.version}',
         'documentNamespace': f'urn:crashfs:{provenance.version}:{provenance.commit}',
         'creationInfo': {'created': provenance.time, 'creators': ['Tool: tools/release']},
-        'packages': [spdx_package('crashfs', provenance.version), *linked],
+        'packages': [spdx_package('crashfs', provenance.version), *packages],
         'relationships': relationships,
     }
     return json.dumps(document, indent=1) + '\n'

@@ -40,14 +40,14 @@ def parts_with_rt() -> Dict[str, Part]:
     return parts
 
 
-def not_run_without_rt() -> List[str]:
+def not_run_lines_without_rt() -> List[str]:
     """A line, with the reason, that counts the tests of all crates, which aren't run without the
     toolchain. OSError as crates_with_tests()."""
     test_count = sum(crate.test_count for crate in crates_with_tests())
     return [f'the {test_count} tests of the crates: they need `rt`, the command of the toolchain']
 
 
-def not_run_with_rt() -> List[str]:
+def not_run_lines_with_rt() -> List[str]:
     """A line, with the reason, for each of GATE_CRATES: only the gate can run its tests. KeyError
     if such a crate has no tests; OSError as crates_with_tests()."""
     counts = {crate.name: crate.test_count for crate in crates_with_tests()}
@@ -90,7 +90,7 @@ def main() -> int:
     )
     options = parser.parse_args()
     has_rt = shutil.which('rt') is not None
-    not_run = not_run_with_rt() if has_rt else not_run_without_rt()
+    not_run = not_run_lines_with_rt() if has_rt else not_run_lines_without_rt()
     passed = failed = 0
     for outcome in run_all_parts(has_rt=has_rt, count=max(1, options.jobs)):
         print_outcome(outcome)

@@ -24,5 +24,5 @@ class Outcome:
         """The outcome as a line, such as `cs_tar: 3 passed, 24 s`. A count of 0 is shown only of
         passed tests. The lines of not_run aren't counted."""
         counts = [(self.passed, 'passed'), (self.failed, 'FAILED'), (self.skipped, 'skipped')]
-        shown = [f'{count} {word}' for count, word in counts if count or word == 'passed']
-        return f'{self.name}: {", ".join(shown)}, {self.seconds:.0f} s'
+        shown_counts = [f'{count} {word}' for count, word in counts if count or word == 'passed']
+        return f'{self.name}: {", ".join(shown_counts)}, {self.seconds:.0f} s'

@@ -19,7 +19,7 @@ from unittest import mock
 from building import checks, main, order, proving
 from building.checks import Check, killed_text, run_check
 from building.memory import GIGABYTE, available_memory, memory_of_machine
-from building.order import MANY_BELOW, Work, libraries, count_lines
+from building.order import MANY_BELOW, Work, count_crate_lines, libraries
 from building.proving import (
     build_program,
     copy_proved_libraries,
@@ -113,7 +113,7 @@ class Order(unittest.TestCase):
                 file = Path(room) / 'crates' / 'a' / path
                 file.parent.mkdir(parents=True, exist_ok=True)
                 file.write_text('line\n' * lines)
-            self.assertEqual(count_lines('a'), 15)
+            self.assertEqual(count_crate_lines('a'), 15)
 
     def test_the_libraries_are_all_that_the_program_uses(self) -> None:
         below = libraries()
