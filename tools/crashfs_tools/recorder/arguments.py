@@ -120,9 +120,9 @@ def parse_path(word: str) -> Optional[str]:
 
 
 def parse_shown_text(shown: Optional[str]) -> Optional[str]:
-    """What strace shows between `<` and `>` after a descriptor, None if it shows nothing: a path,
-    which it prints in hexadecimal digits, or a text such as `pipe:[7]`, which is returned
-    unchanged. LogError if only a part of a path is in such digits."""
+    """The path that strace shows between `<` and `>` after a descriptor, in hexadecimal digits. Any
+    other text there, such as `pipe:[7]`, is returned unchanged, and so is None, if strace shows
+    nothing. LogError if only a part of a path is in such digits."""
     if not shown or not shown.startswith('\\x'):
         return shown
     return parse_escapes(shown).decode('utf-8', 'surrogateescape')

@@ -39,7 +39,7 @@ class Scan:
 
 
 def user_name(number: int) -> str:
-    """The name of a user, or `u` and the number of one that has none."""
+    """The name of the user with this number, or `u` and the number if the system knows no name."""
     try:
         return pwd.getpwuid(number).pw_name
     except KeyError:
@@ -47,7 +47,8 @@ def user_name(number: int) -> str:
 
 
 def group_name(number: int) -> str:
-    """The name of a group, or `g` and the number of one that has none."""
+    """The name of the group with this number, or `g` and the number if the system knows no
+    name."""
     try:
         return grp.getgrgid(number).gr_name
     except KeyError:

@@ -93,9 +93,9 @@ class LiveFiles:
         add_start_tree(recording, self.tree, scan)
 
     def first_process(self) -> Process:
-        """A new Process for COMMAND's first one: in the directory, with the umask of the start and
-        the output streams that it inherits. Other descriptors that are open at its start aren't
-        known."""
+        """COMMAND's first process as it starts: in the directory, with the umask of the start
+        conditions, and with the output streams that it inherits. Other descriptors that are open at
+        its start aren't known. It isn't added to `processes`."""
         inherited = self.recording.streams.inherited_streams()
         files = {number: OpenFile(None, stream=stream) for number, stream in inherited.items()}
         return Process(Descriptors(files), PathContext(self.conditions.top, self.conditions.umask))
@@ -114,14 +114,15 @@ class LiveFiles:
         return self.conditions.read_outside(self.conditions.top + path)
 
     def resolve_path(self, path: str, *, follow_last_link: bool = False) -> Optional[str]:
-        """The path in the tree, below the directory, to which an absolute path leads. None if it is
-        outside the directory or ignored, or if the path goes through too many symbolic links. A
-        link at its end is followed only if follow_last_link is set."""
+        """The path in the tree, as path_in_tree() returns it, to which an absolute path leads. A
+        symbolic link at the end of the path is followed if follow_last_link is set, or if a slash
+        is after it. None also if the path goes through too many symbolic links."""
         return self.path_in_tree(self.resolver.resolve(path, follow_last_link=follow_last_link))
 
     def path_in_tree(self, full_path: Optional[str]) -> Optional[str]:
-        """The path in the tree, below the directory, of an absolute path without symbolic links.
-        None if that path is outside the directory, ignored, or None. Nothing need be there."""
+        """The path below the directory, beginning with `/`, of an absolute path without symbolic
+        links. None if that path is outside the directory, in a removed directory, ignored, or None.
+        Nothing need be there."""
         below = self.resolver.path_below(full_path)
         return None if below is None or self.is_ignored(below) else below
 

@@ -80,7 +80,7 @@ class LogStream:
 
     def finish(self) -> Log:
         """Waits until no process has the pipe open, without a time limit, and returns the log,
-        which is empty if strace never opened the pipe. start() must have been called before.
+        which is empty if strace never opened the pipe. Must be called after start(), and once.
         LogError if the log isn't strace's, OSError if a mapped file could not be read."""
         assert self.thread is not None
         self.release_reader()
@@ -124,8 +124,8 @@ class LogStream:
 
     def add_line(self, line: str) -> Optional[int]:
         """Adds a line, with its line feed, to the log and to the kept log, and notes the mapping
-        that the line shows, if any. Returns the thread that the line reports as stopped by SIGSTOP;
-        None for any other line."""
+        that the line shows, if any; faults set log_error or keep_fault. Returns the thread that the
+        line reports as stopped by SIGSTOP; None for any other line."""
         self.line_number += 1
         self.keep_line(line)
         self.parse_line(line.rstrip('\n'))
@@ -155,7 +155,7 @@ class LogStream:
         if stop is Stop.RESUMED:
             return
         threads = set(stopped_processes.list_threads(process))
-        threads_of_others = self.collect_stops(thread, threads, lines)
+        threads_of_others = self.add_lines_of_stop(thread, threads, lines)
         is_alone = stop is Stop.ALL_STOPPED and not self.had_running_threads and len(threads) == 1
         self.had_running_threads = stop is Stop.SOME_RUN
         self.add_copy(mapped_files, thread, process, is_alone=is_alone)
@@ -179,7 +179,7 @@ class LogStream:
         except OSError as error:
             self.log_error = self.log_error or error
 
-    def collect_stops(self, thread: int, threads: Set[int], lines: PipeLines) -> List[int]:
+    def add_lines_of_stop(self, thread: int, threads: Set[int], lines: PipeLines) -> List[int]:
         """Adds lines until all threads of a process are reported as stopped, or no line comes for
         SAME_STOP_SECONDS, so that no report is taken for a later stop. `thread`, one of them, is
         reported already. Returns the threads of other processes that are reported meanwhile."""

@@ -41,10 +41,11 @@ LATE_START = 'it begins after an acknowledged line: what was not yet synced then
 
 @dataclass
 class RecordedRun:
-    """A run of COMMAND, or the log of an earlier one. file_copies is None without --mapped; status
-    is COMMAND's, as Popen has it. output_pipe is what strace shows for its standard output, None if
-    that isn't known. unended_processes names those that could not be ended; log_fault says why the
-    log was not kept whole. Both are empty if all is well."""
+    """A run of COMMAND, or the log of an earlier run, of which all else isn't known and has the
+    value of a run without faults. file_copies is None without --mapped; status is COMMAND's, as
+    Popen has it. output_pipe is what strace shows for COMMAND's standard output, None if that isn't
+    known. unended_processes names the processes that could not be ended, and log_fault says why the
+    log was not kept whole: both are empty if all is well."""
 
     log: Log
     file_copies: Optional[FileCopies] = None
@@ -172,8 +173,8 @@ def record(options: RecordOptions) -> int:
 
 
 def trace_settings(options: RecordOptions) -> TraceSettings:
-    """The settings that the options give a trace. say_each and version are None if no option names
-    them."""
+    """The settings that the options give a trace. say_each is None without --say-each, and version
+    unless --trace-version has a number."""
     return TraceSettings(
         acknowledging_descriptors=options.acknowledging_descriptors,
         say_each=SayEach(options.say_each) if options.say_each else None,

@@ -70,7 +70,8 @@ class FileCopy:
         return self.thread == 0
 
     def has_one_writer(self, number: int) -> bool:
-        """Whether only the stopped thread could store to the file with a number."""
+        """Whether only the stopped thread could store to the file with a number. True for the copy
+        at the end, after which no call comes."""
         return self.is_alone and number not in self.shared_numbers
 
 
@@ -97,9 +98,10 @@ def open_first(paths: Iterable[str]) -> Optional[int]:
 
 
 class MappedFiles:
-    """The files below a directory that were mapped, each with a number, from 0, and an open
-    descriptor. numbers has the number of each by its device and inode; newest_bytes has the bytes
-    in the newest copy of each."""
+    """The files below a directory that were mapped, each with a number, from 0, and a descriptor
+    that is open until make_last_copy(). file_copies has what was copied so far. numbers has the
+    number of each file by its device and inode; newest_bytes has, by number, the bytes in the
+    file's newest copy."""
 
     def __init__(self, top: str, is_ignored: IsIgnored) -> None:
         """Opens nothing yet. top is the directory's absolute path, without symbolic links."""

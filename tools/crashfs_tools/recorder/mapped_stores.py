@@ -21,13 +21,13 @@ NOT_ALONE = (
 
 
 def copies_by_call(
-    calls: List[Call], ordered: List[Call], file_copies: FileCopies
+    calls: List[Call], ordered_calls: List[Call], file_copies: FileCopies
 ) -> Dict[int, List[FileCopy]]:
     """The copies of each call, by its id: what they show was stored before the call. A copy's call
-    is that of call_after_stores(). `calls` are in the log's order, `ordered` in the trace's. Copies
-    without files, and the one at the end, have no call."""
+    is that of call_after_stores(). `calls` are in the log's order, ordered_calls in the trace's.
+    Copies without files, and the copy at the end, have no call."""
     ends = [call.end for call in calls]
-    indexes = {id(call): index for index, call in enumerate(ordered)}
+    indexes = {id(call): index for index, call in enumerate(ordered_calls)}
     last_calls: Dict[int, Call] = {}
     call_copies: Dict[int, List[FileCopy]] = {}
     begin = 0
@@ -46,9 +46,10 @@ def copies_by_call(
 def call_after_stores(
     copy: FileCopy, last_call: Call, calls_since_copy: List[Call], indexes: Dict[int, int]
 ) -> Call:
-    """The call before which the stores that a copy shows were made: last_call, the last one of the
-    stopped thread; or, if other threads ran, the first in the trace of the STOPPING_CALLS since the
-    copy before, if there is one. `indexes` has the place of each call in the trace, by its id."""
+    """The call before which the stores that a copy shows were made. It is last_call, the stopped
+    thread's last one. But if other threads ran, it is that of the STOPPING_CALLS since the earlier
+    copy which is first in the trace, if there is any. `indexes` has the place of each call in the
+    trace, by the call's id."""
     stopping_calls = [call for call in calls_since_copy if call.name in STOPPING_CALLS]
     if copy.is_alone or not stopping_calls:
         return last_call

@@ -148,7 +148,8 @@ def add_acknowledgement_options(parser: argparse.ArgumentParser) -> None:
 
 
 def add_trace_options(parser: argparse.ArgumentParser) -> None:
-    """Adds to a parser the options that say what the trace has, apart from its operations."""
+    """Adds to a parser the options that say how the trace is written: its notes, where it begins,
+    its model of the disk, and its version."""
     parser.add_argument(
         '--stacks',
         action='store_true',

@@ -37,7 +37,8 @@ class OutputStream:
     the recording had at the newest of them. text_count counts the texts that were completed, and
     write_count the writes that completed some. gap_count is how often changes came between two
     pieces of the newest line, and most_gaps the largest such number of any line. is_held means that
-    changes came after the beginning of the last line, which has no line feed."""
+    changes came after the beginning of the last line, which has no line feed; it is set at the end
+    of the session."""
 
     name: str
     is_acknowledged: bool
@@ -66,8 +67,8 @@ class OutputStream:
 
     def complete_lines(self, data: bytes, change_count: int) -> List[bytes]:
         """The lines that a write completes, without line feeds and carriage returns at their ends;
-        what is after the last line feed waits in `pieces`. Counts the gaps of a line in pieces, by
-        change_count as in complete_texts()."""
+        what is after the last line feed waits in `pieces`. If files were changed since the newest
+        of the pieces, by change_count, gap_count and most_gaps count that."""
         if not self.pieces:
             self.gap_count = 0
         elif change_count != self.last_change_count:
@@ -104,9 +105,9 @@ class OutputStreams:
     inherited_streams() makes are there by the descriptor's number.
 
     acknowledging_descriptors has the values of --say-fd: numbers, or SOCKETS. say_each is what
-    counts as an acknowledgement; None is lines, but writes for connections over which no line feed
-    is sent. line_connections has the connections over which one is sent, as strace shows them.
-    """
+    counts as an acknowledgement; None means lines, but writes for a connection that isn't among
+    line_connections. These are the connections over which a line feed is sent, as strace shows
+    them; they must be set before add_connection() is called."""
 
     acknowledging_descriptors: Sequence[str] = DEFAULT_DESCRIPTORS
     say_each: Optional[SayEach] = None
@@ -125,8 +126,8 @@ class OutputStreams:
         return OutputStream(name, is_acknowledged, self.say_each or SayEach.LINE)
 
     def is_named_by_option(self, number: int) -> bool:
-        """Whether --say-fd names the descriptor with this number, and it is above 2: False for
-        standard input, output and error."""
+        """Whether --say-fd names the descriptor with this number, and it is above 2: the standard
+        streams are there without being named."""
         return number > 2 and str(number) in self.acknowledging_descriptors
 
     def inherited_streams(self) -> Dict[int, OutputStream]:
@@ -159,8 +160,8 @@ class OutputStreams:
 
     def find_stream(self, number: int, text: Optional[str]) -> Optional[OutputStream]:
         """The stream of a descriptor, by its number and the text that strace shows for it, None if
-        nothing. A stream that isn't known is made if --say-fd names the descriptor. None for any
-        other, and if strace shows nothing. Two descriptors of a device may be two streams."""
+        nothing. A stream that isn't known is made if is_named_by_option(). None for any other, and
+        if strace shows nothing. Two descriptors of a device may be two streams."""
         if text is None:
             return None
         known = self.streams_by_text.get(text)
@@ -179,18 +180,17 @@ def connections_with_lines(calls: Iterable[Call]) -> FrozenSet[str]:
     """The connections, as strace shows them, over which a line feed was sent after they were
     accepted; the calls are in the log's order. A call whose bytes the log lacks doesn't count.
     LogError as in sent_bytes()."""
-    accepted: Set[str] = set()
-    with_lines: Set[str] = set()
+    accepted_connections: Set[str] = set()
+    line_connections: Set[str] = set()
     for call in calls:
         if call.name in ACCEPTS and call.result_descriptor.text is not None:
-            accepted.add(call.result_descriptor.text)
+            accepted_connections.add(call.result_descriptor.text)
         elif call.name in WRITES or call.name in SENDS:
             text = call.descriptor().text
-            if text not in accepted or text in with_lines:
-                continue
-            if b'\n' in (sent_bytes(call) or b''):
-                with_lines.add(text)
-    return frozenset(with_lines)
+            if text in accepted_connections and text not in line_connections:
+                if b'\n' in (sent_bytes(call) or b''):
+                    line_connections.add(text)
+    return frozenset(line_connections)
 
 
 def sent_bytes(call: Call) -> Optional[bytes]:
