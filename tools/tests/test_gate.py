@@ -2,20 +2,16 @@
 
 from __future__ import annotations
 
-import io
 import os
 import re
 import shutil
 import subprocess
 import sys
 import unittest
-from pathlib import Path
 from typing import Dict, List
-from unittest import mock
 
 from gating import turns
-from gating.modules import ModuleResult, run_module
-from gating.suite import QUICK, count_at_once, has_passed, run_modules, summary_line
+from gating.suite import QUICK
 from gating.verdict import COUNTS, counts_of_passed_gate, parse_verdict
 
 from .support import PATIENCE, TOOLS, InFolder, needed
@@ -86,56 +82,6 @@ class QuickTests(unittest.TestCase):
     def test_each_quick_module_is_there(self) -> None:
         there = {path.stem for path in (TOOLS / 'tests').glob('test_*.py')}
         self.assertEqual({f'test_{name}' for name in QUICK} - there, set())
-
-
-class SuiteTests(InFolder):
-    def test_a_module_that_fails_beside_others_is_run_again_alone(self) -> None:
-        asked: List[str] = []
-
-        def run_once(name: str) -> ModuleResult:
-            asked.append(name)
-            is_first = asked.count(name) == 1
-            failed = {'slow': is_first, 'wrong': True}.get(name, False)
-            return ModuleResult(name, run=1, failed=int(failed), output=f'{name}\n')
-
-        with mock.patch('gating.suite.run_module', run_once):
-            with mock.patch('sys.stderr', io.StringIO()) as printed:
-                results = run_modules(['right', 'slow', 'wrong'], 2)
-        self.assertEqual(sorted(asked[:3]) + asked[3:], ['right', 'slow', 'wrong', 'slow', 'wrong'])
-        failed = {result.name: result.failed for result in results}
-        self.assertEqual(failed, {'right': 0, 'slow': 0, 'wrong': 1})
-        self.assertFalse(has_passed(results, needs_program=False))
-        again = 'slow failed beside others: again, alone\nslow\n'
-        self.assertEqual(printed.getvalue()[: 17 + len(again)], f'right\nslow\nwrong\n{again}')
-
-    def test_a_module_that_fails_alone_is_not_run_again(self) -> None:
-        wrong = ModuleResult('wrong', run=1, failed=1)
-        with mock.patch('gating.suite.run_module', return_value=wrong) as run:
-            self.assertEqual(run_modules(['wrong'], 1), [wrong])
-        run.assert_called_once_with('wrong')
-        self.assertEqual([count_at_once(count) for count in (1, 2, 4, 8)], [1, 1, 3, 6])
-
-    def test_the_line_counts_all_modules(self) -> None:
-        results = [ModuleResult('a', 3, 1, ['x', 'no crashfs']), ModuleResult('b', 2, 0, ['x'])]
-        line = '5 run, 1 failed, 3 skipped (2: x; 1: no crashfs)'
-        self.assertEqual(summary_line(results, needs_program=False), line)
-        self.assertFalse(has_passed(results[1:] + results[:1], needs_program=False))
-        self.assertTrue(has_passed(results[1:], needs_program=True))
-        self.assertFalse(has_passed([ModuleResult('c', 1, 0, ['no crashfs'])], needs_program=True))
-        self.assertFalse(has_passed([ModuleResult('none')], needs_program=False))
-
-    def test_a_module_is_run_and_one_that_is_not_there_fails(self) -> None:
-        result = run_module('tests.test_order')
-        self.assertEqual((result.failed, result.skips), (0, []))
-        self.assertGreater(result.run, 0)
-        self.assertIn(f'Ran {result.run} test', result.output)
-        self.assertEqual(run_module('tests.test_that_is_not_there').failed, 1)
-
-    def test_a_process_that_ends_without_a_result_fails(self) -> None:
-        self.write('python', '#!/bin/sh\necho "ends early"\nexit 0\n', 0o755)
-        with mock.patch('sys.executable', self.path('python')):
-            result = run_module('tests.test_order')
-        self.assertEqual((result.run, result.failed, result.output), (0, 1, 'ends early\n'))
 
 
 class Gate(InFolder):
@@ -290,51 +236,6 @@ class Gate(InFolder):
         self.write('repo/tools/more.py', '')
         lines = self.assert_verdict(0, '9 passed, 0 failed')
         self.assertIn('tree: differs from the commit', lines)
-
-
-class Turns(InFolder):
-    def write_crate(self, name: str, lines: int, edits: int) -> None:
-        os.makedirs(self.path(f'crates/{name}/src'))
-        self.write(f'crates/{name}/src/lib.rt', '//\n' * lines)
-        if edits:
-            os.makedirs(self.path(f'crates/{name}/must-fail'))
-        for number in range(edits):
-            self.write(f'crates/{name}/must-fail/{number}.edit', '')
-
-    def test_each_crate_is_in_one_group_and_the_groups_cost_about_the_same(self) -> None:
-        costs = {f'c{number}': 10 * number for number in range(40)}
-        groups = turns.group_crates(costs)
-        self.assertEqual(len(groups), turns.GROUPS)
-        self.assertEqual(sorted(name for group in groups for name in group), sorted(costs))
-        sums = [sum(costs[name] for name in group) for group in groups]
-        self.assertLessEqual(max(sums) - min(sums), 20)
-
-    def test_every_group_has_commits(self) -> None:
-        numbers = {turns.group_in_turn(f'{number:040x}') for number in range(100)}
-        self.assertEqual(numbers, set(range(turns.GROUPS)))
-        with self.assertRaises(ValueError):
-            turns.group_in_turn('main')
-
-    def test_a_crate_costs_its_lines_and_its_edits(self) -> None:
-        self.write_crate('large', 500, 0)
-        self.write_crate('tried', 7, 3)
-        crates = Path(self.path('crates'))
-        self.assertEqual(turns.edits_cost(crates / 'large'), 500)
-        self.assertEqual(turns.edits_cost(crates / 'tried'), 7 + 3 * turns.LINES_PER_EDIT)
-
-    def test_the_edits_of_the_other_group_are_away_until_they_are_moved_back(self) -> None:
-        for name, edits in (('one', 2), ('two', 2), ('three', 2), ('none', 0)):
-            self.write_crate(name, 10, edits)
-        crates, aside = Path(self.path('crates')), Path(self.path('aside'))
-        whole = sorted(crates.rglob('*'))
-        for commit, there in (('f', 'one'), ('10', 'three'), ('11', 'two')):
-            line = turns.move_others_aside(commit, aside, crates)
-            self.assertEqual(line, 'edits: 2 of 6, those of 1 of 3 crates')
-            self.assertEqual({path.parent.name for path in crates.glob('*/must-fail')}, {there})
-            turns.move_back(aside, crates)
-            self.assertEqual(sorted(crates.rglob('*')), whole)
-            shutil.rmtree(aside)
-        turns.move_back(aside, crates)
 
 
 class Verdicts(unittest.TestCase):

@@ -1,0 +1,67 @@
+"""How the gate runs the tools' tests: modules at once, once more if they fail, and counts."""
+
+from __future__ import annotations
+
+import io
+import unittest
+from typing import List
+from unittest import mock
+
+from gating.modules import ModuleResult, run_module
+from gating.suite import count_at_once, has_passed, run_modules, summary_line
+
+from .support import InFolder
+
+
+class SuiteTests(InFolder):
+    def test_a_module_that_fails_beside_others_is_run_again_alone(self) -> None:
+        asked: List[str] = []
+
+        def run_once(name: str) -> ModuleResult:
+            asked.append(name)
+            is_first = asked.count(name) == 1
+            failed = {'slow': is_first, 'wrong': True}.get(name, False)
+            return ModuleResult(name, run=1, failed=int(failed), output=f'{name}\n')
+
+        with mock.patch('gating.suite.run_module', run_once):
+            with mock.patch('sys.stderr', io.StringIO()) as printed:
+                results = run_modules(['right', 'slow', 'wrong'], 2)
+        self.assertEqual(sorted(asked[:3]) + asked[3:], ['right', 'slow', 'wrong', 'slow', 'wrong'])
+        failed = {result.name: result.failed for result in results}
+        self.assertEqual(failed, {'right': 0, 'slow': 0, 'wrong': 1})
+        self.assertFalse(has_passed(results, needs_program=False))
+        again = 'slow failed beside others: again, alone\nslow\n'
+        self.assertEqual(printed.getvalue()[: 17 + len(again)], f'right\nslow\nwrong\n{again}')
+
+    def test_a_module_that_fails_alone_is_not_run_again(self) -> None:
+        wrong = ModuleResult('wrong', run=1, failed=1)
+        with mock.patch('gating.suite.run_module', return_value=wrong) as run:
+            self.assertEqual(run_modules(['wrong'], 1), [wrong])
+        run.assert_called_once_with('wrong')
+        self.assertEqual([count_at_once(count) for count in (1, 2, 4, 8)], [1, 1, 3, 6])
+
+    def test_the_line_counts_all_modules(self) -> None:
+        results = [ModuleResult('a', 3, 1, ['x', 'no crashfs']), ModuleResult('b', 2, 0, ['x'])]
+        line = '5 run, 1 failed, 3 skipped (2: x; 1: no crashfs)'
+        self.assertEqual(summary_line(results, needs_program=False), line)
+        self.assertFalse(has_passed(results[1:] + results[:1], needs_program=False))
+        self.assertTrue(has_passed(results[1:], needs_program=True))
+        self.assertFalse(has_passed([ModuleResult('c', 1, 0, ['no crashfs'])], needs_program=True))
+        self.assertFalse(has_passed([ModuleResult('none')], needs_program=False))
+
+    def test_a_module_is_run_and_one_that_is_not_there_fails(self) -> None:
+        result = run_module('tests.test_order')
+        self.assertEqual((result.failed, result.skips), (0, []))
+        self.assertGreater(result.run, 0)
+        self.assertIn(f'Ran {result.run} test', result.output)
+        self.assertEqual(run_module('tests.test_that_is_not_there').failed, 1)
+
+    def test_a_process_that_ends_without_a_result_fails(self) -> None:
+        self.write('python', '#!/bin/sh\necho "ends early"\nexit 0\n', 0o755)
+        with mock.patch('sys.executable', self.path('python')):
+            result = run_module('tests.test_order')
+        self.assertEqual((result.run, result.failed, result.output), (0, 1, 'ends early\n'))
+
+
+if __name__ == '__main__':
+    unittest.main()
