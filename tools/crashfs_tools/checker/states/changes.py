@@ -31,8 +31,8 @@ class Changes(NamedTuple):
 def read_changes(members: Iterator[Member]) -> Iterator[Changes]:
     """Yields the changes of each state, in the order of the archive, once the next state begins or
     the archive ends. A state begins with its list of missing paths: a file NUMBER.missing with a
-    NUL after each path. Its entries follow. ArchiveFault if an entry comes before its list, if a
-    NUMBER is no number, or as `members` raises it."""
+    NUL after each path. The state's entries follow. ArchiveFault if an entry comes before its
+    state's list, if a NUMBER is no number, or as `members` raises it."""
     changes: Optional[Changes] = None
     for member_path, entry in members:
         first_name, _, path = member_path.partition('/')

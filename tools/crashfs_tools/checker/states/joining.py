@@ -8,18 +8,19 @@ from .plan import Plan, State
 
 
 def joined_states(trace_path: str, plan: Plan) -> List[State]:
-    """The listed states of a plan, each with `same` as the first state in any part with an equal
-    tree. The second reading of the trace at trace_path compares the trees: ReadingFault if it
-    refuses the trace, OSError if the file can't be read. The plan stays as it is."""
+    """The listed states of a plan, each with its `same` set to the first state of all parts that
+    has an equal tree; before, it must be right within each part. The second reading of the trace at
+    trace_path compares the trees: ReadingFault if it refuses the trace, OSError if the file can't
+    be read. The plan stays as it is."""
     from crashfs_tools.reading import parse_trace
     from crashfs_tools.reading.states import Digest, States
 
     with open(trace_path, 'rb') as file:
         trees = States(parse_trace(file.read()))
-    first_numbers: Dict[Digest, int] = {}
-    first_equal_numbers: Dict[int, int] = {}
+    number_by_digest: Dict[Digest, int] = {}
+    first_number: Dict[int, int] = {}
     for state in plan.listed:
         if state.same == state.number:
             digest = trees.digest(plan.kept[state.number])
-            first_equal_numbers[state.number] = first_numbers.setdefault(digest, state.number)
-    return [state._replace(same=first_equal_numbers[state.same]) for state in plan.listed]
+            first_number[state.number] = number_by_digest.setdefault(digest, state.number)
+    return [state._replace(same=first_number[state.same]) for state in plan.listed]

@@ -19,7 +19,15 @@ from crashfs_tools.common.file_bytes import read_file_bytes
 from crashfs_tools.common.mount_table import MountTable
 from crashfs_tools.common.removal import FOLDER, TRASH_ENDING, remove_tree, set_folder_mode
 
-from .layout import FILLED_MODE, NEW_FILE, make_links, unused_path, write_all
+from .layout import (
+    FILLED_MODE,
+    NEW_FILE,
+    make_links,
+    open_to_fill,
+    set_modes,
+    unused_path,
+    write_all,
+)
 from .rewriting import Bytes, rewrite
 
 # File systems that change a file's times with the first store through a new mapping.
@@ -58,7 +66,8 @@ class KeptTree:
     if an earlier one couldn't be removed."""
 
     def __init__(self, directory: str) -> None:
-        """Makes nothing yet. The first change_to() removes what is at the directory's path."""
+        """Makes nothing yet. The first change_to() removes what is at the directory's path. OSError
+        as MountTable()."""
         self.directory = directory
         self.mounts = MountTable()
         # Whether the directory has the last tree, but for what COMMAND changed.
@@ -78,15 +87,21 @@ class KeptTree:
 
     def change_to(self, tree: Mapping[str, Entry]) -> None:
         """Gives the directory a tree, whose paths are relative, the root's empty: by changes or, if
-        something can't be changed, from scratch in a new directory, after which it sleeps
-        TICK_SECONDS. OSError if that can't be made or filled; the next call begins from scratch
-        then."""
+        there is no directory yet or something in it can't be changed, from scratch. Errors as in
+        make_again()."""
         if self.is_whole:
             try:
                 self.change(tree)
                 return
             except (OSError, Unchangeable):
                 pass
+        self.make_again(tree)
+
+    def make_again(self, tree: Mapping[str, Entry]) -> None:
+        """Removes the directory, makes it again, and fills it with a tree; then sleeps
+        TICK_SECONDS, so that the new files are older than COMMAND. OSError if the directory can't
+        be removed, made or filled; if it can't be made or filled, the next change_to() begins from
+        scratch."""
         self.remove()
         os.mkdir(self.directory, FILLED_MODE)
         self.has_times = file_system_type(self.directory) in WITH_TIMES
@@ -96,7 +111,6 @@ class KeptTree:
         self.owners = {(status.st_uid, status.st_gid), (os.geteuid(), os.getegid())}
         self.change(tree)
         self.is_whole = True
-        # Files that are as old as COMMAND count as changed by it.
         time.sleep(TICK_SECONDS)
 
     def note_start(self) -> None:
@@ -105,8 +119,8 @@ class KeptTree:
         self.command_start = time.clock_gettime_ns(REALTIME_COARSE)
 
     def remove(self) -> None:
-        """Removes the directory. If some of it can't be removed, the next tree gets a directory
-        with another path. OSError as remove_tree()."""
+        """Removes the directory, if it is there. If something in it can't be removed, the next tree
+        gets a directory with another path. OSError as remove_tree()."""
         if not remove_tree(self.directory):
             self.directory = unused_path(self.directory)
         self.is_whole, self.files = False, {}
@@ -118,30 +132,28 @@ class KeptTree:
         if self.mounts.points_below(self.directory):
             raise Unchangeable
         self.remaining_paths, self.modes = {''}, {}
-        old_umask = os.umask(0)
-        try:
-            self.open_up('', self.directory, None, os.lstat(self.directory))
-            root = os.open(self.directory, FOLDER)
-            try:
-                self.clear(root, '', tree)
-                self.files = {
-                    path: self.files[path] for path in self.remaining_paths if path in self.files
-                }
-                for path, entry in tree.items():
-                    if path not in self.remaining_paths:
-                        self.make_entry(root, path, entry)
-                # Until now no symbolic link is there: nothing was made or changed through one.
-                make_links(symbolic_links(tree), root)
-                self.set_modes(root, tree)
-            finally:
-                os.close(root)
-        finally:
-            os.umask(old_umask)
+        self.open_up('', self.directory, None, os.lstat(self.directory))
+        with open_to_fill(self.directory) as root:
+            self.clear(root, '', tree)
+            self.fill(root, tree)
+
+    def fill(self, root: int, tree: Mapping[str, Entry]) -> None:
+        """Makes what of the tree isn't in remaining_paths, below the open directory `root`: files
+        and directories, then symbolic links. Then sets the modes of directories that have another
+        one than in the tree. After an OSError the rest isn't made."""
+        self.files = {path: self.files[path] for path in self.remaining_paths if path in self.files}
+        for path, entry in tree.items():
+            if path not in self.remaining_paths:
+                self.make_entry(root, path, entry)
+        # Until now no symbolic link is there: nothing was made or changed through one.
+        make_links(symbolic_links(tree), root)
+        wanted_modes = ((path, tree[path].mode) for path in self.modes)
+        set_modes([(path, mode) for path, mode in wanted_modes if mode != self.modes[path]], root)
 
     def clear(self, folder: int, path: str, tree: Mapping[str, Entry]) -> None:
-        """Removes below a path, whose directory is open as `folder`, what the tree doesn't have or
-        must have made again, and all symbolic links. A large file may get its new bytes in place.
-        What stays is added to remaining_paths. Unchangeable if a directory can't be removed, or
+        """Removes from a directory, which is open as `folder` and at `path` in the tree, all that
+        the tree doesn't have or must have made again, and all symbolic links, at any depth. Adds
+        the paths of what stays to remaining_paths. Unchangeable if a directory can't be removed, or
         hasn't the owner and attributes of a new one; OSError if anything else can't be removed or
         changed."""
         if attribute_names(folder) != self.attributes:
@@ -153,10 +165,7 @@ class KeptTree:
             wanted_entry = tree.get(entry_path)
             status = entry.stat(follow_symlinks=False)
             if not stat.S_ISDIR(status.st_mode):
-                if wanted_entry is not None and (
-                    self.has_file(folder, entry_path, wanted_entry, status)
-                    or self.change_bytes(folder, entry_path, wanted_entry, status)
-                ):
+                if self.keep_file(folder, entry_path, wanted_entry, status):
                     self.remaining_paths.add(entry_path)
                 else:
                     os.unlink(entry.name, dir_fd=folder)
@@ -193,10 +202,22 @@ class KeptTree:
             mode = FILLED_MODE
         self.modes[path] = mode
 
+    def keep_file(
+        self, folder: int, path: str, wanted_entry: Optional[Entry], status: os.stat_result
+    ) -> bool:
+        """Returns whether what is at a path, which is no directory, can stay: it is as it is
+        wanted, or change_bytes() gave it the wanted bytes. wanted_entry is None if the tree lacks
+        the path. OSError as has_file() and change_bytes()."""
+        if wanted_entry is None:
+            return False
+        return self.has_file(folder, path, wanted_entry, status) or self.change_bytes(
+            folder, path, wanted_entry, status
+        )
+
     def has_file(self, folder: int, path: str, wanted_entry: Entry, status: os.stat_result) -> bool:
-        """Whether the file at a path still is as it was written, and is as it is wanted. `folder`
-        is its open directory, `status` its own, by lstat. Its bytes are read only if the file
-        system's times don't show each store; OSError if they can't be read."""
+        """Whether the file at a path still is as it was written, and as it is wanted. `folder` is
+        its open directory, `status` that of the file itself, by lstat. The bytes are read only if
+        the file system's times don't show each store; OSError if they can't be read."""
         laid_file = self.files.get(path)
         if (
             laid_file is None
@@ -216,10 +237,11 @@ class KeptTree:
     def change_bytes(
         self, folder: int, path: str, wanted_entry: Entry, status: os.stat_result
     ) -> bool:
-        """Gives a large file its wanted bytes in place; `folder` is its open directory. Returns
-        False, and changes nothing, if the file must be made again: COMMAND replaced it or changed
-        more than its bytes, its mode must change, it is small or can't be opened, or the file
-        system's times don't show each store. After an OSError it may have some of the bytes."""
+        """Gives a large file its wanted bytes in place, and returns True; `folder` is its open
+        directory. Returns False, and changes nothing, if the file must be made again: COMMAND
+        replaced it or changed more than its bytes, its mode must change, it is small or can't be
+        opened, or the file system's times don't show each store. After an OSError it may have some
+        of the bytes."""
         laid_file = self.files.get(path)
         if (
             not self.has_times
@@ -251,8 +273,8 @@ class KeptTree:
 
     def make_entry(self, root: int, path: str, entry: Entry) -> None:
         """Makes the file or directory of a path below the open directory `root`, and notes it in
-        `files` or `modes`. Nothing is made for a symbolic link. FileExistsError if something is
-        there."""
+        `files` or `modes`. Nothing is made for a symbolic link. FileExistsError if something is at
+        the path; after another OSError a file may have a part of its bytes."""
         if entry.data is None:
             if entry.is_directory:
                 os.mkdir(path, FILLED_MODE, dir_fd=root)
@@ -265,13 +287,6 @@ class KeptTree:
             self.files[path] = LaidFile(entry, signature_of(os.fstat(file)), attributes)
         finally:
             os.close(file)
-
-    def set_modes(self, root: int, tree: Mapping[str, Entry]) -> None:
-        """Sets the mode of each directory in `modes` to that of the tree, if it differs: inner ones
-        before outer ones, since a mode may forbid changes below. OSError if it can't be set."""
-        changed_paths = [path for path, mode in self.modes.items() if tree[path].mode != mode]
-        for path in sorted(changed_paths, reverse=True):
-            set_folder_mode(path or '.', tree[path].mode, root)
 
 
 def symbolic_links(tree: Mapping[str, Entry]) -> Iterator[Tuple[str, str]]:
@@ -322,8 +337,8 @@ def attribute_names(file: Union[str, int]) -> List[str]:
 
 
 def file_system_type(path: str) -> str:
-    """The type of the file system that has a path, as mountinfo names it; an empty text if that
-    names none or can't be read. OSError if nothing is at the path."""
+    """The type of the file system that a path is in, as mountinfo names it; an empty text if
+    mountinfo doesn't have that file system, or can't be read. OSError if nothing is at the path."""
     device = os.stat(path).st_dev
     device_text = f'{os.major(device)}:{os.minor(device)}'
     try:

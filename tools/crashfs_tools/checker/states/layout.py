@@ -6,7 +6,7 @@ from __future__ import annotations
 import os
 from abc import ABC, abstractmethod
 from contextlib import contextmanager
-from itertools import groupby
+from itertools import chain, groupby
 from typing import (
     Callable,
     ContextManager,
@@ -26,7 +26,7 @@ from crashfs_tools.common.removal import FOLDER, remove_tree, set_folder_mode
 from crashfs_tools.common.program import Crashfs, ProgramFault, first_name_of_path
 from crashfs_tools.common.sparse import SparseBytes
 
-from .plan import Plan, PlannedTrace
+from .plan import Plan, PlannedTrace, Request
 from .rewriting import PIECE_BYTES, Bytes, has_bytes, write_at
 
 NEW_FILE = os.O_WRONLY | os.O_CREAT | os.O_EXCL | os.O_NOFOLLOW | os.O_CLOEXEC
@@ -35,8 +35,8 @@ FILLED_MODE = 0o700
 # Of more trees, or more bytes of files, each process reads an archive of its own at the same time.
 MOST_TREES, MOST_BYTES = 256, 1 << 24
 
-# What is made of a tree while it is read.
-Taken = TypeVar('Taken')
+# What a program's tree is made into while it is read.
+Value = TypeVar('Value')
 # The trees by the first state that has each; a path is below the state's directory.
 TreesByState = Dict[int, List[Member]]
 
@@ -47,18 +47,19 @@ class Layout(ABC):
     @abstractmethod
     def states(self, wanted: Set[int]) -> Iterator[Tuple[int, str]]:
         """Yields each wanted state with the path of its directory, in ascending order. Within
-        laid_out() the directory has the tree. If the program lacks a state: a ProgramFault here, or
-        a Refused there."""
+        laid_out() the directory has the tree. If the program or the server lacks a state, this
+        raises a ProgramFault, or laid_out() a Refused."""
 
     @abstractmethod
     def laid_out(self, number: int, directory: str) -> ContextManager[None]:
-        """Within this the directory of the state that states() yielded last has its tree;
-        afterwards it may be gone. Several processes may lay out states at once."""
+        """Within this the directory of the state that states() yielded last has the state's tree;
+        afterwards the directory may be gone. Both arguments must be what states() yielded. Several
+        processes may lay out states at once."""
 
 
 class Archive(Layout):
-    """Lays states out below a folder, each as a directory that has its number. kept has all trees
-    of the plan, if they are kept in memory."""
+    """Lays states out below a folder, each as a directory whose name is the state's number. kept
+    has all trees of the plan; it is None if they aren't kept in memory."""
 
     def __init__(
         self,
@@ -68,8 +69,8 @@ class Archive(Layout):
         environment: Dict[str, str],
         kept: Optional[TreesByState] = None,
     ) -> None:
-        """The folder must be there. The environment is that of the program. Nothing is made or
-        started yet."""
+        """The folder must exist. The environment is that of the program. Nothing is made or started
+        yet."""
         self.program = program
         self.planned = planned
         self.folder = folder
@@ -78,17 +79,17 @@ class Archive(Layout):
 
     @contextmanager
     def laid_out(self, number: int, directory: str) -> Iterator[None]:
-        """The directory has its tree before and within the `with`. Afterwards it is removed,
-        through another directory in the folder, which stays, with what can't be removed. After an
-        exception it isn't removed. OSError as remove_tree()."""
+        """The directory has its tree before and within the `with`; afterwards it is removed. What
+        can't be removed is left in another directory of the folder, which stays. After an exception
+        within, the directory isn't removed. OSError as remove_tree()."""
         yield
-        # One for all states of this process: to make and remove a directory is slow on some disks.
+        # All states of this process have one trash: on some disks it is slow to make and remove it.
         remove_tree(directory, trash=os.path.join(self.folder, f'removed-{os.getpid()}'))
 
     def states(self, wanted: Set[int]) -> Iterator[Tuple[int, str]]:
-        """Yields directories that have their trees already, each made when it is asked for: OSError
-        if it can't be, and what was made of it stays. ProgramFault, after the others, if the
-        program lacks a state."""
+        """Yields directories that have their trees already, each made when it is asked for. OSError
+        if a directory can't be made or filled: a part of it stays. ProgramFault if the program
+        fails and, after the other states, if it lacks one."""
         if self.kept is None:
             yield from read_trees(
                 self.program, self.planned, wanted, self.environment, self.make_directory
@@ -99,8 +100,8 @@ class Archive(Layout):
             yield number, self.make_directory(number, tree)
 
     def make_directory(self, number: int, tree: Iterable[Member]) -> str:
-        """Makes the directory of a state, with its tree, and returns its path: its name is the
-        state's number, or as unused_path() says."""
+        """Makes the directory of a state, with its tree, and returns the directory's path, which
+        ends in the state's number, or as unused_path() says. Errors as in lay_out()."""
         directory = unused_path(os.path.join(self.folder, str(number)))
         lay_out(directory, tree)
         return directory
@@ -111,21 +112,47 @@ def read_trees(
     planned: PlannedTrace,
     wanted: Set[int],
     environment: Dict[str, str],
-    use_tree: Callable[[int, Iterable[Member]], Taken],
-) -> Iterator[Tuple[int, Taken]]:
+    use_tree: Callable[[int, Iterable[Member]], Value],
+) -> Iterator[Tuple[int, Value]]:
     """Yields each wanted state of a plan, ascending, with what use_tree() returns for its number
     and tree. use_tree() must read the tree to its end; paths are relative, the root's is empty.
-    ProgramFault for an entry that is in no state, and at the end of an archive if the program
-    failed or lacks a state. The program is killed if the caller or use_tree() stops early."""
+    ProgramFault if an entry is in no state, if the program fails and, at the end, if a state is
+    missing. The program is killed if the caller or use_tree() stops early."""
+    values_of_requests = (
+        read_trees_of_request(program, request, wanted, environment, use_tree)
+        for request in planned.requests(wanted)
+    )
+    return with_all_wanted(wanted, chain.from_iterable(values_of_requests))
+
+
+def read_trees_of_request(
+    program: Crashfs,
+    request: Request,
+    wanted: Set[int],
+    environment: Dict[str, str],
+    use_tree: Callable[[int, Iterable[Member]], Value],
+) -> Iterator[Tuple[int, Value]]:
+    """Yields the wanted states that the program gives for one request, as read_trees() does, but
+    doesn't notice missing ones. Other states, and a state that comes again, are skipped."""
+    unread_numbers = set(wanted)
+    with program.open_archive(request.options, environment) as members:
+        for top, tree in groupby(members, first_name_of_path):
+            number = parse_state_number(top) + request.number_offset
+            if number in unread_numbers:
+                unread_numbers.remove(number)
+                members_below = ((path[len(top) + 1 :], entry) for path, entry in tree)
+                yield number, use_tree(number, members_below)
+
+
+def with_all_wanted(
+    wanted: Set[int], values: Iterator[Tuple[int, Value]]
+) -> Iterator[Tuple[int, Value]]:
+    """Yields these values, which a program gave, each with the number of its state. ProgramFault at
+    the end if a wanted state isn't among them."""
     missing_numbers = set(wanted)
-    for request in planned.requests(wanted):
-        with program.open_archive(request.options, environment) as members:
-            for top, tree in groupby(members, first_name_of_path):
-                number = parse_state_number(top) + request.number_offset
-                if number in missing_numbers:
-                    missing_numbers.remove(number)
-                    members_below = ((path[len(top) + 1 :], entry) for path, entry in tree)
-                    yield number, use_tree(number, members_below)
+    for number, value in values:
+        missing_numbers.discard(number)
+        yield number, value
     if missing_numbers:
         raise ProgramFault(0, f'crashfs tar wrote no state {min(missing_numbers)}'.encode())
 
@@ -150,43 +177,59 @@ def trees_of_small_plan(
     )
     for number, tree in numbered_trees:
         trees[number] = tree
-        byte_count += sum(len(entry.data or b'') for _, entry in trees[number])
+        byte_count += sum(len(entry.data or b'') for _, entry in tree)
         if byte_count > MOST_BYTES:
             return None
     return trees
 
 
 def unused_path(path: str) -> str:
-    """The path itself, or with as many `+` at its end as are needed for a path at which nothing is:
-    COMMAND may leave something that can't be removed."""
+    """The path itself if nothing is there, else the path with as many `+` at its end as it needs
+    for that: COMMAND may leave something that can't be removed."""
     return unused_path(f'{path}+') if os.path.lexists(path) else path
 
 
 def lay_out(directory: str, tree: Iterable[Member]) -> None:
     """Makes a directory with a tree: paths are relative, the root's is empty, and a directory comes
     before what is in it. Symbolic links are made after all else, so that nothing is made through
-    one. Directories get their modes last, since a mode may forbid changes below. The umask is 0
-    meanwhile. After an OSError, or an error of `tree`, what was made stays."""
+    one. The umask is 0 meanwhile. After an OSError, or an error of `tree`, what was made stays, and
+    directories may have FILLED_MODE."""
     os.mkdir(directory, FILLED_MODE)
+    modes: List[Tuple[str, int]] = []
+    links: List[Tuple[str, str]] = []
+    with open_to_fill(directory) as root:
+        for path, entry in tree:
+            if entry.link is not None:
+                links.append((path, entry.link))
+            elif entry.is_directory:
+                modes.append((path, entry.mode))
+            make_entry(path, entry, root)
+        make_links(links, root)
+        set_modes(modes, root)
+
+
+@contextmanager
+def open_to_fill(directory: str) -> Iterator[int]:
+    """Yields a descriptor of a directory, below which entries are made within the `with`, and
+    closes it at the end. The umask of this process is 0 meanwhile. OSError if the directory can't
+    be opened, or is a link."""
     old_umask = os.umask(0)
     try:
         root = os.open(directory, FOLDER)
         try:
-            modes: List[Tuple[str, int]] = []
-            links: List[Tuple[str, str]] = []
-            for path, entry in tree:
-                if entry.link is not None:
-                    links.append((path, entry.link))
-                elif entry.is_directory:
-                    modes.append((path, entry.mode))
-                make_entry(path, entry, root)
-            make_links(links, root)
-            for path, mode in reversed(modes):
-                set_folder_mode(path or '.', mode, root)
+            yield root
         finally:
             os.close(root)
     finally:
         os.umask(old_umask)
+
+
+def set_modes(modes: Iterable[Tuple[str, int]], root: int) -> None:
+    """Sets the modes of directories, given as paths with modes, below the open directory `root`;
+    the path of `root` itself is empty. Inner directories come first, since a mode may forbid
+    changes below. OSError if a mode can't be set: those of outer ones aren't set then."""
+    for path, mode in sorted(modes, reverse=True):
+        set_folder_mode(path or '.', mode, root)
 
 
 def make_entry(path: str, entry: Entry, root: int) -> None:
@@ -201,8 +244,8 @@ def make_entry(path: str, entry: Entry, root: int) -> None:
 
 def make_links(links: Iterable[Tuple[str, str]], root: int) -> None:
     """Makes symbolic links, given as paths with their targets, below the open directory `root`:
-    inner paths first, so that none is made through another. FileExistsError if something is there.
-    The first OSError ends it."""
+    inner paths first, so that none is made through another. FileExistsError if something is at a
+    path. After an OSError the further links aren't made."""
     for path, target in sorted(links, reverse=True):
         os.symlink(os.fsencode(target), path, dir_fd=root)
 
@@ -218,8 +261,9 @@ def write_file(path: str, mode: int, data: Bytes, root: int) -> None:
 
 
 def write_all(file: int, data: Bytes) -> None:
-    """Writes the bytes of a new, empty file. Zeros become holes if they are a page of SparseBytes,
-    or else a whole one of several pieces of PIECE_BYTES. After an OSError a part is written."""
+    """Writes all bytes of a file that is open and empty. Zeros become holes if they are a page of
+    SparseBytes or, in other data of more than PIECE_BYTES, a whole piece of that size. After an
+    OSError a part of the bytes may be written."""
     if isinstance(data, SparseBytes):
         for place, run_bytes in data.page_runs():
             write_at(file, place, run_bytes)

@@ -30,6 +30,11 @@ def size_of(members: int) -> int:
     return bin(members).count('1')
 
 
+def prefix_set(end: int) -> int:
+    """The set of all places before `end`, which must not be below 0."""
+    return (1 << end) - 1
+
+
 def missing_set(members: int) -> int:
     """The set of the places that a set lacks before its last member."""
-    return (1 << members.bit_length()) - 1 & ~members
+    return prefix_set(members.bit_length()) & ~members

@@ -5,7 +5,7 @@ from __future__ import annotations
 from dataclasses import dataclass
 from typing import Dict, Iterable, Iterator, List, NamedTuple, Optional, Sequence, Tuple
 
-from .place_sets import missing_set, places_of, set_of, size_of
+from .place_sets import missing_set, places_of, prefix_set, set_of, size_of
 
 
 class PlanError(Exception):
@@ -64,14 +64,14 @@ class Offsets(NamedTuple):
     lines: Tuple[int, ...] = ()
 
     def session_line(self, number: int) -> int:
-        """The number of the session's line from which a line of the plan's trace, numbered from 1,
-        comes."""
+        """The number of the session's line from which a line of the plan's trace comes; both are
+        counted from 1."""
         return self.lines[number - 1] if self.lines else number
 
     def values_by_own_lines(self, values: Dict[int, str]) -> Dict[int, str]:
-        """Takes values by the numbers of the session's lines, and returns them by those of the
-        lines of the plan's trace. Of several lines that come from one line of the session only the
-        last one gets its value. Values of other lines are left out."""
+        """Takes values by line numbers of the session, and returns them by line numbers of the
+        plan's trace. Of several lines of the trace that come from one of the session only the last
+        one gets its value. Values of lines that the trace doesn't have are left out."""
         if not self.lines:
             return values
         own_numbers = {line: number for number, line in enumerate(self.lines, 1)}
@@ -98,8 +98,10 @@ class Needs:
     No micro-operation needs a later one."""
 
     def __init__(self, masks: Sequence[int]) -> None:
+        """`masks` has for each place the set that its micro-operation needs; it must not change
+        later."""
         self.masks = masks
-        self._needing: Dict[int, int] = {}
+        self._sets_needing: Dict[int, int] = {}
 
     def is_needed(self, earlier: int, by: int) -> bool:
         """Whether the micro-operation at the place `by` needs an earlier one; False if `by` is past
@@ -107,26 +109,27 @@ class Needs:
         return by < len(self.masks) and bool(self.masks[by] >> earlier & 1)
 
     def set_needing(self, place: int) -> int:
-        """The set of the micro-operations that need the one at this place, with itself. It is kept
-        for later calls."""
-        if place not in self._needing:
-            later = range(place + 1, len(self.masks))
-            self._needing[place] = set_of(
-                [place, *(one for one in later if self.is_needed(place, by=one))]
+        """The set of the micro-operations that need the one at this place, with that one itself. It
+        is computed once for each place."""
+        if place not in self._sets_needing:
+            later_places = range(place + 1, len(self.masks))
+            self._sets_needing[place] = set_of(
+                [place, *(later for later in later_places if self.is_needed(place, by=later))]
             )
-        return self._needing[place]
+        return self._sets_needing[place]
 
     @property
     def full(self) -> int:
         """The set of all micro-operations."""
-        return (1 << len(self.masks)) - 1
+        return prefix_set(len(self.masks))
 
-    def sets_without_lines(self, lines: Iterable[int]) -> List[int]:
-        """For each line the largest allowed set that has no micro-operation of it, in the order in
-        which the lines begin. `lines` has the line of each place."""
+    def sets_without_lines(self, line_numbers: Iterable[int]) -> List[int]:
+        """For each line of the trace that has micro-operations the largest allowed set without any
+        of these, in the order in which the lines begin. line_numbers has the number of the line of
+        each micro-operation, by their places."""
         lost_sets: Dict[int, int] = {}
-        for place, line in enumerate(lines):
-            lost_sets[line] = lost_sets.get(line, 0) | self.set_needing(place)
+        for place, line_number in enumerate(line_numbers):
+            lost_sets[line_number] = lost_sets.get(line_number, 0) | self.set_needing(place)
         return [self.full & ~lost_set for lost_set in lost_sets.values()]
 
     @property
@@ -139,10 +142,9 @@ class Needs:
         """Whether an allowed set is that of a prefix or of a hole of the plan."""
         missing = missing_set(members)
         first_missing = next(places_of(missing), None)
-        return (
-            first_missing is None
-            or missing == self.set_needing(first_missing) & (1 << members.bit_length()) - 1
-        )
+        if first_missing is None:
+            return True
+        return missing == self.set_needing(first_missing) & prefix_set(members.bit_length())
 
     def is_allowed(self, members: int) -> bool:
         """Whether a set has all that its members need, so that a crash may leave it."""
@@ -174,8 +176,8 @@ class Plan:
         all_states: Optional[AllStates] = None,
         profiles: SetProfiles = SetProfiles(),
     ) -> None:
-        """`profiles` has those of each listed state, or of none: then profile_names_of() returns no
-        names, and no profile may be wanted."""
+        """`profiles` has the profiles of all listed states, or of none: then profile_names_of()
+        returns no names, and no profile may be wanted."""
         assert len(profiles.of_sets) in (0, len(listed))
         self.all_states = all_states
         self.profiles = profiles
@@ -183,9 +185,11 @@ class Plan:
         self.listed = listed
         self.needs = needs
         self.first = first
-        self.say_places = set_of(at for at, one in enumerate(operations) if one.kind == 'say')
+        self.say_places = set_of(
+            place for place, operation in enumerate(operations) if operation.kind == 'say'
+        )
         self.kept = {state.number: self.set_kept_by(state) for state in listed}
-        self._profiles = self.profiles_of_trials()
+        self._profile_bits_by_trial = self.profile_bits_by_trial()
         self.states = [
             state
             for state in listed
@@ -193,9 +197,9 @@ class Plan:
             and profiles.wanted in ('', *self.profile_names_of(state))
         ]
 
-    def profiles_of_trials(self) -> Dict[Trial, int]:
-        """For each trial the profiles that allow one of the listed sets that leave it, as bits.
-        Empty if the profiles of the sets aren't known."""
+    def profile_bits_by_trial(self) -> Dict[Trial, int]:
+        """For each trial the profiles that allow at least one of the listed sets that leave its
+        tree and lines, as bits. Empty if the profiles of the sets aren't known."""
         bits_by_trial: Dict[Trial, int] = {}
         for state, profile_bits in zip(self.listed, self.profiles.of_sets):
             bits_by_trial[state.trial] = bits_by_trial.get(state.trial, 0) | profile_bits
@@ -205,7 +209,7 @@ class Plan:
         """The names of the profiles under which a crash may leave the tree and the acknowledged
         lines of a state, by the set of this or of an equal listed state. Empty if the profiles
         aren't known."""
-        bits = self._profiles.get(state.trial, 0)
+        bits = self._profile_bits_by_trial.get(state.trial, 0)
         return [name for place, name in enumerate(self.profiles.names) if bits >> place & 1]
 
     def with_states(
@@ -246,30 +250,30 @@ class Plan:
         return 'a pick' if state.family == 'pick' else f'{state.family} {numbers}'
 
     def set_kept_by(self, state: State) -> int:
-        """The set of the places that a state has, by its family and numbers."""
+        """The set of the places that a state has, computed from its family and numbers. `kept` has
+        it already for each listed state."""
         if state.family == 'pick':
             return set_of(state.numbers)
         if state.family == 'prefix':
-            return (1 << state.numbers[0]) - 1
+            return prefix_set(state.numbers[0])
         lost_place, end = state.numbers
-        return (1 << end) - 1 & ~self.needs.set_needing(lost_place)
+        return prefix_set(end) & ~self.needs.set_needing(lost_place)
 
     def can_crash_leave(self, members: int) -> bool:
         """Whether no member of an allowed set comes after an acknowledged line that the set lacks:
         a program prints a line before it continues. In traces of version 3 or later this is true of
         each allowed set."""
-        missing_lines = self.say_places & ~members
-        first_missing = missing_lines & -missing_lines
-        return first_missing == 0 or members < first_missing
+        first_missing_line = next(places_of(self.say_places & ~members), None)
+        return first_missing_line is None or members.bit_length() <= first_missing_line
 
     def set_lost_by(self, state: State) -> int:
-        """The set of the places that a state lacks before its last one."""
+        """The set of the places that a listed state lacks before the last place that it has."""
         return missing_set(self.kept[state.number])
 
 
 class Part(NamedTuple):
-    """The states of a plan from the number `first` to before `end`: the options that name their
-    plan for the program, which gives the first of them the number first_in_program."""
+    """The states of a plan from the number `first` to before `end`. options name them for the
+    program, in which the first of them has the number first_in_program."""
 
     options: List[str]
     first: int
@@ -278,8 +282,8 @@ class Part(NamedTuple):
 
 
 class Request(NamedTuple):
-    """States that the program gives at once: the options that name them. A state's number in the
-    plan is the program's number plus number_offset."""
+    """States that one command of the program gives: options name them. A state's number in the plan
+    is the program's number plus number_offset."""
 
     options: List[str]
     number_offset: int
@@ -308,8 +312,8 @@ class PlannedTrace:
         )
 
     def files(self) -> List[str]:
-        """The paths of the files that it is made from: the trace, which is the user's own file
-        unless the session is in windows, and the picks of its parts."""
+        """The paths of the files that the plan is made from: the trace, which is the user's own
+        file unless the session is in windows, and the picks of the parts."""
         option_pairs = (pair for part in self.parts for pair in zip(part.options, part.options[1:]))
         return [self.trace, *(path for option, path in option_pairs if option == '--picks')]
 
