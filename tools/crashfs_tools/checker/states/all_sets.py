@@ -26,28 +26,31 @@ START_BYTES = 1 << 20
 
 
 class AllSets(Protocol):
-    """The sets that the rules of a trace allow. A method returns None if they are too many."""
+    """The sets that the rules of a trace allow. A method returns None if the sets that it is asked
+    for are too many."""
 
     @property
     def are_read(self) -> bool:
-        """Whether the second reading found them, or some of them. This is known after
-        different_sets(), and drawn_sets() if sets are drawn."""
+        """Whether the second reading found the sets, or some of them. This is known after
+        different_sets() and, if sets are drawn, drawn_sets()."""
 
     def count_sets(self) -> Optional[int]:
-        """How many they are; None if they are too many to count. Call it after different_sets()."""
+        """How many sets the rules allow; None if these are too many to count. Call it after
+        different_sets()."""
 
     def different_sets(self, most: int, profile: str = '') -> Optional[List[int]]:
-        """A set for each different state that the profile of a name allows, by default the trace's
-        own: the first of those that leave it. None if there are more than `most` states."""
+        """A set for each different state that the profile with this name allows, by default the
+        trace's own profile: the first set that leaves the state. None if there are more than `most`
+        states."""
 
     def drawn_sets(self, count: int, seed: int) -> Optional[List[int]]:
         """`count` sets, drawn at random, each time from all: a set may come several times. The same
-        seed draws the same ones. None if the sets are too many to count."""
+        seed draws the same sets. None if there are too many to count."""
 
 
 def all_sets(program: Crashfs, environment: Dict[str, str], reading_sets: ReadingSets) -> AllSets:
-    """The sets of a trace: by the program, if it is proved and can_program_find_sets(); else by the
-    second reading. Nothing is computed yet."""
+    """The sets of the trace of reading_sets: by the program, if it is proved and
+    can_program_find_sets(); else by the second reading. Nothing is computed yet."""
     if program.is_unproved or not can_program_find_sets(reading_sets.reading):
         return reading_sets
     return ProgramSets(program, environment, reading_sets)
@@ -62,9 +65,9 @@ def can_program_find_sets(reading: Reading) -> bool:
 
 
 class ProgramSets:
-    """The sets by the program's `picks`. If the program doesn't know an option of it, the second
-    reading answers; to ask for the known options first would be one more start of the program. Any
-    other ProgramFault is raised, and a PlanError if it prints what is no set."""
+    """The sets by the program's command `picks`. If the program doesn't know an option of this
+    command, the second reading answers: to ask for the known options first would be one more start
+    of the program. Any other ProgramFault is raised, and a PlanError for a line that is no set."""
 
     def __init__(
         self, program: Crashfs, environment: Dict[str, str], reading_sets: ReadingSets
@@ -79,7 +82,7 @@ class ProgramSets:
     def count_sets(self) -> Optional[int]:
         """How many sets the rules allow: by the second reading if that has found sets already, else
         by the program. None if they are too many to count, or if the program prints no number.
-        ProgramFault also if it doesn't know the option."""
+        ProgramFault also if the program doesn't know the option."""
         if self.are_read:
             return self.reading_sets.count_sets()
         lines = self.printed_lines(['--every', '--count'])
@@ -87,19 +90,17 @@ class ProgramSets:
 
     def different_sets(self, most: int, profile: str = '') -> Optional[List[int]]:
         """Asks `picks --every --different`. The second reading answers if the program doesn't know
-        an option, or reports that a profile has too many sets: the second reading may have an
-        answer then. If it answers, are_read is True from then on."""
+        an option, or if a profile is named and has too many sets for the program: are_read is True
+        from then on. KeyError then for a profile that the trace doesn't have."""
         profile_options = ['--profile', profile] if profile else []
+        options = ['--every', '--different', '--most', str(most), *profile_options]
         try:
-            sets = self.printed_sets(
-                ['--every', '--different', '--most', str(most), *profile_options]
-            )
+            sets = self.printed_sets(options)
+            if sets is not None or not profile:
+                return sets
         except ProgramFault as fault:
             if not fault.is_unknown_option:
                 raise
-        else:
-            if sets is not None or not profile:
-                return sets
         self.are_read = True
         return self.reading_sets.different_sets(most, profile)
 
@@ -115,14 +116,15 @@ class ProgramSets:
         return self.reading_sets.drawn_sets(count, seed)
 
     def printed_sets(self, options: List[str]) -> Optional[List[int]]:
-        """The sets that `picks` prints for some options; None if it reports that they are too many.
-        PlanError for a line that is no set, ProgramFault as in printed_lines()."""
+        """The sets that `picks` prints for these options; None if the program reports that they are
+        too many. PlanError for a line that is no set, ProgramFault as in printed_lines()."""
         lines = self.printed_lines(options)
         return None if lines is None else [parse_set(line) for line in lines]
 
     def printed_lines(self, options: List[str]) -> Optional[List[str]]:
-        """The lines that `picks` prints for some options; None if it reports that the sets are too
-        many. ProgramFault for any other fault, also for an option that the program doesn't know."""
+        """The lines that `picks` prints for these options; None if the program reports that the
+        sets are too many. ProgramFault for any other fault, also for an option that the program
+        doesn't know."""
         words = ['picks', '--trace', self.reading_sets.trace, *options]
         try:
             return self.program.output_of(words, self.environment).splitlines()
@@ -159,8 +161,8 @@ class ReadingSets:
 
     @cached_property
     def orders(self) -> Dict[str, Order]:
-        """The order that a file system of each profile keeps, by the profile's name. Acknowledged
-        lines come first in it, also in older traces."""
+        """The order that a file system of each profile keeps, by the profile's name. By each order,
+        also in older traces, what follows an acknowledged line needs this line."""
         from crashfs_tools.reading.order import orders_by_profile
 
         orders = orders_by_profile(self.reading)
@@ -170,20 +172,20 @@ class ReadingSets:
 
     @cached_property
     def state_list(self) -> StateList:
-        """The order and the trees of the trace, in a list without states. The order is the trace's
-        own: in older traces acknowledged lines don't come first in it."""
+        """A list without states, for its order and its trees. The order is the trace's own: in
+        older traces what follows an acknowledged line doesn't need this line."""
         from crashfs_tools.reading import StateList
 
         return StateList(self.reading)
 
     @cached_property
     def needs(self) -> Needs:
-        """What each micro-operation needs, itself included, as `list --json` prints it."""
+        """What each micro-operation needs, with itself, as `list --json` prints it."""
         return Needs([mask | 1 << place for place, mask in enumerate(self.state_list.order.needs)])
 
     def has_pending(self, end: int) -> bool:
-        """Whether a micro-operation before place `end` isn't durable yet when the one at `end`
-        comes. Acknowledged lines don't count."""
+        """Whether a micro-operation before the place `end` isn't durable yet when the one at `end`
+        begins. Acknowledged lines don't count."""
         return self.state_list.order.pending_set(end) & ~self.state_list.trees.says != 0
 
     @cached_property
@@ -195,14 +197,14 @@ class ReadingSets:
 
     @cached_property
     def profiles(self) -> Profiles:
-        """The second reading's answer to which profiles allow a set."""
+        """The object by which the second reading finds the profiles that allow a set."""
         from crashfs_tools.reading.order import Profiles
 
         return Profiles(self.reading)
 
     def profile_bits(self, sets: Iterable[int]) -> List[int]:
-        """For each set, in their order, the profiles that allow it, as bits: bit k is that of the
-        k-th of profile_names."""
+        """For each set, in their order, the profiles that allow it, as bits: bit k is that of
+        profile_names[k]."""
         place_of = self.profile_names.index
         return [set_of(map(place_of, self.profiles.names_allowing(members))) for members in sets]
 
@@ -222,8 +224,7 @@ class ReadingSets:
             return None
 
     def different_sets(self, most: int, profile: str = '') -> Optional[List[int]]:
-        """As AllSets says, of the sets that the profile of a name allows, by default the trace's
-        own. KeyError for a profile that the trace doesn't have."""
+        """As AllSets.different_sets() says. KeyError for a profile that the trace doesn't have."""
         from crashfs_tools.reading.classes import SetClasses
 
         all_different = SetClasses(self.reading, self.order(profile)).different_sets()
@@ -231,7 +232,7 @@ class ReadingSets:
         return sets if len(sets) <= most else None
 
     def drawn_sets(self, count: int, seed: int) -> Optional[List[int]]:
-        """Sets as AllSets says, drawn from those that the trace's own profile allows."""
+        """As AllSets.drawn_sets() says, from the sets that the trace's own profile allows."""
         from crashfs_tools.reading.every import drawn_sets
         from crashfs_tools.reading.faults import ReadingFault
 

@@ -23,8 +23,8 @@ class Mounts(Layout):
     def __init__(
         self, address: Address, uname: str, folder: str, environment: Dict[str, str]
     ) -> None:
-        """uname is the user who attaches. Refused if it has a comma, or if the host isn't known.
-        The environment is that of the commands that mount."""
+        """uname is the user who attaches. The environment is that of the commands that mount.
+        Nothing is mounted yet. Refused if uname has a comma, or if the host isn't known."""
         if ',' in uname:
             raise Refused(f'--uname {uname}: no mount can have a name with a comma')
         self.address = address
@@ -37,17 +37,17 @@ class Mounts(Layout):
     def states(self, wanted: Set[int]) -> Iterator[Tuple[int, str]]:
         """Yields each wanted state, ascending, with a path below the folder, at which laid_out()
         makes its directory. The server isn't asked here: if it lacks a state, laid_out() raises
-        Refused."""
+        Refused. OSError if the folder can't be made."""
         os.makedirs(self.folder, exist_ok=True)
         for number in sorted(wanted):
             yield number, os.path.join(self.folder, str(number))
 
     @contextmanager
     def laid_out(self, number: int, directory: str) -> Iterator[None]:
-        """Mounts a state's run at the directory, which is made for it, and within the `with` stays
-        mounted; then both are removed. OSError if the directory can't be made or removed; Refused
-        if the run can't be mounted or unmounted. The directory stays then, as after any
-        exception."""
+        """Makes the directory, and mounts the state's run there. After the `with` the run is
+        unmounted, and the directory removed. OSError if the directory can't be made or removed;
+        Refused if the run can't be mounted or unmounted. The directory stays after an exception,
+        and after one within the `with` the run is unmounted."""
         os.mkdir(directory)
         self.mount(f'{number}/{self.run}', directory)
         try:
@@ -57,8 +57,8 @@ class Mounts(Layout):
         os.rmdir(directory)
 
     def mount_words(self, name: str, directory: str) -> List[str]:
-        """The words of the command that mounts a state's run, by its name at the server. Linux
-        shows all files as those of the user who runs this; the rights that count are those of
+        """The words of the command that mounts a state's run, which the server has under this name.
+        Linux shows all files as those of this process's user; the rights that count are those of
         uname."""
         options = [
             'trans=tcp',
@@ -73,15 +73,17 @@ class Mounts(Layout):
         return ['mount', '-t', '9p', '-o', ','.join(options), self.host, directory]
 
     def mount(self, name: str, directory: str) -> None:
-        """Mounts the run of a name at an empty directory; Refused if that fails."""
+        """Mounts the run that the server has under this name at an empty directory. Refused if that
+        fails, OSError as run_on_directory()."""
         fault = run_on_directory(self.mount_words(name, directory), directory, self.environment)
         if fault:
             raise Refused(f'no mount of {name} from {self.address}: {fault} ({NEEDS})')
 
     def unmount(self, directory: str) -> None:
-        """Unmounts a state, lazily if a process that COMMAND left behind still uses it; Refused if
-        it stays mounted. The command must run to its end also if the check is stopped: it doesn't
-        have the check's environment, by which the guard finds processes to end."""
+        """Unmounts what is at a directory, lazily if a process that COMMAND left behind still uses
+        it. Refused if it stays mounted. The command must run to its end also if the check is
+        stopped: it doesn't get the check's environment, by which the guard finds processes to
+        end."""
         environment = dict(os.environ)
         fault = run_on_directory(['umount', directory], directory, environment)
         if fault and run_on_directory(['umount', '-l', directory], directory, environment):
@@ -90,9 +92,9 @@ class Mounts(Layout):
 
 def run_on_directory(words: List[str], directory: str, environment: Dict[str, str]) -> str:
     """Runs a command about a directory, in a session of its own, so that Ctrl-C doesn't end it.
-    Returns an empty text if it succeeds, else a line that says why not, without the directory's
-    name; so too if there is no such command, or after SECONDS, when it is killed. OSError if it
-    can't be started for another reason."""
+    Returns an empty text if the command succeeds, else a line that says why it doesn't, without the
+    directory's name: also if there is no such command, or if it is killed after SECONDS. OSError if
+    it can't be started for another reason."""
     try:
         finished = subprocess.run(
             words,

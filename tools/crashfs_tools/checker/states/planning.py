@@ -11,7 +11,7 @@ from crashfs_tools.checker.options import Options
 from crashfs_tools.common import limits
 from crashfs_tools.common.command import Refused
 from crashfs_tools.common.guard import Guard
-from crashfs_tools.common.program import READING, Crashfs, ProgramFault, is_plan_too_large
+from crashfs_tools.common.program import Crashfs, ProgramFault, is_plan_too_large
 
 from .all_sets import AllSets, ReadingSets, all_sets
 from .joining import joined_states
@@ -45,49 +45,44 @@ class Planner:
 
     def plan(self, trace: str, offsets: Offsets = Offsets()) -> PlannedTrace:
         """The plan of a trace, which is at these offsets in its session: of the families that the
-        options ask for and, with all crash states, of these, or of drawn ones if they are too many.
-        Of a profile that --in names only its states are tried. Files of picks are written. TooLarge
-        if the trace is too long for one plan; Refused for an unknown profile, or if both readings
-        differ in what needs what."""
+        options ask for and, if they ask for all crash states, of all or of drawn ones. With --in
+        only states that its profile allows are tried. Writes files of picks. TooLarge if the trace
+        is too long for one plan; Refused for an unknown profile, or if both readings differ in what
+        a micro-operation needs."""
         options = self.options
         if not (options.has_lost or options.has_files or options.has_every or options.profile):
             return self.plan_picks(trace, offsets, [])
         reading_sets = self.read_trace(trace)
         family_sets = self.family_sets(reading_sets)
-        if not options.has_every:
+        if options.has_every:
+            planned = self.plan_all_states(trace, offsets, reading_sets, family_sets)
+        else:
             planned = self.plan_picks(trace, offsets, [family_sets])
             if options.profile:
                 planned.plan = self.with_profiles(planned.plan, reading_sets, None)
-        else:
-            lines = (operation.line_number for operation in reading_sets.reading.operations)
-            more_sets = reading_sets.needs.sets_without_lines(lines)
-            family_sets += self.without_listed(reading_sets.needs, more_sets)
-            planned = self.plan_all_states(
-                trace, offsets, reading_sets, list(dict.fromkeys(family_sets))
-            )
         if planned.plan.needs.masks != reading_sets.needs.masks:
             raise Refused(f'{trace}: {OTHER_NEEDS}')
         return planned
 
     def planner_of_copies(self, plan: Plan) -> Planner:
-        """The planner for copies of a plan's trace in which lines were added. For a small plan it
-        is one of the second reading, which plans a copy in less time than the program takes to
-        start."""
+        """The planner for copies of a plan's trace to which lines were added: this one or, for a
+        small plan, one of the second reading, which plans a copy in less time than the program
+        takes to start."""
         if not is_small(plan):
             return self
-        return Planner(self.options, Crashfs(READING, is_unproved=True), self.guard)
+        return Planner(self.options, Crashfs.second_reading(), self.guard)
 
     def has_few_states(self, trace: str) -> bool:
         """Whether a trace has at most options.most_states different crash states, so that all can
-        be tried. Refused for a trace with a fault, ProgramFault if the program fails to print
-        sets."""
+        be tried. Refused for a trace with a fault, ProgramFault or PlanError if the program prints
+        no sets."""
         sets = all_sets(self.program, self.guard.environment, self.read_trace(trace))
         return sets.different_sets(self.options.most_states) is not None
 
     def read_trace(self, trace: str) -> ReadingSets:
-        """Reads a trace by the second reading, which then has its sets. If the second reading
-        refuses it, so does this, in the program's words if the program refuses it too: Refused or
-        TooLarge. OSError if the file can't be read."""
+        """Reads a trace by the second reading, for its sets. If the second reading refuses the
+        trace: Refused or TooLarge, with the program's text if the program refuses the trace too.
+        OSError if the file can't be read."""
         from crashfs_tools.reading import ReadingFault
 
         try:
@@ -99,10 +94,10 @@ class Planner:
     def plan_all_states(
         self, trace: str, offsets: Offsets, reading_sets: ReadingSets, family_sets: List[int]
     ) -> PlannedTrace:
-        """The plan of some families and of all crash states. If these are too many, it has sets
-        drawn at random in their place, or none if they can't even be counted; its all_states says
-        so. family_sets has the families' sets for which is_always_listed() is False, each once.
-        ProgramFault as in plan()."""
+        """The plan of the families and of all crash states. If these are too many, the plan has
+        sets drawn at random in their place, or none if the sets can't even be counted; its
+        all_states says so. family_sets is what the method of this name returned. Errors as in
+        plan(), and ProgramFault if the program prints no sets."""
         needs = reading_sets.needs
         all_crash_sets = all_sets(self.program, self.guard.environment, reading_sets)
         different_sets = find_sets_of_all_states(
@@ -116,14 +111,14 @@ class Planner:
         parts = divide_picks(picks, self.most_picks(needs), len(needs.masks))
         planned = self.plan_picks(trace, offsets, parts)
         plan = planned.plan
-        numbers = {plan.kept[state.number]: state.number for state in reversed(plan.listed)}
+        number_by_set = {plan.kept[state.number]: state.number for state in reversed(plan.listed)}
         all_states = AllStates(
-            all_crash_sets.count_sets(),
-            different_sets is not None,
-            all_crash_sets.are_read,
-            self.options.most_states,
-            len(plan.listed) - len(picks) + len(family_sets),
-            tuple(numbers[members] for members in drawn_sets),
+            sets=all_crash_sets.count_sets(),
+            are_listed=different_sets is not None,
+            are_read=all_crash_sets.are_read,
+            most=self.options.most_states,
+            families=len(plan.listed) - len(picks) + len(family_sets),
+            drawn=tuple(number_by_set[members] for members in drawn_sets),
         )
         planned.plan = self.with_profiles(plan, reading_sets, all_states)
         return planned
@@ -131,9 +126,10 @@ class Planner:
     def with_profiles(
         self, plan: Plan, reading_sets: ReadingSets, all_states: Optional[AllStates]
     ) -> Plan:
-        """The plan with these all_states and the profiles of its sets: as the program printed them,
-        if it has the same names in the same order as the second reading, or else by the second
-        reading. Refused if the trace has no profile that --in names."""
+        """A copy of a plan with these all_states, the profiles that allow its sets, and the profile
+        of --in as the wanted one. The profiles are those that the program printed, if it has the
+        same names in the same order as the second reading; else those of the second reading.
+        Refused if the trace doesn't have the profile of --in."""
         names, printed_profiles = reading_sets.profile_names, plan.profiles
         profile_bits = printed_profiles.of_sets if printed_profiles.names == names else ()
         if not profile_bits:
@@ -147,24 +143,18 @@ class Planner:
         return plan.with_states(plan.listed, all_states, SetProfiles(names, profile_bits, wanted))
 
     def most_picks(self, needs: Needs) -> int:
-        """How many picks the first part of a plan can have after its prefixes and, if they are
-        listed, its holes. Below 0 if these are too many already."""
+        """How many picks the first part of a plan can have in addition to its prefixes and, without
+        --prefixes, its holes. Below 0 if these are too many already."""
         holes = 0 if self.options.prefixes else needs.hole_count
         return limits.STATES - 1 - len(needs.masks) - holes
 
     def plan_picks(
         self, trace: str, offsets: Offsets, picks_of_parts: Sequence[Sequence[int]]
     ) -> PlannedTrace:
-        """A plan of the prefixes, the holes unless --prefixes leaves them out, and these sets. Each
-        list of sets becomes a part, with the prefixes too; only the first part has the holes.
-        Without any set there is one part. The second reading finds equal states of different parts.
-        Refused or TooLarge if the program refuses a part."""
-        first_options = ['--trace', trace, *([] if self.options.prefixes else ['--holes'])]
-        options_of_parts = [first_options] if not any(picks_of_parts) else []
-        for number, sets in enumerate(picks_of_parts if any(picks_of_parts) else []):
-            path = self.write_picks(trace, f'.picks{number or ""}', sets)
-            own_options = first_options if number == 0 else ['--trace', trace]
-            options_of_parts.append([*own_options, '--picks', path])
+        """A plan of the prefixes, the holes unless --prefixes leaves them out, and these sets, in
+        the parts of write_parts(). The second reading finds equal states of different parts.
+        Refused or TooLarge if the program refuses a part; OSError as write_picks()."""
+        options_of_parts = self.write_parts(trace, picks_of_parts)
         listings = [self.run_program(['list', *options, '--json']) for options in options_of_parts]
         plan = read_plan(listings[0], offsets, listings[1:])
         if len(options_of_parts) > 1:
@@ -172,44 +162,65 @@ class Planner:
         parts = make_parts(plan, options_of_parts, [len(sets) for sets in picks_of_parts])
         return PlannedTrace(trace, parts, plan, offsets)
 
+    def write_parts(self, trace: str, picks_of_parts: Sequence[Sequence[int]]) -> List[List[str]]:
+        """Writes a file of picks for each part of a plan, and returns the options that name each
+        part. Every part has the prefixes; only the first one has the holes. Without any pick there
+        is one part, and no file."""
+        first_options = ['--trace', trace, *([] if self.options.prefixes else ['--holes'])]
+        if not any(picks_of_parts):
+            return [first_options]
+        options_of_parts = []
+        for number, sets in enumerate(picks_of_parts):
+            path = self.write_picks(trace, f'.picks{number or ""}', sets)
+            own_options = first_options if number == 0 else ['--trace', trace]
+            options_of_parts.append([*own_options, '--picks', path])
+        return options_of_parts
+
     def plan_sets(self, planned: PlannedTrace, sets: Iterable[int]) -> PlannedTrace:
         """A plan of the same trace as `planned`, with only the prefixes and these sets, each once,
-        as picks. Its states have the same first number. The next such plan replaces its file of
-        picks: then it can't be tried any more. Refused or TooLarge if the program refuses it."""
+        as picks. Its first state has the same number as that of `planned`. The next call for this
+        trace replaces the file of picks: then the states of this plan can't be made any more.
+        Refused or TooLarge if the program refuses the plan."""
         path = self.write_picks(planned.trace, '.sets', dict.fromkeys(sets))
         options = ['--trace', planned.trace, '--picks', path]
         plan = read_plan(self.run_program(['list', *options, '--json']), planned.offsets)
         return PlannedTrace(planned.trace, make_parts(plan, [options], []), plan, planned.offsets)
 
     def plan_prefixes(self, trace: str) -> Plan:
-        """A plan of only the prefixes of a trace, whatever the options ask for. TooLarge if the
+        """A plan of only the prefixes of a trace: the options aren't looked at. TooLarge if the
         trace has more micro-operations than the program takes; Refused for another fault."""
         return read_plan(self.run_program(['list', '--trace', trace, '--json']))
 
     def family_sets(self, reading_sets: ReadingSets) -> List[int]:
-        """The sets of --lost and --files, if the options ask for them, each once, without those for
-        which is_always_listed()."""
+        """The sets of --lost and --files, if the options ask for them and, if they ask for all
+        crash states, the largest set without each line. Each set is there once; those for which
+        is_always_listed() are left out."""
         from crashfs_tools.reading.plan import file_sets
 
-        sets = list(reading_sets.needs.masks) if self.options.has_lost else []
+        needs = reading_sets.needs
+        sets = list(needs.masks) if self.options.has_lost else []
         sets += file_sets(reading_sets.state_list) if self.options.has_files else []
-        return self.without_listed(reading_sets.needs, dict.fromkeys(sets))
+        if self.options.has_every:
+            operations = reading_sets.reading.operations
+            sets += needs.sets_without_lines(operation.line_number for operation in operations)
+        return self.without_listed(needs, dict.fromkeys(sets))
 
     def without_listed(self, needs: Needs, sets: Iterable[int]) -> List[int]:
-        """Those of some sets for which is_always_listed() is False, in their order."""
+        """The sets that need a pick, in their order: those for which is_always_listed() is
+        False."""
         return [members for members in sets if not self.is_always_listed(needs, members)]
 
     def is_always_listed(self, needs: Needs, members: int) -> bool:
-        """Whether a set needs no pick because the plan has it as a prefix or hole. With --prefixes
-        each set of a family needs one, and so with --serve: the server's picks have all of them."""
+        """Whether a set needs no pick, because the plan has it as a prefix or hole. With --prefixes
+        and --serve each set needs a pick: a server's picks have prefixes and holes too."""
         if self.options.prefixes or self.options.serve is not None:
             return False
         return needs.is_prefix_or_hole(members)
 
     def write_picks(self, trace: str, ending: str, sets: Iterable[int]) -> str:
-        """Writes a picks file, with a line for each set, to the guard's directory, and returns its
-        path: the trace's name with this ending. An earlier file is replaced. OSError if it can't be
-        written."""
+        """Writes a file of picks, with a line for each set, to the guard's directory, in place of
+        an earlier one. Returns the file's path: its name is that of the trace with this ending.
+        OSError if it can't be written."""
         path = os.path.join(self.guard.directory, os.path.basename(trace) + ending)
         with open(path, 'w', encoding='ascii') as file:
             file.writelines(f'{list(places_of(members))}\n' for members in sets)
@@ -225,9 +236,9 @@ class Planner:
             raise self.make_refusal(words[0], fault) from fault
 
     def make_refusal(self, command: str, fault: ProgramFault) -> Refused:
-        """Makes a TooLarge of a fault of the program which says that a plan would be too large, and
-        a Refused of any other. If the program doesn't know an option, the text says that its
-        `command` isn't the one that these tools use."""
+        """Makes of a fault of the program a TooLarge, if a plan would be too large, or a Refused,
+        and returns it. If the program doesn't know an option, the text says that its `command`
+        isn't the one that these tools use."""
         if fault.is_unknown_option:
             usage = {'list': '`list --json`', 'tar': '`tar --states`'}.get(command, f'`{command}`')
             return Refused(
@@ -242,10 +253,10 @@ class Planner:
 def find_sets_of_all_states(
     sets: AllSets, reading_sets: ReadingSets, most_sets: int
 ) -> Optional[List[int]]:
-    """A set of each different state; None if they are more than most_sets. For each profile that
-    doesn't allow all of these, a set of each state that it allows is added, unless these are more
-    than most_sets. So a set may come several times. ProgramFault and PlanError as `sets` raises
-    them."""
+    """A set for each different state; None if there are more than most_sets states. Then, for each
+    profile that doesn't allow all of these sets, a set for each state that the profile allows,
+    unless these are more than most_sets. A set may come several times. ProgramFault and PlanError
+    as `sets` raises them."""
     different_sets = sets.different_sets(most_sets)
     if different_sets is None:
         return None
@@ -262,8 +273,8 @@ def find_sets_of_all_states(
 
 def divide_picks(picks: List[int], room: int, operation_count: int) -> List[List[int]]:
     """Divides picks into the parts of a plan with operation_count micro-operations. The first part
-    gets at most `room` picks, none if that is 0 or less; each other part as many as fit after its
-    prefixes."""
+    gets at most `room` picks, none if `room` is below 0; each other part gets as many as fit next
+    to its prefixes."""
     part_size = limits.STATES - 1 - operation_count
     first_end = max(0, room)
     later_begins = range(first_end, len(picks), part_size)
@@ -272,15 +283,13 @@ def divide_picks(picks: List[int], room: int, operation_count: int) -> List[List
 
 def make_parts(plan: Plan, options_of_parts: List[List[str]], pick_counts: List[int]) -> List[Part]:
     """The parts of a plan, each with its options and the range of its states. pick_counts has how
-    many picks each part has; it may be empty if there is one part. The first part has all other
-    states too. Each further part has picks only, which are numbered there from the prefixes on."""
+    many picks each part has; it may be empty if there is one part. The first part has all states
+    but the picks of the others. Each further part has only picks: in the program its prefixes come
+    before them."""
     end = plan.first + len(plan.listed)
-    first_numbers = [plan.first]
-    first_numbers += [end - sum(pick_counts[number:]) for number in range(1, len(options_of_parts))]
+    further_parts = range(1, len(options_of_parts))
+    first_numbers = [plan.first, *(end - sum(pick_counts[part:]) for part in further_parts)]
+    ends = [*first_numbers[1:], end]
     first_pick = len(plan.operations) + 1
-    return [
-        Part(options, first, last, first_pick if number else 0)
-        for number, (options, first, last) in enumerate(
-            zip(options_of_parts, first_numbers, [*first_numbers[1:], end])
-        )
-    ]
+    first_in_program = [0, *(first_pick for _ in further_parts)]
+    return list(map(Part, options_of_parts, first_numbers, ends, first_in_program))

@@ -16,8 +16,8 @@ def read_plan(
     listing: str, offsets: Offsets = Offsets(), more_listings: Sequence[str] = ()
 ) -> Plan:
     """The plan that `list --json` printed, in numbers, places and lines of the session.
-    more_listings is what it printed for further parts, of which only the picks are added; their
-    `same` is known only within their part. PlanError for a line of another form."""
+    more_listings is what it printed for further parts, of which only the picks are added; the
+    `same` of these is right only within their part. PlanError for a line of another form."""
     reader = PlanReader(offsets)
     for part_listing in (listing, *more_listings):
         reader.begin_part()
@@ -45,21 +45,22 @@ class PlanReader:
         self.profile_bits: List[int] = []
 
     def profiles(self) -> SetProfiles:
-        """The profiles of each state that was added, in their order; none if the program prints no
-        profiles. The names are those of the first state, whose set is empty, so that all profiles
-        allow it."""
+        """The profiles of each state that was added, in the order of the states; none if the
+        program prints no profiles. Their names are those of the first state, which all profiles
+        allow, since its set is empty."""
         return SetProfiles(self.profile_names, tuple(self.profile_bits))
 
     def begin_part(self) -> None:
         """Begins the next part: sets is_first and number_offset. In the program the picks of all
-        parts begin with the same number; here those of a further part are numbered on from the
-        states so far."""
+        parts begin with the same number; here the picks of a further part get the numbers that
+        follow those of the states so far."""
         self.is_first = not self.states
         self.number_offset = 0 if self.is_first else len(self.states) - len(self.operations) - 1
 
     def add_line(self, fields: Dict[str, Any]) -> None:
         """Adds the operation or the state of a line. All parts have the same operations, so only
-        those of the first part are added. KeyError or another error for fields of another form."""
+        those of the first part are added. KeyError, TypeError, ValueError or AttributeError for
+        fields of another form."""
         if 'op' not in fields:
             self.add_state(fields)
         elif self.is_first:
@@ -68,16 +69,17 @@ class PlanReader:
 
     def add_state(self, fields: Dict[str, Any]) -> None:
         """Adds the state of a line, with a number that is unique among all parts. Of a further part
-        only picks are added: it has the same prefixes. `fields` are changed to the numbers here.
-        KeyError or another error as in add_line(); ValueError also if a profile isn't among those
-        of the states before."""
-        if not self.is_first:
-            if fields['kind'] != 'pick':
-                return
-            fields['state'] += self.number_offset
-            # A prefix has the same number in each part.
-            fields['same'] += self.number_offset if fields['same'] > len(self.operations) else 0
-        self.states.append(parse_state(fields, self.offsets))
+        only picks are added: its prefixes are those of the first part. KeyError or another error as
+        in add_line(); ValueError also if a profile isn't among those of the first state, or if only
+        some states have profiles."""
+        if not self.is_first and fields['kind'] != 'pick':
+            return
+        state = parse_state(fields, self.offsets)
+        # A prefix has the same number in each part.
+        same_offset = self.number_offset if fields['same'] > len(self.operations) else 0
+        self.states.append(
+            state._replace(number=state.number + self.number_offset, same=state.same + same_offset)
+        )
         if 'profiles' in fields:
             self.profile_names = self.profile_names or tuple(fields['profiles'])
             self.profile_bits.append(set_of(map(self.profile_names.index, fields['profiles'])))

@@ -34,26 +34,29 @@ class Session:
     def __init__(self, name: str, text: str) -> None:
         """Reads the text of a trace. TraceError, which is a Refused, if any line makes no sense;
         then Refused, with `name` and the line, for the first operation that the tree doesn't allow.
-        Start lines aren't checked, as in start_tree()."""
+        Start lines aren't checked: KeyError as start_tree()."""
         self.trace, numbers = read_trace_with_numbers(text)
         self.steps: List[Step] = []
         self.places = [0]
-        tree = start_tree(self.trace)
+        self.end = start_tree(self.trace)
         for place, (line, operation) in enumerate(zip(numbers, self.trace.operations)):
-            fault = tree.fault(operation)
+            fault = self.end.fault(operation)
             if fault:
                 raise Refused(f'{name}: line {line}: {fault}')
-            for part in parts_of_operation(operation, tree):
-                count_before = tree.micro_operations
-                tree.apply(part)
-                size = tree.micro_operations - count_before
-                self.steps.append(Step(line, part, self.trace.notes.get(place, ''), size))
-                self.places.append(tree.micro_operations)
-        self.end = tree
+            self.add_steps(line, operation, self.trace.notes.get(place, ''))
+
+    def add_steps(self, line: int, operation: Operation, note: str) -> None:
+        """Applies the operation of a line to `end`, which must allow it, and adds its steps, each
+        with the note, and how many micro-operations come before the next step."""
+        for part in parts_of_operation(operation, self.end):
+            self.end.apply(part)
+            count = self.end.micro_operations
+            self.steps.append(Step(line, part, note, count - self.places[-1]))
+            self.places.append(count)
 
     def end_trace(self) -> str:
-        """The text of a trace without operations that starts with the tree at the session's end. It
-        has the version, profile and block of the session."""
+        """The text of a trace without operations that starts with the tree at the session's end,
+        and has the version, profile and size of blocks of the session's trace."""
         return trace_text(
             Trace(
                 *start_lines(self.end.entries, self.end.files),
@@ -66,9 +69,9 @@ class Session:
 
 
 def start_tree(trace: Trace) -> Tree:
-    """The tree in which a trace begins, after its start lines. It has copies of their bytes, so
-    operations can be applied to it. Whether the lines fit each other isn't checked; KeyError if the
-    source of a link is missing."""
+    """The tree in which a trace begins, after its start lines. The tree has copies of their bytes,
+    so that operations can be applied to it. Whether the lines fit each other isn't checked;
+    KeyError if the source of a link is missing."""
     tree = tree_without_start(trace)
     for entry in trace.start:
         tree.add_start(entry)
@@ -76,16 +79,16 @@ def start_tree(trace: Trace) -> Tree:
 
 
 def parts_of_operation(operation: Operation, tree: Tree) -> Iterator[Operation]:
-    """Yields the operation itself or, for a write of more than PIECE_BLOCKS blocks, its parts:
-    truncates to its new sizes, then writes of up to so many blocks. They have the same
-    micro-operations. `tree` is the one before the operation; the caller may apply each part to it
-    as it comes."""
+    """Yields the operation itself or, for a write of more than PIECE_BLOCKS blocks, its parts: a
+    truncate to each new size of the file, then writes of up to so many blocks. The parts have the
+    same micro-operations as the operation. `tree` is the one before the operation; the caller may
+    apply each part to it as it comes."""
     if not isinstance(operation, Write) or len(operation.data) <= PIECE_BLOCKS * tree.block:
         yield operation
         return
     end = operation.offset + len(operation.data)
-    for length in lengths_before_write(tree, operation.path, end):
-        yield Truncate(operation.path, length)
+    lengths = lengths_before_write(tree, operation.path, end)
+    yield from (Truncate(operation.path, length) for length in lengths)
     begin = operation.offset
     while begin < end:
         part_end = min(end, (begin // tree.block + PIECE_BLOCKS) * tree.block)
@@ -95,9 +98,10 @@ def parts_of_operation(operation: Operation, tree: Tree) -> Iterator[Operation]:
 
 
 def lengths_before_write(tree: Tree, path: str, end: int) -> Iterator[int]:
-    """The sizes, in order, that a file gets before a write up to the offset `end` changes its
-    blocks: in version 4 first the end of its last page, if the write grows it past that; then
-    `end`. None if the file doesn't grow."""
+    """Yields the sizes, in order, that a file gets before a write up to the offset `end` changes
+    its blocks: in version 4 first the end of the file's last page, if the write makes the file
+    larger than that; then `end`. No size if the file doesn't grow; KeyError if it isn't in the
+    tree."""
     size = len(tree.entries[path].data or b'')
     if tree.version >= 4 and is_growth_past_page(size, end):
         yield page_end(size)
@@ -111,7 +115,8 @@ class Steps:
     which paths are links to one file, only `tree` knows."""
 
     def __init__(self, session: Session) -> None:
-        """Begins at the first step, with the tree in which the trace begins."""
+        """Begins at the first step, with the tree in which the trace begins. Only go_to() moves
+        `begin`, and never back."""
         self.session = session
         self.begin = 0
         self.says = 0
@@ -119,9 +124,9 @@ class Steps:
         self.start = self.tree.entries.copy()
 
     def end_within(self, most_operations: int) -> int:
-        """The step before which the longest part from `begin` on ends that has at most
-        most_operations micro-operations; syncs after its last one are in it. It has at least one
-        step, even a larger one."""
+        """The step before which the longest part ends that begins at `begin` and has at most
+        most_operations micro-operations; syncs after the last one belong to it. The part has at
+        least one step, even if that is larger."""
         places = self.session.places
         end = bisect.bisect_right(places, places[self.begin] + most_operations) - 1
         return min(max(end, self.begin + 1), len(self.session.steps))
@@ -131,8 +136,8 @@ class Steps:
         return self.session.places[end] - self.session.places[self.begin]
 
     def go_to(self, step: int, start: Entries) -> None:
-        """Moves `begin` on to a later step, by applying the operations before it to `tree`. `start`
-        must be the tree there as the program gives it; it isn't compared with `tree`."""
+        """Moves `begin` on to a later step, by applying the operations before that step to `tree`.
+        `start` must be the tree there as the program gives it; it isn't compared with `tree`."""
         for passed_step in self.session.steps[self.begin : step]:
             self.says += isinstance(passed_step.operation, Say)
             self.tree.apply(passed_step.operation)
@@ -141,8 +146,8 @@ class Steps:
 
     def trace_until(self, end: int) -> Tuple[str, Tuple[int, ...]]:
         """The text of the trace from `begin` up to the step `end`, without that step; and for each
-        of its lines the number of its line in the session, which is 0 for the header and the start
-        lines. The parts of a long write have the same number."""
+        line of this text the number of its line in the session, which is 0 for the header and the
+        start lines. The parts of a long write have the same number."""
         steps = self.session.steps[self.begin : end]
         session_trace = self.session.trace
         header, start = start_lines(self.start, self.tree.files)
@@ -160,5 +165,5 @@ class Steps:
 
 
 def trace_text(trace: Trace) -> str:
-    """The text of a trace as its file has it: a line each, with a newline at its end."""
+    """The text of a trace as its file has it: its lines, each with a newline at its end."""
     return ''.join(line + '\n' for line in trace.lines())

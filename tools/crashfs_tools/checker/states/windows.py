@@ -18,8 +18,8 @@ from crashfs_tools.common import limits
 from crashfs_tools.common.command import TEXT, Refused
 
 from .all_sets import ReadingSets
-from .place_sets import size_of
-from .plan import Offsets, PlannedTrace
+from .place_sets import places_of, size_of
+from .plan import Offsets, Plan, PlannedTrace
 from .planning import Planner, TooLarge
 from .steps import Session, Steps
 
@@ -44,7 +44,8 @@ class CutOff:
 class PlannedWindow:
     """The plan of a window that ends before the step `end`. pending has the places in the plan that
     no sync has made durable at the end; acknowledged lines aren't among them. needs has the set
-    that each micro-operation needs, also of those after the end that the first try had."""
+    that each micro-operation needs, also of those between `end` and the end of the first, longer
+    try."""
 
     planned: PlannedTrace
     end: int
@@ -64,18 +65,18 @@ class Windows:
         self.cut_off: List[CutOff] = []
 
     def write_end(self) -> str:
-        """Writes a trace that has only the tree at the session's end to the guard's directory, and
-        returns its path. An earlier one is replaced. OSError if it can't be written."""
+        """Writes a trace that has only the tree at the session's end to the guard's directory, in
+        place of an earlier one, and returns its path. OSError if it can't be written."""
         path = os.path.join(self.planner.guard.directory, 'end.trace')
         write_text(path, self.session.end_trace())
         return path
 
     def all_planned(self) -> Iterator[PlannedTrace]:
-        """Yields the plan of each window, and sets is_last, which is only true of the last one.
-        States are numbered on from window to window; micro-operations have their places in the
-        session. A window's files are removed when the next plan is asked for; those of the last one
-        stay. cut_off grows meanwhile: call this once. Refused for a trace with a fault; others as
-        in Planner.plan() and go_to()."""
+        """Yields the plan of each window, with is_last, which is True only for the last one. States
+        are numbered on from window to window; micro-operations have their places in the session. A
+        window's files are removed when the next plan is asked for; those of the last one stay.
+        cut_off grows meanwhile: call this once. Errors as in Planner.plan() and go_to(), and
+        OSError if a trace can't be written."""
         steps, state_count = Steps(self.session), 0
         window = self.longest_window(steps, state_count)
         while window.end < len(self.session.steps):
@@ -89,10 +90,10 @@ class Windows:
     def next_window(
         self, steps: Steps, previous: PlannedWindow, first_number: int
     ) -> PlannedWindow:
-        """The window after `previous`, whose first state gets first_number. It begins at
-        next_begin() or, if it wouldn't end later than `previous` then, at the end of `previous`.
-        Moves `steps` to its begin, and adds to cut_off what was pending at the end of `previous`
-        and isn't in it."""
+        """The window after `previous`; its first state gets first_number. It begins at next_begin()
+        or, if such a window wouldn't end later than `previous`, at the end of `previous`. Moves
+        `steps` to where the window begins, and adds to cut_off what was pending at the end of
+        `previous` and isn't in the new window. Errors as in go_to() and longest_window()."""
         begin = self.next_begin(previous)
         self.go_to(steps, previous, begin)
         window = self.longest_window(steps, first_number)
@@ -105,8 +106,9 @@ class Windows:
 
     def longest_window(self, steps: Steps, first_number: int) -> PlannedWindow:
         """The longest window that begins where `steps` is and keeps to the limits in this module's
-        text. Its first state gets first_number. Writes its trace and picks, over those of longer
-        tries. Refused for a trace with a fault: the files stay then."""
+        text. Its first state gets first_number. Writes its trace and picks in place of those of
+        longer tries. Refused for a trace with a fault, other errors as in Planner.plan(): the files
+        stay then."""
         path = os.path.join(self.planner.guard.directory, f'window-{first_number}.trace')
         end = steps.end_within(self.largest)
         longest_needs: Sequence[int] = ()
@@ -129,22 +131,14 @@ class Windows:
             if shorter_end < end:
                 end = shorter_end
                 continue
-            operations = planned.plan.operations
-            return PlannedWindow(
-                planned,
-                end,
-                [
-                    place
-                    for place, operation in enumerate(operations)
-                    if operation.kind != 'say' and not needs[-1] >> place & 1
-                ],
-                longest_needs,
-            )
+            pending = pending_places(planned.plan, durable_set=needs[-1])
+            return PlannedWindow(planned, end, pending, longest_needs)
 
     def end_with_few_states(self, steps: Steps, end: int, planned: PlannedTrace) -> int:
         """The last step before `end` at which nothing is pending, and before which so few crash
-        states come that all can be tried. `end`, at which `planned` ends, if its plan has all
-        states, if they aren't asked for, or if there is no such step."""
+        states come that all can be tried. It is `end`, where `planned` ends, if there is no such
+        step, if its plan has all crash states, or if the options don't ask for all. Errors as in
+        has_few_states()."""
         all_states = planned.plan.all_states
         if all_states is None or all_states.are_listed:
             return end
@@ -161,7 +155,8 @@ class Windows:
     def ends_without_pending(self, steps: Steps, end: int, reading_sets: ReadingSets) -> List[int]:
         """The steps before `end`, ascending, at which nothing is pending, and before which more
         than a quarter of the part's micro-operations come. Of several steps with the same
-        micro-operations before them only the last one, which comes after their syncs."""
+        micro-operations before them only the last one, which comes after the syncs.
+        reading_sets are those of the part up to `end`."""
         steps_by_size = {steps.size_until(step): step for step in range(steps.begin + 1, end)}
         least_size = steps.size_until(end) // LEAST_PART
         return [
@@ -171,9 +166,9 @@ class Windows:
         ]
 
     def has_few_states(self, steps: Steps, end: int) -> bool:
-        """Whether the part up to a step has so few different crash states that all can be tried.
-        Writes its trace, and removes it again, also if it is refused. Errors as in
-        Planner.has_few_states()."""
+        """Whether the part up to the step `end` has so few different crash states that all can be
+        tried. Writes the part's trace, and removes it again, also after an error. Errors as in
+        Planner.has_few_states(); OSError if the trace can't be written."""
         path = os.path.join(self.planner.guard.directory, 'shorter.trace')
         write_text(path, steps.trace_until(end)[0])
         try:
@@ -182,10 +177,10 @@ class Windows:
             os.unlink(path)
 
     def needs_with_probe(self, path: str, text: str) -> Sequence[int]:
-        """The set that each micro-operation of a trace needs, by the program; last that of one more
-        at the end, which changes a file of its own, and so needs exactly what is durable then.
-        Writes the longer trace to `path`, and removes it again. Refused or TooLarge if the program
-        refuses it."""
+        """The set that each micro-operation of a trace needs, by the program. The last set is that
+        of a further one at the end, the probe, which changes a file of its own and so needs exactly
+        what is durable then. Writes the trace with the probe to `path`, and removes it again.
+        Refused or TooLarge if the program refuses it."""
         write_text(path, with_probe(text))
         try:
             return self.planner.plan_prefixes(path).needs.masks
@@ -193,9 +188,9 @@ class Windows:
             os.unlink(path)
 
     def fitting_count(self, needs: Sequence[int]) -> int:
-        """How many of the first micro-operations fit in one plan with their prefixes, their holes,
-        and a set of --lost for each. `needs` has the set that each one needs. Sets of --files
-        aren't counted."""
+        """How many of the first micro-operations fit in one plan with their prefixes, their holes
+        and, if --lost is tried, a set for each. `needs` has the set that each micro-operation
+        needs. Sets of --files aren't counted."""
         options, state_count = self.planner.options, 1
         for place, members in enumerate(needs):
             hole_count = 0 if options.prefixes else place + 1 - size_of(members)
@@ -206,8 +201,8 @@ class Windows:
 
     def next_begin(self, previous: PlannedWindow) -> int:
         """The step at which the next window begins: that of the first pending micro-operation, but
-        not before the middle of the previous window. The end of the previous window if nothing is
-        pending, or if a window from that step wouldn't end later."""
+        not before the middle of the previous window. It is the end of the previous window if
+        nothing is pending, or if a window from that step wouldn't end later."""
         places, plan = self.session.places, previous.planned.plan
         first_place = previous.planned.offsets.operations
         middle_place = first_place + (len(plan.operations) + 1) // 2
@@ -232,9 +227,10 @@ class Windows:
         )
 
     def go_to(self, steps: Steps, previous: PlannedWindow, step: int) -> None:
-        """Moves `steps` to a later step, with the tree that the program gives of that moment.
-        Refused if these tools, which apply the operations themselves, have another tree there;
-        `steps` has moved then. ProgramFault, before it moves, if the program gives no tree."""
+        """Moves `steps` to a later step of the window `previous` or to its end, with the tree that
+        the program gives of that moment. Refused if these tools, which apply the operations
+        themselves, have another tree there: then `steps` has moved. ProgramFault if the program
+        gives no tree: then it hasn't."""
         prefix = self.session.places[step] - previous.planned.offsets.operations
         words = [*previous.planned.parts[0].options, '--state', str(prefix)]
         start_tree = self.planner.program.tree_with_root(words, self.planner.guard.environment)
@@ -247,8 +243,8 @@ class Windows:
 
     def note_cut_off(self, previous: PlannedWindow, next_place: int) -> None:
         """Adds to cut_off the lines of the micro-operations that are pending at the end of
-        `previous` and come before next_place, where the next window begins. A line may be added
-        several times."""
+        `previous` and come before next_place, the session's place where the next window begins. A
+        line may be added several times."""
         operations = previous.planned.plan.operations
         for place in previous.pending:
             if operations[place].place < next_place:
@@ -257,21 +253,28 @@ class Windows:
 
 
 def windows_of(planner: Planner, options: Options, text: str) -> Windows:
-    """The windows of the session in a trace's text: of at most options.window micro-operations
-    each, or else LARGEST. Refused if a line of the trace has a fault."""
+    """The windows of the session in a trace's text, each of at most options.window
+    micro-operations, or of LARGEST if that is None. Nothing is planned yet. Refused if a line of
+    the trace has a fault."""
     return Windows(planner, Session(options.trace or '', text), options.window or LARGEST)
 
 
+def pending_places(plan: Plan, durable_set: int) -> List[int]:
+    """The places of a plan, ascending, that aren't in the set of what is durable at its end;
+    without those of acknowledged lines."""
+    return list(places_of(plan.needs.full & ~plan.say_places & ~durable_set))
+
+
 def remove_files(planned: PlannedTrace) -> None:
-    """Removes the trace and the picks of a window: they may be large, and there may be many
-    windows. FileNotFoundError if one is gone; the later ones stay then."""
+    """Removes the files of a window, its trace and its picks: these may be large, and there may be
+    many windows. FileNotFoundError if a file is gone: the further ones stay then."""
     for path in planned.files():
         os.unlink(path)
 
 
 def with_probe(text: str) -> str:
-    """The text of a trace with one more file at the start, and a last line that changes its length.
-    No path of the trace has the file's name."""
+    """The text of a trace with one more file at the start, and with a last line that changes the
+    length of this file. No path of the trace begins with the file's path."""
     header, _, other_lines = text.partition('\n')
     name = '/probe'
     while f'"{name}' in other_lines:
@@ -285,6 +288,6 @@ def with_probe(text: str) -> str:
 
 def write_text(path: str, text: str) -> None:
     """Writes a text into the file at a path, in place of what it has. OSError if it can't be
-    written."""
+    written: a part may be."""
     with open(path, 'w', **TEXT) as file:
         file.write(text)
