@@ -92,8 +92,8 @@ def calls_in_order(calls: List[Call]) -> List[Tuple[int, Call]]:
 
 def is_change(call: Call) -> bool:
     """Whether a call, also one that failed, is of a kind that changes bytes, names or rights, or
-    sends bytes. setxattr is, as an access control list sets the mode. No open is, though it may
-    make or truncate a file."""
+    sends bytes. Each setxattr is, as an access control list sets the mode. No open is, though an
+    open may make or truncate a file."""
     return call.name in CHANGES
 
 
@@ -115,24 +115,24 @@ class ChangeIndex:
         self.short_lines = [call.begin for call in self.short_changes]
 
     def changes_during(self, sync: Call) -> List[Call]:
-        """The changes that may_cover_concurrent() accepts for a sync: those of other threads that
-        ran at the same time, at least in part, and that it may cover. LogError as there."""
+        """The changes that a sync may cover, though they ran at the same time, at least in part, in
+        other threads. LogError as in may_cover_concurrent_change()."""
         begin = bisect.bisect_left(self.short_lines, sync.begin)
         end = bisect.bisect_right(self.short_lines, sync.end)
         changes = self.short_changes[begin:end] + self.long_changes
-        return [change for change in changes if may_cover_concurrent(sync, change)]
+        return [change for change in changes if may_cover_concurrent_change(sync, change)]
 
 
-def may_cover_concurrent(sync: Call, change: Call) -> bool:
-    """Whether a change of another thread ran at the same time as a sync, which may cover it. A sync
-    of everything, or of an unknown path, may cover each change of a file; each sync may cover a
-    change of unknown paths. LogError if an argument isn't as strace writes it."""
+def may_cover_concurrent_change(sync: Call, change: Call) -> bool:
+    """Whether a sync ran at the same time as a change of another thread, and may cover the change.
+    A sync of everything, or of an unknown path, may cover each change of a file; each sync may
+    cover a change of unknown paths. LogError if an argument isn't as strace writes it."""
     if sync.thread == change.thread or sync.end < change.begin or change.end < sync.begin:
         return False
-    synced, changed = synced_path(sync), changed_paths(change)
-    if synced is None or changed is None:
-        return changed != set()
-    return synced in changed
+    path, paths = synced_path(sync), changed_paths(change)
+    if path is None or paths is None:
+        return paths != set()
+    return path in paths
 
 
 def order_sync_and_changes(sync: Call, changes: List[Call], moments: Dict[int, Moment]) -> None:

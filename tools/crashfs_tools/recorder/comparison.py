@@ -55,7 +55,7 @@ class ProgramReader(LastStateReader):
 
     def read_entries(self) -> Entries:
         """The entries of the last state that the program writes, without the root. ProgramFault if
-        it refuses the trace or can't be started."""
+        the program refuses the trace or can't be started."""
         number = self.program.count_states(self.trace_path, with_holes=False) - 1
         return self.program.tree_of_state(self.trace_path, number)
 

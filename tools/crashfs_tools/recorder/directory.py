@@ -25,9 +25,9 @@ NEWEST = 4
 class Scan:
     """The entries of a directory, each after its own directory. links has the first path of a file
     by each of its further paths. omissions has the path of each entry that no trace can have, with
-    the reason. notes has paths with what else no trace has of them, which changes no verdict on a
-    crash state. By path, extra_mode_bits has the bits of modes beyond 777, and attributes the
-    extended attributes, of the entries that have some."""
+    the reason. notes has the path of each entry of which a trace lacks something that changes no
+    verdict on a crash state, with what it lacks. By path, extra_mode_bits has the bits of modes
+    beyond 777, and attributes the extended attributes, of the entries that have some."""
 
     header: Header
     entries: List[ScannedEntry] = field(default_factory=list)
@@ -95,8 +95,8 @@ class Scanner:
 
     def scan_below(self, parent: str) -> None:
         """Adds the entries of a directory that aren't ignored, in the order of their names, and
-        what is below them. `parent` is its path in the scan, but empty for the root. OSError as in
-        scan_all()."""
+        what is below them. `parent` is the directory's path in the scan, but empty for the root.
+        OSError as in scan_all()."""
         with os.scandir(self.top + parent) as listed:
             names = sorted(entry.name for entry in listed)
         for name in names:

@@ -23,8 +23,8 @@ class Rule:
     @staticmethod
     def parse(pattern: str) -> Rule:
         """The rule of a pattern; ValueError for one that never matches in git, such as `[a`. A
-        pattern without a slash, or with one only at its end, matches at any depth. Blanks, and a
-        `#` at the beginning, are ordinary characters."""
+        pattern without a slash, or with one only at its end, matches at any depth; any other
+        matches whole paths. Blanks, and a `#` at the beginning, are ordinary characters."""
         is_negated = pattern.startswith('!')
         body = pattern[1:] if is_negated else pattern
         is_of_directories = body.endswith('/')

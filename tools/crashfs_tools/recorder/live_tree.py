@@ -116,9 +116,9 @@ class Node:
         self.data = None
 
     def write(self, offset: int, data: bytes) -> None:
-        """Writes bytes at an offset. The file gets longer if they end past its end, also if there
-        are none, but their offset is past its end. Only the size changes if the file's bytes aren't
-        followed, or if resize() stops following them."""
+        """Writes bytes at an offset. The file gets longer if their end, or their offset if there
+        are none, is past its end. Only the size changes if the file's bytes aren't followed, or if
+        resize() stops following them."""
         self.resize(max(self.size, offset + len(data)))
         if self.data is not None:
             self.data.write(offset, data)

@@ -56,8 +56,8 @@ class LogStream:
         line_filter: Optional[LogFilter] = None,
     ) -> None:
         """Makes the pipe in the folder, and the file that keeps the log (None: no file). OSError if
-        one of them can't be made. mapped_files is None without --mapped; without a filter all lines
-        are in the log. Nothing is read before start()."""
+        one of them can't be made; then the pipe may be left. mapped_files is None without --mapped;
+        without a filter all lines are in the log. Nothing is read before start()."""
         self.pipe = os.path.join(folder, 'log')
         os.mkfifo(self.pipe)
         self.kept_log = None if keep_path is None else create_log(keep_path)

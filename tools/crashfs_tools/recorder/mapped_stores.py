@@ -57,10 +57,10 @@ def call_after_stores(
 
 
 def add_stores(files: LiveFiles, node: Node, data: Bytes, *, has_one_writer: bool) -> None:
-    """Adds the stores that a copy of a mapped file shows: a write, for each page that differs, of
-    the range that differs. If has_one_writer is False, others may have made the stores, which is
-    reported. A copy whose length isn't the file's is only reported. Nothing if the file's bytes
-    aren't followed."""
+    """Adds the stores that a copy of a mapped file shows, whose bytes are `data`: a write, for each
+    page that differs, of the range that differs. If has_one_writer is False, other threads may have
+    made the stores, which is reported. A copy whose length isn't the file's is only reported.
+    Nothing if the file's bytes aren't followed."""
     if node.data is None:
         return
     if len(data) != node.size:
