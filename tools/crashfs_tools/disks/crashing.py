@@ -42,7 +42,7 @@ class CrashMaker:
         self, filesystem: FileSystem, trace: Trace, folder: str, line_numbers: Sequence[int] = ()
     ) -> None:
         """line_numbers are those of the operations' lines in the trace. By default they follow
-        those of the start, without empty lines in between."""
+        those of the start lines, as in a trace without empty lines."""
         first_line = len(trace.start) + 2
         self.line_numbers = line_numbers or range(first_line, first_line + len(trace.operations))
         self.filesystem = filesystem
@@ -51,14 +51,13 @@ class CrashMaker:
         self.folder = folder
 
     def process_path(self, name: str) -> str:
-        """The path of this process's image or mount point of a name, in the folder: each process
-        has its own."""
+        """The path, in the folder, of this process's own image or mount point with a name."""
         return os.path.join(self.folder, f'{self.filesystem.name}.{name}.{os.getpid()}')
 
     def start_image(self) -> str:
         """The path of this process's image of the start tree, which the first call makes. Processes
-        can't share one: XFS and btrfs don't mount two copies of a file system at once. After an
-        error no image is left, and the next call makes it again."""
+        can't share an image: XFS and btrfs don't mount two copies of a file system at once. After
+        an error no image is left, and the next call makes it again."""
         image = self.process_path('start')
         if not os.path.exists(image):
             try:
@@ -69,8 +68,8 @@ class CrashMaker:
         return image
 
     def make_start_image(self, image: str) -> None:
-        """Makes a new image of the start tree. FileExistsError if the image is there. After an
-        error one without the whole tree may be left."""
+        """Makes a new image of the start tree. FileExistsError if the image is there. Any other
+        error may leave an image without the whole tree."""
         images.make_image(self.filesystem, image)
         with images.mounted_image(self.filesystem, image, self.process_path('point')) as top:
             lay_out_start(self.trace, os.path.join(top, DIRECTORY), self.owners)
@@ -84,23 +83,26 @@ class CrashMaker:
         self, moment: Moment, flush_kinds: Sequence[FlushKind]
     ) -> Iterator[Tuple[Entries, Crash]]:
         """The tree that a crash at a moment leaves, with each possible flush of these kinds; some
-        may be equal. For each the session is made again, when it is asked for, and once before the
-        first, without a flush, to find the unsynced changes: that tree is only yielded if NOTHING
-        is among the kinds."""
+        may be equal. The session is made again for each tree, when that is asked for, and once more
+        before the first, without a flush, to find the unsynced changes: the tree of this run is
+        yielded first if NOTHING is among the kinds."""
         unsynced = self.crash(moment, Flush(FlushKind.NOTHING))
         if FlushKind.NOTHING in flush_kinds:
             yield self.tree_after_crash(), Crash(moment, FlushKind.NOTHING)
-        for kind in flush_kinds:
-            if kind is FlushKind.NOTHING:
-                continue
-            for flush in possible_flushes(kind, unsynced, moment.operation_count):
-                self.crash(moment, flush)
-                yield self.tree_after_crash(), Crash(moment, kind)
+        flushes = (
+            flush
+            for kind in flush_kinds
+            if kind is not FlushKind.NOTHING
+            for flush in possible_flushes(kind, unsynced, moment.operation_count)
+        )
+        for flush in flushes:
+            self.crash(moment, flush)
+            yield self.tree_after_crash(), Crash(moment, flush.kind)
 
     def crash(self, moment: Moment, flush: Flush) -> Unsynced:
         """Makes the session up to a moment, makes a flush, and copies the disk while it is mounted:
-        the copy, which replaces the one before, is what the crash leaves. Returns the changes that
-        no sync covered before the flush."""
+        the copy, which replaces an earlier one, is what the crash leaves. Returns the changes of
+        each file that no sync covered before the flush."""
         disk = self.process_path('disk')
         images.copy_image(self.start_image(), disk)
         with images.mounted_image(self.filesystem, disk, self.process_path('point')) as top:
@@ -114,16 +116,15 @@ class CrashMaker:
         return unsynced
 
     def tree_after_crash(self) -> Entries:
-        """The session's directory, as `/`, on the copy that the last crash() of this process left:
-        there must have been one. The copy changes: it is repaired, and its mount replays the file
-        system's log."""
+        """The session's directory, as `/`, on the copy that this process's last crash() left;
+        crash() must have been called. The copy is changed: it is repaired, and its mount replays
+        the file system's log."""
         copy = self.process_path('copy')
         images.repair_image(self.filesystem, copy)
         with images.mounted_image(self.filesystem, copy, self.process_path('point')) as top:
             return read_tree(os.path.join(top, DIRECTORY), self.owners)
 
     def remove_images(self) -> None:
-        """Removes the images that this process has made, as far as there are any. Mount points
-        stay."""
+        """Removes the images that this process has made, if there are any. Mount points stay."""
         for name in ('start', 'disk', 'copy'):
             Path(self.process_path(name)).unlink(missing_ok=True)

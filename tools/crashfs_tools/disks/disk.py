@@ -49,17 +49,22 @@ def read_tree(top: str, owners: Owners) -> Entries:
     """Reads the tree below a directory, which is `/` in it, sorted by path. Symbolic links aren't
     followed. A directory that can't be listed counts as empty; any other error is an OSError."""
     tree: Entries = {'/': read_entry(top, owners)}
-    for folder, folder_names, file_names in os.walk(top):
-        tree_folder = folder[len(top) :]
-        for name in [*folder_names, *file_names]:
-            tree[f'{tree_folder}/{name}'] = read_entry(os.path.join(folder, name), owners)
+    for path in paths_below(top):
+        tree[path] = read_entry(top + path, owners)
     return dict(sorted(tree.items()))
+
+
+def paths_below(top: str) -> Iterator[str]:
+    """The paths of all that is below a directory, from there on, each with a slash in front. A
+    directory that can't be listed counts as empty."""
+    for folder, folder_names, file_names in os.walk(top):
+        yield from (f'{folder[len(top) :]}/{name}' for name in (*folder_names, *file_names))
 
 
 def read_entry(path: str, owners: Owners) -> Entry:
     """Reads a directory, a file with its bytes, or a symbolic link with its target. Of its mode
-    only the permission bits are kept. A user or group that the trace doesn't name is the digits of
-    its number. OSError if something can't be read."""
+    only the permission bits are kept. A user or group that the trace doesn't name is shown by the
+    digits of its number. OSError if something can't be read."""
     status = os.lstat(path)
     user, group = owners.users.name(status.st_uid), owners.groups.name(status.st_gid)
     entry = Entry(user, group, status.st_mode & 0o777, None)
@@ -75,20 +80,20 @@ def read_entry(path: str, owners: Owners) -> Entry:
 
 
 def digest_of(tree: Entries) -> str:
-    """A digest of a tree: equal for equal trees, in whatever order their paths are and however
-    their bytes are kept, and different for different ones."""
+    """A digest of a tree: equal trees have equal digests, in whatever order their paths are and
+    however their bytes are kept; different trees have different ones."""
     digest = hashlib.sha256()
-    for path in sorted(tree):
-        for piece in digested_pieces(path, tree[path]):
-            digest.update(len(piece).to_bytes(8, 'little'))
-            digest.update(piece)
+    for piece in (piece for path in sorted(tree) for piece in digested_pieces(path, tree[path])):
+        digest.update(len(piece).to_bytes(8, 'little'))
+        digest.update(piece)
     return digest.hexdigest()
 
 
 def digested_pieces(path: str, entry: Entry) -> Iterator[bytes]:
-    """The pieces of an entry that a digest is made from: its path, its rights and its content. That
-    begins with a letter, l for a link's target, f for a file's bytes, and s for a large file, of
-    which only the pages with data count, with their numbers: zeros may be kept as holes or not."""
+    """The pieces of an entry that a digest is made from: its path, its rights and its content,
+    which is empty for a directory. The content begins with a letter: l for a link's target, f for a
+    file's bytes, s for a large file, which has pieces only for pages with data, after their
+    numbers: zeros may be kept as holes or not."""
     yield os.fsencode(path)
     yield f'{entry.owner}\0{entry.group}\0{entry.mode:o}'.encode('utf-8', 'surrogateescape')
     if entry.link is not None:
@@ -104,9 +109,9 @@ def digested_pieces(path: str, entry: Entry) -> Iterator[bytes]:
 
 
 def different_disks(crashed_trees: Iterator[Tuple[Entries, Crash]]) -> List[Disk]:
-    """The different trees that crashes left, each with all its crashes and with the digest that
-    they share; of equal trees the first is kept. Trees are in the order of their first crashes, and
-    crashes in that of `crashed_trees`."""
+    """The different trees that crashes left, each with its digest and with all crashes that left it
+    or an equal tree; of equal trees the first is kept. Trees are in the order of their first
+    crashes, and crashes in that of `crashed_trees`."""
     disks: Dict[str, Disk] = {}
     for tree, crash in crashed_trees:
         digest = digest_of(tree)

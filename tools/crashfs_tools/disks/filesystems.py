@@ -52,19 +52,24 @@ class FileSystem:
         """The file system's type, as mount(2) takes it."""
         return self.program.partition('.')[2]
 
+    @property
+    def programs(self) -> Tuple[str, ...]:
+        """The names of the programs that make and repair its images; mount(2) needs none."""
+        return (self.program, *self.repair[:1], *PROGRAMS)
+
 
 EXT4 = FileSystem('ext4', 'mkfs.ext4', (*EXT_BLOCKS, '-J', 'size=4', *LAZY), 24 * MEBIBYTE)
 
 
 def ext4_with(name: str, options: str) -> FileSystem:
-    """ext4 with other options, as the data of mount(2), and another name."""
+    """ext4 with another name and with these options, the data of mount(2)."""
     return FileSystem(name, EXT4.program, EXT4.words, EXT4.size, options)
 
 
 # The file systems of --disks, by name.
 KNOWN: Dict[str, FileSystem] = {
-    one.name: one
-    for one in (
+    filesystem.name: filesystem
+    for filesystem in (
         EXT4,
         ext4_with('ext4-writeback', 'data=writeback'),
         ext4_with('ext4-nodelalloc', 'nodelalloc'),
@@ -82,17 +87,17 @@ NAME_MAKERS = (Creat, Mkdir, Link, Symlink)
 
 def with_room_for(filesystem: FileSystem, session_bytes: int) -> FileSystem:
     """The file system with images that have room for a session of so many bytes. Each byte above
-    USUAL_BYTES takes two, rounded up to whole MiB, since a file system may keep a file's old bytes
-    until the new ones are committed."""
+    USUAL_BYTES adds two to the size, rounded up to whole MiB, since a file system may keep a file's
+    old bytes until the new ones are committed."""
     extra_bytes = max(0, session_bytes - USUAL_BYTES)
     return replace(filesystem, size=filesystem.size + -(-2 * extra_bytes // MEBIBYTE) * MEBIBYTE)
 
 
 def most_session_bytes(trace: Trace) -> int:
-    """How many bytes on a disk a session takes at most: those of the files of the start tree and of
-    each write, with two pages more for each of these runs, in which it begins and ends; and a page
-    for each name that the start tree has or that is made, with its inode. Truncates count nothing:
-    they make holes."""
+    """How many bytes on a disk a session takes at most: the bytes of each file of the start tree
+    and of each write, with two pages more for each run of them, in which the run begins and ends;
+    and a page for each name that the start tree has or that is made, with its inode. Truncates add
+    nothing: they make holes."""
     sizes = [len(run) for line in trace.start for run in start_runs(line)]
     sizes += [len(operation.data) for operation in trace.operations if isinstance(operation, Write)]
     new_names = sum(isinstance(operation, NAME_MAKERS) for operation in trace.operations)
@@ -101,8 +106,8 @@ def most_session_bytes(trace: Trace) -> int:
 
 
 def start_runs(line: StartLine) -> List[bytes]:
-    """The bytes of a start line's file, in runs, without holes if it has them. Empty if the line
-    isn't a file."""
+    """The bytes of a start line's file, in runs that leave out its holes. Empty if the line isn't a
+    file."""
     if not isinstance(line, Start) or line.data is None:
         return []
     if isinstance(line.data, SparseBytes):
@@ -138,8 +143,8 @@ def missing_requirement(filesystems: Sequence[FileSystem]) -> Optional[str]:
         return mounts_fault
     if not os.path.exists(LOOP_CONTROL):
         return f'it needs loop devices ({LOOP_CONTROL} is missing)'
-    for filesystem in filesystems:
-        for program in (filesystem.program, *filesystem.repair[:1], *PROGRAMS):
-            if shutil.which(program) is None:
-                return f'{filesystem.name} needs {program}, which is not installed'
+    needs = ((filesystem.name, name) for filesystem in filesystems for name in filesystem.programs)
+    for filesystem_name, program in needs:
+        if shutil.which(program) is None:
+            return f'{filesystem_name} needs {program}, which is not installed'
     return None

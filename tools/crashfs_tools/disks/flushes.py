@@ -44,13 +44,12 @@ class Flush(NamedTuple):
 
 def possible_flushes(kind: FlushKind, unsynced: Unsynced, operation_count: int) -> Iterator[Flush]:
     """The flushes of a kind, after so many operations, that may write something which no other
-    flush does. ONE has one for each file with unsynced bytes, but none for a single file, as BOTH
-    is the same. EARLIER has those of earlier_changes(). Other kinds have one, but BYTES and BOTH
-    none without unsynced bytes."""
+    flush does. ONE has a flush for each file with unsynced bytes, but none for a single file, as
+    BOTH is the same. EARLIER has a flush for each of earlier_changes(). Other kinds have one, but
+    without unsynced bytes BYTES and BOTH have none."""
     if kind is FlushKind.ONE:
-        yield from (
-            Flush(kind, file_place) for file_place in range(len(unsynced)) if len(unsynced) > 1
-        )
+        file_count = len(unsynced) if len(unsynced) > 1 else 0
+        yield from (Flush(kind, file_place) for file_place in range(file_count))
     elif kind is FlushKind.EARLIER:
         yield from (
             Flush(kind, change=change) for change in earlier_changes(unsynced, operation_count)
@@ -60,9 +59,9 @@ def possible_flushes(kind: FlushKind, unsynced: Unsynced, operation_count: int) 
 
 
 def earlier_changes(unsynced: Unsynced, operation_count: int) -> List[UnsyncedChange]:
-    """The changes after which EARLIER may write a file: all but the last one of each file that the
-    last operation didn't change, at most the MOST_EARLIER latest. Empty if that operation changed
-    no file: then nothing new in other files would be written last."""
+    """The changes after which EARLIER may write a file: of each file that the last operation didn't
+    change all but the file's last change, and of all these at most the MOST_EARLIER latest. Empty
+    if the last operation changed no file: then nothing new in other files would be written last."""
     if not any(changes[-1].operation_count == operation_count for changes in unsynced):
         return []
     other_files = [
@@ -72,18 +71,18 @@ def earlier_changes(unsynced: Unsynced, operation_count: int) -> List[UnsyncedCh
 
 
 def flush_earlier_file(replay: Replay, flush: Flush) -> None:
-    """Makes the kernel write the file of a flush of EARLIER, if the replay's last operation is its
-    change. Otherwise, and for other kinds, nothing happens. To be called after each operation.
-    OSError if it fails."""
+    """To be called after each operation: if the replay's last operation is the change of a flush of
+    EARLIER, it makes the kernel write the change's file. Otherwise, and for other kinds, nothing
+    happens. OSError if the file can't be written."""
     if flush.change is not None and flush.change.operation_count == replay.operation_count:
         replay.write_back(replay.inode(flush.change.path))
 
 
 def make_flush(replay: Replay, flush: Flush, log_file: str) -> None:
     """Makes the kernel write what a flush writes at the crash: with EARLIER the files that
-    flush_earlier_file() didn't write; with DIRECTORY only the session's top is synced. `log_file`
-    is the path of a file on the same file system that isn't the session's: its fsync writes the
-    log. OSError if anything fails."""
+    flush_earlier_file() didn't write; with DIRECTORY it only syncs the session's top. `log_file` is
+    the path of a file on the same file system that isn't the session's: its fsync writes the log.
+    OSError if anything fails."""
     kind = flush.kind
     if kind in (FlushKind.BYTES, FlushKind.BOTH, FlushKind.ONE, FlushKind.EARLIER):
         for inode in files_to_flush(replay, flush):
@@ -95,15 +94,15 @@ def make_flush(replay: Replay, flush: Flush, log_file: str) -> None:
 
 
 def files_to_flush(replay: Replay, flush: Flush) -> List[int]:
-    """The inodes of the files whose bytes a flush writes at the crash: those with unsynced bytes,
-    but only one of them for ONE, and for EARLIER all except the one that was written before."""
+    """The inodes of the files whose bytes a flush writes at the crash: all with unsynced bytes; for
+    ONE only one of them, and for EARLIER all but the file that was written before."""
     inodes = [inode for inode, changes in replay.unsynced.items() if flush.change not in changes]
     return inodes if flush.file_place is None else inodes[flush.file_place : flush.file_place + 1]
 
 
 def write_log(log_file: str) -> None:
-    """Makes the file system write its log, by a change and an fsync of a file, which is made if it
-    isn't there. OSError if that fails."""
+    """Makes the file system write its log: changes a file, which is made if it isn't there, and
+    syncs it. OSError if that fails."""
     descriptor = os.open(log_file, os.O_RDWR | os.O_CREAT | os.O_CLOEXEC, 0o600)
     try:
         os.pwrite(descriptor, os.urandom(8), 0)

@@ -25,8 +25,9 @@ libc = ctypes.CDLL(None, use_errno=True)
 
 
 def make_image(filesystem: FileSystem, image: str) -> None:
-    """Makes an empty file system in a new image. FileExistsError if the image is there; Refused if
-    the file system's program fails, OSError if it isn't there: then the image stays."""
+    """Makes an empty file system in a new image. FileExistsError if the image is there. Refused if
+    the file system's program fails, OSError if that isn't installed: in both cases the image
+    stays."""
     with open(image, 'xb') as file:
         file.truncate(filesystem.size)
     run_program([filesystem.program, *filesystem.words, image])
@@ -34,16 +35,16 @@ def make_image(filesystem: FileSystem, image: str) -> None:
 
 def dig_holes(image: str) -> None:
     """Turns the zeros in an image, such as those of a new log, into holes, so that copies are
-    faster. Refused if that fails, OSError if `fallocate` isn't there."""
+    faster. Refused if that fails, OSError if `fallocate` isn't installed."""
     run_program(['fallocate', '--dig-holes', image])
 
 
 @contextmanager
 def mounted_image(filesystem: FileSystem, image: str, mount_point: str) -> Iterator[str]:
     """Within this an image is mounted at a directory, which is made if it isn't there, and stays.
-    Yields the directory's path. The loop device is free again after the unmount. Refused if no
-    device is free or the image can't be mounted; OSError if it can't be opened, or as unmount()
-    raises it at the end."""
+    Yields the directory's path. After the unmount the loop device is free again. Refused if no
+    device is free, or if the image can't be mounted. OSError if the image can't be opened, and at
+    the end as unmount()."""
     os.makedirs(mount_point, exist_ok=True)
     with attached_loop_device(image) as device:
         mount(filesystem, device, mount_point)
@@ -55,7 +56,7 @@ def mounted_image(filesystem: FileSystem, image: str, mount_point: str) -> Itera
 
 def mount(filesystem: FileSystem, device: str, mount_point: str) -> None:
     """Mounts a device with the file system's options. Refused if it can't be mounted. It makes the
-    system call itself: the program `mount` takes four times as long."""
+    system call itself, since the program `mount` takes four times as long."""
     words = [
         os.fsencode(word) for word in (device, mount_point, filesystem.kind, filesystem.options)
     ]
@@ -65,9 +66,9 @@ def mount(filesystem: FileSystem, device: str, mount_point: str) -> None:
 
 
 def unmount(mount_point: str) -> None:
-    """Unmounts what is mounted at a directory. While that is in use, it tries up to UMOUNT_TRIES
-    times, with UMOUNT_SECONDS after each: the kernel may use it for a moment longer. OSError if it
-    is in use even then, or if nothing is mounted there."""
+    """Unmounts what is mounted at a directory. While it is in use, this tries up to UMOUNT_TRIES
+    times, and waits for UMOUNT_SECONDS after each: the kernel may use it for a moment longer.
+    OSError if it is in use even then, or if nothing is mounted there."""
     for _ in range(UMOUNT_TRIES):
         if libc.umount2(os.fsencode(mount_point), 0) == 0:
             return
@@ -78,24 +79,28 @@ def unmount(mount_point: str) -> None:
 
 
 def copy_image(source: str, target: str) -> None:
-    """Copies an image to a path, and replaces the bytes of a file that is there. Holes stay holes.
+    """Copies an image to a path; the bytes of a file that is there are replaced. Holes stay holes.
     After an OSError a part of the copy is left."""
     with open(source, 'rb') as source_file, open(target, 'wb') as target_file:
         size = os.fstat(source_file.fileno()).st_size
         target_file.truncate(size)
         for offset, end in data_ranges(source_file.fileno(), size):
-            os.lseek(source_file.fileno(), offset, os.SEEK_SET)
-            os.lseek(target_file.fileno(), offset, os.SEEK_SET)
-            while offset < end:
-                offset += os.sendfile(
-                    target_file.fileno(), source_file.fileno(), None, min(end - offset, PIECE_BYTES)
-                )
+            copy_range(source_file.fileno(), target_file.fileno(), offset, end)
+
+
+def copy_range(source: int, target: int, offset: int, end: int) -> None:
+    """Copies the bytes from an offset to before `end` of an open file to the same place of another
+    one. The offsets of both descriptors change. OSError if one can't be read or written."""
+    os.lseek(source, offset, os.SEEK_SET)
+    os.lseek(target, offset, os.SEEK_SET)
+    while offset < end:
+        offset += os.sendfile(target, source, None, min(end - offset, PIECE_BYTES))
 
 
 def repair_image(filesystem: FileSystem, image: str) -> None:
-    """Repairs an image after a crash, if its file system has no log and so can't be mounted before;
-    otherwise nothing is done, since the mount replays the log. Refused if it can't be repaired,
-    OSError if the program isn't there."""
+    """Repairs an image after a crash, if its file system has no log and so can't be mounted before.
+    For any other nothing is done, since the mount replays the log. Refused if the image can't be
+    repaired, OSError if the program isn't installed."""
     if filesystem.repair:
         run_program([*filesystem.repair, image], highest_status=REPAIRED)
 

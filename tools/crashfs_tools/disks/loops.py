@@ -54,9 +54,9 @@ def open_loop_device(image: str) -> Tuple[int, str]:
 
 
 def open_with_image(device_path: str, image_fd: int) -> Optional[int]:
-    """Opens a loop device and attaches an open image to it, which may be closed then. Returns the
-    device's descriptor; None if another process has taken the device. Any other fault is an
-    OSError, also that Linux is older than 5.8."""
+    """Opens a loop device and attaches an open image to it; the image may be closed after that.
+    Returns the device's descriptor, which the caller closes; None if another process has taken the
+    device. Any other fault is an OSError, also that Linux is older than 5.8."""
     device_fd = os.open(device_path, os.O_RDWR | os.O_CLOEXEC)
     try:
         fcntl.ioctl(device_fd, LOOP_CONFIGURE, CONFIG.pack(image_fd, 0, AUTOCLEAR))

@@ -8,9 +8,9 @@ from crashfs_tools.common.trace import Operation, Say
 
 
 class Moment(NamedTuple):
-    """A moment of a session after its first operations, so many as operation_count says. Then from
-    least_says to most_says lines may be acknowledged. `line` is the number of the last operation's
-    line in the trace, 0 before the first."""
+    """A moment of a session, after its first `operation_count` operations. From least_says to
+    most_says lines may be acknowledged then. `line` is the number of the last operation's line in
+    the trace; 0 before the first operation."""
 
     operation_count: int
     least_says: int
@@ -25,16 +25,14 @@ class Moment(NamedTuple):
 
 def crash_moments(operations: List[Operation], line_numbers: Sequence[int]) -> Iterator[Moment]:
     """The moments at which the disk may differ, from the start to the end: the start, and one after
-    each operation that isn't a say. A say changes nothing on the disk: those that follow an
-    operation, or the start, are in its moment. `line_numbers` has the number of each operation's
+    each operation that isn't a say. Says change nothing on the disk: those that follow an
+    operation, or the start, belong to its moment. `line_numbers` has the number of each operation's
     line."""
-    operation_count = say_count = 0
-    while True:
-        made_count, least_says = operation_count, say_count
-        while operation_count < len(operations) and isinstance(operations[operation_count], Say):
-            operation_count, say_count = operation_count + 1, say_count + 1
-        line = line_numbers[made_count - 1] if made_count else 0
-        yield Moment(made_count, least_says, say_count, line)
-        if operation_count >= len(operations):
-            return
-        operation_count += 1
+    moment = Moment(operation_count=0, least_says=0, most_says=0, line=0)
+    for count, (operation, line) in enumerate(zip(operations, line_numbers), 1):
+        if isinstance(operation, Say):
+            moment = moment._replace(most_says=moment.most_says + 1)
+        else:
+            yield moment
+            moment = Moment(count, moment.most_says, moment.most_says, line)
+    yield moment
