@@ -92,8 +92,8 @@ def digest_of(tree: Entries) -> str:
 def digested_pieces(path: str, entry: Entry) -> Iterator[bytes]:
     """The pieces of an entry that a digest is made from: its path, its rights and its content,
     which is empty for a directory. The content begins with a letter: l for a link's target, f for a
-    file's bytes, s for a large file, which has pieces only for pages with data, after their
-    numbers: zeros may be kept as holes or not."""
+    file's bytes, s for a large file. Of that only the pages with data count, each with its number:
+    zeros may be kept as holes or not."""
     yield os.fsencode(path)
     yield f'{entry.owner}\0{entry.group}\0{entry.mode:o}'.encode('utf-8', 'surrogateescape')
     if entry.link is not None:

@@ -6,7 +6,9 @@ import os
 from enum import Enum
 from typing import Iterator, List, NamedTuple, Optional, Sequence
 
-from .replay import UnsyncedChange, Replay, sync_directory
+from crashfs_tools.common.whole_files import sync_directory
+
+from .replay import UnsyncedChange, Replay
 
 # At most so many earlier changes are tried at a moment: the last ones.
 MOST_EARLIER = 8

@@ -26,7 +26,7 @@ def use_own_mounts() -> None:
 
 def own_mounts_fault() -> Optional[str]:
     """Why a process can't have mounts of its own here, in words; None if it can. A forked child
-    tries it: the mounts of this process stay as they are. OSError if the system can't fork."""
+    tries it, so the mounts of this process stay as they are. OSError if the system can't fork."""
     with stop_signals_blocked():
         child = os.fork()
         if child == 0:
@@ -41,8 +41,8 @@ def own_mounts_fault() -> Optional[str]:
 
 def unshare_mounts() -> int:
     """Gives this process its own copy of all mounts: changes of the copy aren't seen outside, nor
-    changes outside in the copy. Returns 0, or the error number of the call that failed: then it may
-    have the copy, but changes are still shared."""
+    changes outside in the copy. Returns 0, or the error number of the call that failed: then the
+    process may have the copy, but changes are still shared."""
     if libc.unshare(CLONE_NEWNS) or libc.mount(None, b'/', None, MS_REC | MS_PRIVATE, None):
         return ctypes.get_errno()
     return 0

@@ -22,18 +22,18 @@ FIRST_UNKNOWN = 200_000
 
 
 class Numbers:
-    """The numbers of users, or of groups. A name keeps the first number that it gets."""
+    """The numbers of users, or of groups. A name keeps the first number that it is given."""
 
     def __init__(self, is_for_groups: bool) -> None:
-        """With is_for_groups they are numbers of groups, else of users. No name has a number
+        """With is_for_groups they are numbers of groups, otherwise of users. No name has a number
         yet."""
         self.is_for_groups = is_for_groups
         self.numbers: Dict[str, int] = {}
         self.names: Dict[int, str] = {}
 
     def number(self, name: str) -> int:
-        """The number of a name. The first call gives it one: this machine's if it knows the name,
-        else one from FIRST_UNKNOWN on."""
+        """The number of a name. The first call for a name gives it one: the number that this
+        machine's accounts have for it, or else the next one from FIRST_UNKNOWN on."""
         if name not in self.numbers:
             self.numbers[name] = self.new_number(name)
             self.names.setdefault(self.numbers[name], name)
@@ -41,24 +41,24 @@ class Numbers:
 
     def new_number(self, name: str) -> int:
         """A number for a name that has none. Only number() stores it: until then another unknown
-        name would get the same."""
+        name would get the same one."""
         try:
             return grp.getgrnam(name).gr_gid if self.is_for_groups else pwd.getpwnam(name).pw_uid
         except KeyError:
             return FIRST_UNKNOWN + len(self.numbers)
 
     def name(self, number: int) -> str:
-        """The name that has a number, the first one if several do; if none does, the number's
-        digits."""
+        """The name that has a number, the first one if several have it; if none has it, the
+        number's digits."""
         return self.names.get(number, str(number))
 
 
 class Owners:
     """The numbers of a trace's users and groups. Names get them in the order in which the trace has
-    them, so each process that makes the session again has the same numbers."""
+    the names, so the numbers are the same in each process that makes the session again."""
 
     def __init__(self, trace: Trace) -> None:
-        """Gives each name of the trace its number, for which it reads the system's accounts."""
+        """Gives each name of the trace its number, for which the system's accounts are read."""
         self.users = Numbers(is_for_groups=False)
         self.groups = Numbers(is_for_groups=True)
         for line in (trace.header, *trace.start, *trace.operations):

@@ -44,7 +44,7 @@ class DiskPool:
         flush_kinds: Sequence[FlushKind] = tuple(FlushKind),
         line_numbers: Sequence[int] = (),
     ) -> None:
-        """The folder must be there. Nothing is made or started yet."""
+        """The folder must be there. Nothing is made or started before disks() is called."""
         self.makers = {
             filesystem.name: CrashMaker(filesystem, trace, folder, line_numbers)
             for filesystem in filesystems
@@ -62,8 +62,8 @@ class DiskPool:
     def disks(self, jobs: int, on_step: Callable[[int, int], None]) -> Dict[str, List[Disk]]:
         """The different disks of each file system, by its name, made by up to `jobs` processes.
         on_step is called after each task, with how many tasks are done and how many there are.
-        Refused if an image can't be made or mounted, or if a process was killed; other faults of a
-        process are an OSError or a workers.Fault."""
+        Refused if an image can't be made or mounted, or if a process was killed; any other fault of
+        a process is an OSError or a workers.Fault. After a fault there are no disks."""
         tasks = self.tasks()
         trees_by_name: Dict[str, CrashedTrees] = {name: [] for name in self.makers}
         with DiskWorkers(jobs, partial(become_worker, os.getpid()), self.crash) as workers:
@@ -76,16 +76,16 @@ class DiskPool:
         }
 
     def crash(self, task: Task) -> Tuple[str, CrashedTrees]:
-        """In a worker: the file system's name, and the trees that crashes at the task's moment
-        leave on it."""
+        """In a worker: does a task. Returns the file system's name, and the trees that crashes at
+        the task's moment leave on it."""
         return task.name, list(self.makers[task.name].crashes(task.moment, self.flush_kinds))
 
 
 def become_worker(parent: int) -> None:
     """Makes this process a worker of the process `parent`, which forked it. It ends with the
-    parent, at once if that is gone; ignores SIGINT and SIGHUP; is ended by SIGTERM; has mounts of
-    its own and the umask 0; and may open as many files as its hard limit allows, since a replay
-    keeps files open. Refused if it can't have mounts of its own."""
+    parent, at once if that is gone; it ignores SIGINT and SIGHUP, SIGTERM ends it, its umask is 0,
+    and it may open as many files as its hard limit allows, since a replay keeps files open. Refused
+    if it can't have mounts of its own."""
     _, hard_limit = resource.getrlimit(resource.RLIMIT_NOFILE)
     resource.setrlimit(resource.RLIMIT_NOFILE, (hard_limit, hard_limit))
     for signal_number in (signal.SIGINT, signal.SIGHUP):
@@ -100,5 +100,5 @@ def become_worker(parent: int) -> None:
 
 def crashes_in_order(crashed_trees: CrashedTrees) -> Iterator[Tuple[Entries, Crash]]:
     """The crashes in the order of their moments, and at one moment of their kinds of flushes:
-    workers send them in any order. Those of one kind at one moment stay in theirs."""
+    workers send them in any order. Crashes of one kind at one moment stay in their order."""
     return iter(sorted(crashed_trees, key=lambda pair: (pair[1].moment, pair[1].flush_kind.rank)))

@@ -5,8 +5,7 @@ from __future__ import annotations
 import ctypes
 import mmap
 import os
-from contextlib import contextmanager
-from typing import Any, Callable, Dict, Iterator, List, NamedTuple, Type, Union
+from typing import Any, Callable, Dict, List, NamedTuple, Type, Union
 
 from crashfs_tools.common.sparse import SparseBytes
 from crashfs_tools.common.trace import (
@@ -33,6 +32,7 @@ from crashfs_tools.common.trace import (
     Unlink,
     Write,
 )
+from crashfs_tools.common.whole_files import sync_directory
 
 from .owners import Owners
 
@@ -42,6 +42,9 @@ OPEN_FILE = os.O_RDWR | os.O_NOFOLLOW | os.O_CLOEXEC
 NEW_FILE = OPEN_FILE | os.O_CREAT | os.O_EXCL
 SYNC_FILE_RANGE_WRITE_AND_WAIT = 7
 
+# The lines that make an entry with an owner and a group.
+NewEntry = Union[Creat, Mkdir, Symlink, StartSymlink]
+
 libc = ctypes.CDLL(None, use_errno=True)
 
 
@@ -49,28 +52,40 @@ def lay_out_start(trace: Trace, top: str, owners: Owners) -> None:
     """Makes the start tree of a trace in a new directory, and writes it to the disk.
     FileExistsError if the directory is there; after an OSError a part of the tree is left."""
     os.mkdir(top, NEW_DIRECTORY)
+    make_files_and_directories(trace, top)
+    set_start_rights(trace, top, owners)
+    # They come last: nothing is made through one.
+    symlinks = [line for line in trace.start if isinstance(line, StartSymlink)]
+    for symlink in symlinks:
+        make_symlink(top + symlink.path, symlink, owners)
+    sync_file_system(top)
+
+
+def make_files_and_directories(trace: Trace, top: str) -> None:
+    """Makes the directories and files of the start tree, and their further names, in the directory
+    `top`. OSError if one can't be made."""
     for line in trace.start:
         if isinstance(line, StartLink):
             os.link(top + line.source, top + line.path)
         elif isinstance(line, Start):
             make_entry(top + line.path, line.data)
+
+
+def set_start_rights(trace: Trace, top: str, owners: Owners) -> None:
+    """Sets the owners, groups and modes of the start tree's directories and files in `top`, and of
+    `top` itself: of a directory after what is in it. OSError if one can't be set."""
     entries: List[Union[Header, Start]] = [trace.header]
     entries += [line for line in trace.start if isinstance(line, Start)]
-    # A directory's owner and mode come after those of what is in it.
     for entry in reversed(entries):
         path = top + (entry.path if isinstance(entry, Start) else '')
         os.chown(path, owners.users.number(entry.owner), owners.groups.number(entry.group))
         os.chmod(path, entry.mode)
-    # Symbolic links come last: nothing is made through one.
-    for line in trace.start:
-        if isinstance(line, StartSymlink):
-            make_symlink(top + line.path, line, owners)
-    sync_file_system(top)
 
 
 def make_entry(path: str, data: Union[bytes, SparseBytes, None]) -> None:
-    """Makes a file with these bytes, or a directory if `data` is None. SparseBytes' pages of zeros
-    become holes. Owner and mode are the caller's task. FileExistsError if something is there."""
+    """Makes a file with these bytes, or a directory if `data` is None. The pages of zeros of
+    SparseBytes become holes. Owner and mode are the caller's task. FileExistsError if something is
+    there."""
     if data is None:
         os.mkdir(path, NEW_DIRECTORY)
         return
@@ -82,9 +97,16 @@ def make_entry(path: str, data: Union[bytes, SparseBytes, None]) -> None:
 
 
 def make_symlink(path: str, line: Union[Symlink, StartSymlink], owners: Owners) -> None:
-    """Makes a symbolic link. Sets its owner and group only if they differ, as the session made no
-    such call otherwise. FileExistsError if something is there."""
+    """Makes a symbolic link, with the owner and group of its line. FileExistsError if something is
+    there."""
     os.symlink(line.link, path)
+    set_owner(path, line, owners)
+
+
+def set_owner(path: str, line: NewEntry, owners: Owners) -> None:
+    """Sets the owner and group of what a line of the trace made at a path, also of a symbolic link
+    itself; but only if they differ, as the session made no such call otherwise. OSError if that
+    fails."""
     owner_and_group = owners.users.number(line.owner), owners.groups.number(line.group)
     status = os.lstat(path)
     if (status.st_uid, status.st_gid) != owner_and_group:
@@ -92,8 +114,8 @@ def make_symlink(path: str, line: Union[Symlink, StartSymlink], owners: Owners) 
 
 
 class UnsyncedChange(NamedTuple):
-    """An operation that changed a file's bytes or size: operation_count is how many operations were
-    made, with this one, and path the file's path then."""
+    """An operation that changed a file's bytes or size. operation_count says how many operations
+    had been made then, with this one; path is what the file's path was."""
 
     operation_count: int
     path: str
@@ -129,9 +151,9 @@ class Replay:
         return self.top if path == '/' else self.top + path
 
     def descriptor(self, path: str) -> int:
-        """The descriptor of a file, which the first call opens, and which stays open. A file is
-        known by its inode, since it may have several names, or have been renamed. OSError if it
-        can't be opened, as a directory or a symbolic link."""
+        """The descriptor of a file, which the first call opens, and which stays open until the end
+        of the `with`. A file is known by its inode, since it may have several names, or have been
+        renamed. OSError if it can't be opened, as a directory or a symbolic link."""
         inode = self.inode(path)
         if inode not in self.descriptors:
             self.descriptors[inode] = os.open(self.disk_path(path), OPEN_FILE)
@@ -142,8 +164,8 @@ class Replay:
         return os.lstat(self.disk_path(path)).st_ino
 
     def make_operation(self, operation: Operation) -> None:
-        """Makes an operation, after all those before it. It counts in operation_count even if it
-        raises an OSError."""
+        """Makes an operation: those before it in the session must have been made. It counts in
+        operation_count even if it raises an OSError."""
         self.operation_count += 1
         CALLS[type(operation)](self, operation)
 
@@ -160,13 +182,10 @@ class Replay:
     def set_rights(self, operation: Union[Creat, Mkdir]) -> None:
         """Sets the owner, group and mode of what an operation made, but only those that differ:
         otherwise the session made no such call."""
-        user = self.owners.users.number(operation.owner)
-        group = self.owners.groups.number(operation.group)
-        status = os.lstat(self.disk_path(operation.path))
-        if (status.st_uid, status.st_gid) != (user, group):
-            os.lchown(self.disk_path(operation.path), user, group)
-        if status.st_mode & 0o777 != operation.mode:
-            os.chmod(self.disk_path(operation.path), operation.mode)
+        path = self.disk_path(operation.path)
+        set_owner(path, operation, self.owners)
+        if os.lstat(path).st_mode & 0o777 != operation.mode:
+            os.chmod(path, operation.mode)
 
     def unlink(self, operation: Unlink) -> None:
         os.unlink(self.disk_path(operation.path))
@@ -182,7 +201,7 @@ class Replay:
 
     def write(self, operation: Write) -> None:
         """Writes all bytes, by as many calls as that takes; after an OSError some may be written. A
-        write of no bytes counts as unsynced too."""
+        write of no bytes is noted as unsynced too."""
         remaining, offset = operation.data, operation.offset
         while remaining:
             count = os.pwrite(self.descriptor(operation.path), remaining, offset)
@@ -194,8 +213,8 @@ class Replay:
         self.note_unsynced(operation.path)
 
     def note_unsynced(self, path: str) -> None:
-        """Notes that the present operation changed a file's bytes or size, and no sync covers that
-        yet."""
+        """Notes that the present operation changed a file's bytes or size, and that no sync covers
+        this change yet."""
         self.unsynced.setdefault(self.inode(path), []).append(
             UnsyncedChange(self.operation_count, path)
         )
@@ -225,7 +244,7 @@ class Replay:
         self.unsynced.pop(self.inode(operation.path), None)
 
     def fsync_range(self, operation: FsyncRange) -> None:
-        """Syncs the whole file by fdatasync(), and a part of it by msync(), which syncs only the
+        """Syncs the whole file by fdatasync(), or a part of it by msync(), which writes only the
         part's pages: then all changes of the file still count as unsynced. A part past the file's
         end syncs nothing."""
         descriptor = self.descriptor(operation.path)
@@ -248,9 +267,9 @@ class Replay:
         """Does nothing: to acknowledge a line changes nothing on the disk."""
 
     def write_back(self, inode: int) -> None:
-        """Writes the bytes of the file with an inode to the disk, and nothing of the log; nothing
-        for a file that the session hasn't opened. The file still counts as unsynced. OSError if it
-        fails."""
+        """Writes the bytes of the file with an inode to the disk, and nothing of the log. The file
+        still counts as unsynced. Nothing happens for a file that the session hasn't opened. OSError
+        if it fails."""
         if inode in self.descriptors and libc.sync_file_range(
             self.descriptors[inode],
             ctypes.c_int64(0),
@@ -281,24 +300,11 @@ CALLS: Dict[Type[Any], Callable[[Replay, Any], None]] = {
 }
 
 
-def sync_directory(path: str) -> None:
-    """Makes the names in a directory durable. OSError if that fails."""
-    with open_directory(path) as descriptor:
-        os.fsync(descriptor)
-
-
 def sync_file_system(path: str) -> None:
     """Makes the whole file system of a directory durable. OSError if that fails."""
-    with open_directory(path) as descriptor:
-        if libc.syncfs(descriptor):
-            raise OSError(ctypes.get_errno(), os.strerror(ctypes.get_errno()), path)
-
-
-@contextmanager
-def open_directory(path: str) -> Iterator[int]:
-    """Within this a directory is open. Yields its descriptor. OSError if it can't be opened."""
     descriptor = os.open(path, os.O_RDONLY | os.O_DIRECTORY | os.O_CLOEXEC)
     try:
-        yield descriptor
+        if libc.syncfs(descriptor):
+            raise OSError(ctypes.get_errno(), os.strerror(ctypes.get_errno()), path)
     finally:
         os.close(descriptor)

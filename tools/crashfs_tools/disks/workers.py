@@ -26,9 +26,9 @@ class Fault(Exception):
 
 class DiskWorkers(Generic[Task, Result]):
     """At most `most_processes` processes that do tasks, used by `with`. Each calls `set_up` first,
-    and then `do_task` with each of its tasks. They are forks of this process, so both may be any
-    functions; tasks and results go through pipes, so they must be of a kind that can be pickled. At
-    the end the processes are killed."""
+    and then `do_task` with each of its tasks. They are forks of this process, so these may be any
+    functions; tasks and results go through pipes, so they must be objects that can be pickled. At
+    the end of the `with` the processes are killed."""
 
     def __init__(
         self, most_processes: int, set_up: Callable[[], None], do_task: Callable[[Task], Result]
@@ -53,24 +53,21 @@ class DiskWorkers(Generic[Task, Result]):
         self.processes.clear()
 
     def results(self, tasks: List[Task]) -> Iterator[Result]:
-        """The results of tasks, in the order in which they arrive. It starts the processes, so it
-        may be called only once. Raises what `set_up` or `do_task` raised, Refused and OSError as
-        they are, anything else as a Fault; and Refused if a process was killed. No result follows
-        that."""
+        """The results of tasks, in the order in which they arrive. May be called only once, since
+        it starts the processes. Refused and OSError of `set_up` or `do_task` are raised as they
+        are, any other exception as a Fault; Refused also if a process was killed, and OSError if
+        one can't be started. No result follows any of these."""
         remaining_tasks = iter(tasks)
-        for _ in range(min(self.most_processes, len(tasks))):
-            self.start_process()
+        self.start_processes(min(self.most_processes, len(tasks)))
         busy_pipes = [pipe for pipe in self.processes if send_next_task(pipe, remaining_tasks)]
-        while busy_pipes:
-            for pipe in wait(busy_pipes, TURN_SECONDS):
-                assert isinstance(pipe, Connection)
-                yield self.receive(pipe)
-                if not send_next_task(pipe, remaining_tasks):
-                    busy_pipes.remove(pipe)
+        for pipe in ready_pipes(busy_pipes):
+            yield self.receive(pipe)
+            if not send_next_task(pipe, remaining_tasks):
+                busy_pipes.remove(pipe)
 
     def receive(self, pipe: Connection) -> Result:
-        """Waits without limit for the result of a process's task. Raises what the process raised,
-        as caught_fault() returned it, or Refused if the process was killed."""
+        """Waits without limit for the result of a process's task. Raises what the process has
+        raised, as caught_fault() returned it there, or Refused if the process was killed."""
         try:
             result = pipe.recv()
         except (EOFError, OSError) as error:
@@ -79,9 +76,14 @@ class DiskWorkers(Generic[Task, Result]):
             raise result
         return result  # type: ignore[no-any-return]  # what the worker has sent
 
+    def start_processes(self, count: int) -> None:
+        """Starts so many processes. OSError as start_process(): those before it run on."""
+        for _ in range(count):
+            self.start_process()
+
     def start_process(self) -> None:
         """Starts a process, and adds it to `processes`. Signals wait meanwhile: the new process
-        must not handle one as this process does. OSError if the system can't fork."""
+        must not handle a signal as this process does. OSError if the system can't fork."""
         own_end, worker_end = Pipe()
         with stop_signals_blocked() as blocked_before:
             process = os.fork()
@@ -92,10 +94,10 @@ class DiskWorkers(Generic[Task, Result]):
         worker_end.close()
 
     def work(self, pipe: Connection, blocked_before: Set[Union[int, signal.Signals]]) -> NoReturn:
-        """In the new process, never returns: sends the result of each task that its pipe brings. If
-        `set_up` raises, that is each result. Signals wait until `set_up` has returned; those of
-        `blocked_before`, blocked before the fork, wait on. A result that can't be pickled ends the
-        process: receive() then takes it as killed."""
+        """In the new process, never returns: does each task that its pipe brings, and sends the
+        result. If `set_up` raises, each result is what it raised. Signals wait until `set_up` has
+        returned; those of `blocked_before` were blocked before the fork, and stay so. A result that
+        can't be pickled ends the process: receive() then takes it as killed."""
         try:
             fault = caught_fault(self.set_up)
             signal.pthread_sigmask(signal.SIG_SETMASK, blocked_before)
@@ -106,16 +108,25 @@ class DiskWorkers(Generic[Task, Result]):
             os._exit(0)
 
     def result_of(self, task: Task) -> Union[Result, Exception]:
-        """In the new process: does a task, and returns its result, or what it raised, as
-        caught_fault() does."""
+        """In the new process: does a task, and returns its result, or, in the form of
+        caught_fault(), what it raised."""
         results: List[Result] = []
         fault = caught_fault(lambda: results.append(self.do_task(task)))
         return fault or results[0]
 
 
+def ready_pipes(busy_pipes: List[Connection]) -> Iterator[Connection]:
+    """The pipes that have something to receive, each when it is ready, until the list is empty: the
+    caller receives what is yielded, and removes pipes that get no further task from the list."""
+    while busy_pipes:
+        for pipe in wait(busy_pipes, TURN_SECONDS):
+            assert isinstance(pipe, Connection)
+            yield pipe
+
+
 def send_next_task(pipe: Connection, remaining_tasks: Iterator[Task]) -> bool:
-    """Sends the next of the remaining tasks to a process. Returns False if there is none. Refused
-    if the process was killed."""
+    """Sends the next one of the remaining tasks to a process. Returns False, and sends nothing, if
+    no task remains. Refused if the process was killed."""
     for task in remaining_tasks:
         try:
             pipe.send(task)
@@ -127,8 +138,8 @@ def send_next_task(pipe: Connection, remaining_tasks: Iterator[Task]) -> bool:
 
 def caught_fault(call: Callable[[], None]) -> Optional[Exception]:
     """Calls a function, and returns what it raises, in a form that a pipe can send: Refused and
-    OSError as they are, any other Exception as a Fault; None if it raises nothing. Other
-    BaseExceptions, such as SystemExit, aren't caught."""
+    OSError as they are, any other Exception as a Fault. None if it raises nothing. Other
+    BaseExceptions, such as SystemExit, pass."""
     try:
         call()
     except (Refused, OSError) as fault:
