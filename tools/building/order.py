@@ -28,6 +28,12 @@ def uses_by_crate(crates_text: str) -> Dict[str, List[str]]:
     return uses
 
 
+def read_uses() -> Dict[str, List[str]]:
+    """What each crate uses, by crates.txt as it is now; errors as uses_by_crate(), and OSError if
+    the file can't be read."""
+    return uses_by_crate((TOP / 'crates.txt').read_text('utf-8'))
+
+
 def crates_below(uses: Dict[str, List[str]], name: str) -> Set[str]:
     """The crates that a crate uses, directly or not. The crate itself is among them only if it is
     in a cycle. A crate that is no key of `uses`, such as one of the kit, uses none."""
@@ -43,9 +49,12 @@ def crates_below(uses: Dict[str, List[str]], name: str) -> Set[str]:
 def libraries() -> Dict[str, List[str]]:
     """The crates of this repository that the program uses, directly or not, in no particular order;
     for each those of this repository that it uses directly. Empty if crates.txt has no line for the
-    program; OSError if it can't be read."""
-    uses = uses_by_crate((TOP / 'crates.txt').read_text())
-    own_uses = {name: [crate for crate in used if crate in uses] for name, used in uses.items()}
+    program; errors as read_uses()."""
+    uses = read_uses()
+    own_uses = {
+        name: [crate for crate in used_crates if crate in uses]
+        for name, used_crates in uses.items()
+    }
     return {name: own_uses[name] for name in crates_below(own_uses, PROGRAM)}
 
 
@@ -104,9 +113,10 @@ class Work:
         ]
 
     def jobs_wanted(self, name: str, spare_processors: int) -> int:
-        """How many processors a ready crate should get: one if MANY_BELOW crates or more are below
-        it; else two if its chain is longer than those of all running checks, or spare_processors if
-        that is more, at most MOST_JOBS. The caller must hold change_condition."""
+        """How many processors a ready crate should get. spare_processors are those that the other
+        ready crates don't need. One if MANY_BELOW crates or more are below it; else two if its
+        chain is longer than those of all running checks, or all spare ones if these are more, but
+        at most MOST_JOBS. The caller must hold change_condition."""
         if len(crates_below(self.uses, name)) >= MANY_BELOW:
             return 1
         is_longest = all(

@@ -8,9 +8,10 @@ from dataclasses import dataclass
 from pathlib import Path
 from typing import Dict, Iterator, List, Optional
 
+from crashfs_tools.common.descendants import all_processes, parent_process
+
 TICKS = os.sysconf('SC_CLK_TCK')
 PAGE = os.sysconf('SC_PAGE_SIZE')
-PROCESSES = Path('/proc')
 
 
 @dataclass(frozen=True)
@@ -27,54 +28,45 @@ class Prover:
     kind: str
 
 
-def kind_of_work(arguments: List[str], folder: str) -> str:
-    """What a prover with these arguments works on in a folder: `tests`, `programs`, `edits` or
-    `proof`. A must-fail edit is tried in a copy of its crate, outside a folder `crates`."""
-    if '--test' in arguments:
+def kind_of_work(words: List[str], folder: str) -> str:
+    """What a prover with these words of its command line works on in a folder: `tests`, `programs`,
+    `edits` or `proof`. A must-fail edit is tried in a copy of its crate, outside a folder
+    `crates`."""
+    if '--test' in words:
         return 'tests'
-    if '--crate-checked' in arguments:
+    if '--crate-checked' in words:
         return 'programs'
-    if arguments[1:2] == ['check'] and '/crates/' not in folder:
+    if words[1:2] == ['check'] and '/crates/' not in folder:
         return 'edits'
     return 'proof'
 
 
-def read_stat_fields(process_folder: Path) -> List[str]:
-    """The fields of the file stat in a process's folder of /proc, from the state, field 3, on: the
-    parent is at index 1, the times at 11 to 14, the begin at 19, the memory at 21. The name before
-    them may have any bytes. OSError or IndexError if the process has ended."""
-    return (process_folder / 'stat').read_text('ascii', 'replace').rsplit(')', 1)[1].split()
+def read_stat_fields(number: int) -> List[str]:
+    """The fields of /proc/NUMBER/stat from the state, field 3, on: the times are at index 11 to 14,
+    the begin at 19, the memory at 21. The name before them may have any bytes. OSError or
+    IndexError if the process has ended."""
+    return Path(f'/proc/{number}/stat').read_text('ascii', 'replace').rsplit(')', 1)[1].split()
 
 
-def read_parent(process_folder: Path) -> int:
-    """The number of the parent of the process with this folder of /proc: what started it or, if
-    that has ended, what adopted it. 0 if the process has ended, or its parent isn't in this
-    container."""
+def read_prover(number: int) -> Optional[Prover]:
+    """The process of this number as a prover, as it is now. None if the process is no prover of a
+    crate, has ended, or may not be read."""
     try:
-        return int(read_stat_fields(process_folder)[1])
-    except (OSError, IndexError):
-        return 0
-
-
-def read_prover(process_folder: Path) -> Optional[Prover]:
-    """The process with this folder of /proc as a prover, as it is now. None if the process is no
-    prover of a crate, has ended, or may not be read."""
-    try:
-        arguments = (process_folder / 'cmdline').read_bytes().decode(errors='replace').split('\0')
-        if not arguments[0].endswith('/rattle') or '--crate-name' not in arguments:
+        words = Path(f'/proc/{number}/cmdline').read_bytes().decode(errors='replace').split('\0')
+        if not words[0].endswith('/rattle') or '--crate-name' not in words:
             return None
-        folder = os.readlink(process_folder / 'cwd')
-        stat_fields = read_stat_fields(process_folder)
+        folder = os.readlink(f'/proc/{number}/cwd')
+        stat_fields = read_stat_fields(number)
     except (OSError, IndexError):
         return None
     return Prover(
-        number=int(process_folder.name),
+        number=number,
         start_time=int(stat_fields[19]) / TICKS,
         # Its own time, and that of the children that have ended.
         seconds=sum(int(field) for field in stat_fields[11:15]) / TICKS,
         memory=int(stat_fields[21]) * PAGE,
-        crate=arguments[arguments.index('--crate-name') + 1],
-        kind=kind_of_work(arguments, folder),
+        crate=words[words.index('--crate-name') + 1],
+        kind=kind_of_work(words, folder),
     )
 
 
@@ -91,9 +83,9 @@ def provers_below(top: int) -> List[List[Prover]]:
     other prover started, then those below it. If a process ends meanwhile, it is left out, and
     perhaps those that it started. Empty if there is no prover, or if `top` has ended; OSError
     without /proc."""
-    folders = [path for path in PROCESSES.iterdir() if path.name.isdigit()]
-    parents = {int(path.name): read_parent(path) for path in folders}
-    running_provers = {prover.number: prover for prover in map(read_prover, folders) if prover}
+    processes = list(all_processes())
+    parents = {process: parent_process(process) for process in processes}
+    running_provers = {prover.number: prover for prover in map(read_prover, processes) if prover}
     groups: Dict[int, List[Prover]] = defaultdict(list)
     for prover in running_provers.values():
         lineage = list(process_and_ancestors(prover.number, parents))

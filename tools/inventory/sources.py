@@ -10,7 +10,7 @@ from dataclasses import dataclass
 from pathlib import Path
 from typing import Dict, Iterator, List, Tuple
 
-from building.order import uses_by_crate
+from building.order import read_uses
 
 TOP = Path(__file__).resolve().parent.parent.parent
 CRATES = TOP / 'crates'
@@ -54,7 +54,7 @@ class Citation:
 
 def crate_names() -> List[str]:
     """The crates of crates.txt, in its order. OSError if it can't be read."""
-    return list(uses_by_crate((TOP / 'crates.txt').read_text('utf-8')))
+    return list(read_uses())
 
 
 def crate_files(crate: str, folder: str, suffix: str) -> List[Path]:

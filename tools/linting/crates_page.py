@@ -5,7 +5,7 @@ from __future__ import annotations
 import re
 from typing import Dict, Iterator, List, Tuple
 
-from building.order import uses_by_crate
+from building.order import read_uses
 
 from .sources import TOP
 
@@ -110,5 +110,5 @@ def architecture_faults() -> List[str]:
     """The sentences of crate_page_faults() for ARCHITECTURE, each after the page's name. IndexError
     as there; OSError if the page or crates.txt can't be read."""
     page = (TOP / 'docs' / 'internals' / 'ARCHITECTURE.md').read_text('utf-8')
-    uses = uses_by_crate((TOP / 'crates.txt').read_text('utf-8'))
-    return [f'docs/internals/ARCHITECTURE.md: {fault}' for fault in crate_page_faults(page, uses)]
+    faults = crate_page_faults(page, read_uses())
+    return [f'docs/internals/ARCHITECTURE.md: {fault}' for fault in faults]

@@ -2,6 +2,7 @@
 
 from __future__ import annotations
 
+import re
 import textwrap
 from typing import Dict, List
 
@@ -37,15 +38,9 @@ def rows_of_holes(drawing: Drawing) -> List[str]:
 
 
 def runs_of(row: str, sign: str) -> List[range]:
-    """The columns at which a row has the sign, as the fewest ranges, from the left; empty if the
-    row doesn't have it."""
-    runs: List[range] = []
-    for column in (column for column, other in enumerate(row) if other == sign):
-        if runs and runs[-1].stop == column:
-            runs[-1] = range(runs[-1].start, column + 1)
-        else:
-            runs.append(range(column, column + 1))
-    return runs
+    """The columns at which a row has the sign, one character, as the fewest ranges, from the left;
+    empty if the row doesn't have it."""
+    return [range(*run.span()) for run in re.finditer(f'{re.escape(sign)}+', row)]
 
 
 def draw_states(picture: Picture, rows: List[str], y: float) -> None:

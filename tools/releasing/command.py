@@ -11,6 +11,7 @@ import tempfile
 from pathlib import Path
 from typing import List, Optional
 
+from building.order import read_uses
 from crashfs_tools import VERSION
 from gating.verdict import counts_of_passed_gate
 
@@ -92,7 +93,7 @@ def write_release(provenance: Provenance, object_file: Path, folder: Path) -> No
     write_tarball(tarball, items, provenance.seconds)
     write_package(package, provenance.version, items, provenance.seconds)
     spdx = folder / f'crashfs-{provenance.version}.spdx.json'
-    spdx.write_text(spdx_document(provenance, (TOP / 'crates.txt').read_text()))
+    spdx.write_text(spdx_document(provenance, read_uses()))
     attestation = folder / 'ATTESTATION'
     attestation.write_text(attestation_text(provenance, object_file.read_bytes(), program))
     (folder / 'SHA256SUMS').write_text(checksum_lines([tarball, package, spdx, attestation]))

@@ -9,7 +9,7 @@ from datetime import datetime, timezone
 from pathlib import Path
 from typing import Dict, List
 
-from building.order import crates_below, uses_by_crate
+from building.order import crates_below
 
 NOT_RUN = 'the gate was not run'
 BUILT = 'as tools/build left it, which builds only what is proved'
@@ -38,15 +38,15 @@ class Provenance:
         return moment.strftime('%Y-%m-%dT%H:%M:%SZ')
 
 
-def sha256_of(path: Path) -> str:
-    """The SHA-256 of a file's bytes, in hexadecimal digits; OSError if it can't be read."""
-    return hashlib.sha256(path.read_bytes()).hexdigest()
+def sha256_of(content: bytes) -> str:
+    """The SHA-256 of the bytes of a file, in hexadecimal digits."""
+    return hashlib.sha256(content).hexdigest()
 
 
 def checksum_lines(paths: List[Path]) -> str:
     """The lines that `sha256sum --check` reads, sorted by path, for files that are all in one
     folder: sha256sum must be run there. OSError if a file can't be read."""
-    return ''.join(f'{sha256_of(path)}  {path.name}\n' for path in sorted(paths))
+    return ''.join(f'{sha256_of(path.read_bytes())}  {path.name}\n' for path in sorted(paths))
 
 
 def built_module(provenance: Provenance) -> str:
@@ -66,9 +66,9 @@ def attestation_text(provenance: Provenance, object_bytes: bytes, program_bytes:
         f'version: {provenance.version}\ncommit: {provenance.commit}\nkit: {provenance.kit}\n'
         f'gate: {provenance.gate}\n'
         f'object: {provenance.object_origin}\n'
-        f'object-sha256: {hashlib.sha256(object_bytes).hexdigest()}\n'
+        f'object-sha256: {sha256_of(object_bytes)}\n'
         f'linked: statically, outside the kit, by {provenance.linker} with {provenance.c_library}\n'
-        f'program-sha256: {hashlib.sha256(program_bytes).hexdigest()}\n'
+        f'program-sha256: {sha256_of(program_bytes)}\n'
     )
 
 
@@ -93,11 +93,10 @@ def spdx_relationship(source: object, kind: str, target: object) -> Dict[str, ob
     return {'spdxElementId': source, 'relationshipType': kind, 'relatedSpdxElement': target}
 
 
-def linked_versions(provenance: Provenance, crates_text: str) -> Dict[str, str]:
+def linked_versions(provenance: Provenance, uses: Dict[str, List[str]]) -> Dict[str, str]:
     """The version of each library that is linked into the program, by name: of the crates below
-    the program, by the text of crates.txt, of the toolchain's library, the C library and libgcc. A
-    crate without a line in the text is the kit's."""
-    uses = uses_by_crate(crates_text)
+    the program, the toolchain's library, the C library and libgcc. `uses` has what each crate of
+    this repository uses: other crates are the kit's."""
     versions = {
         name: provenance.version if name in uses else provenance.kit
         for name in sorted(crates_below(uses, 'crashfs'))
@@ -109,12 +108,11 @@ def linked_versions(provenance: Provenance, crates_text: str) -> Dict[str, str]:
     return versions
 
 
-def spdx_document(provenance: Provenance, crates_text: str) -> str:
-    """The program and the linked_versions() as an SPDX 2.3 document (JSON), by the text of
-    crates.txt. The same arguments give the same text."""
+def spdx_document(provenance: Provenance, uses: Dict[str, List[str]]) -> str:
+    """The program and the linked_versions() as an SPDX 2.3 document (JSON). The same arguments give
+    the same text."""
     packages = [
-        spdx_package(name, version)
-        for name, version in linked_versions(provenance, crates_text).items()
+        spdx_package(name, version) for name, version in linked_versions(provenance, uses).items()
     ]
     relationships = [spdx_relationship('SPDXRef-DOCUMENT', 'DESCRIBES', 'SPDXRef-crashfs')]
     relationships += [

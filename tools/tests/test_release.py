@@ -16,7 +16,7 @@ from functools import lru_cache
 from pathlib import Path
 from typing import Dict, Set
 
-from building.order import crates_below, libraries, uses_by_crate
+from building.order import crates_below, libraries, read_uses, uses_by_crate
 from crashfs_tools import VERSION
 from releasing.archives import control_text, with_debian_files, write_package, write_tarball
 from releasing.layout import Item, Items, release_items
@@ -144,8 +144,7 @@ class Installed(InFolder):
 
 class Linked(unittest.TestCase):
     def test_the_list_has_each_library_of_the_program_and_no_other(self) -> None:
-        crates = (TOP / 'crates.txt').read_text()
-        found = packages_of(spdx_document(MADE, crates))
+        found = packages_of(spdx_document(MADE, read_uses()))
         own = set(libraries()) - {'crashfs'}
         of_kit = {'rattle-standard-library', 'glibc', 'libgcc'}
         self.assertTrue(own < set(found))
@@ -166,7 +165,7 @@ class Linked(unittest.TestCase):
         self.assertEqual(crates_below(uses, 'program'), {'mid', 'low', 'k', 'l'})
 
     def test_each_is_related_to_the_program(self) -> None:
-        document = json.loads(spdx_document(MADE, 'crashfs: a\na: b_c\n'))
+        document = json.loads(spdx_document(MADE, {'crashfs': ['a'], 'a': ['b_c']}))
         names = {it['SPDXID'] for it in document['packages']}
         self.assertLessEqual({'SPDXRef-a', 'SPDXRef-b-c', 'SPDXRef-crashfs'}, names)
         linked = {
