@@ -237,7 +237,7 @@ class Reports(InFolder):
             most = max(under.values())
             group = SimpleNamespace(states_by_profile=sets, tried_states=sets, count=most)
             found: Any = group
-            return profiles_text(found, are_all)
+            return profiles_text(found, are_all=are_all)
 
         self.assertEqual(text(blocks=3, ordered=3), 'under blocks and ordered')
         self.assertEqual(

@@ -4,13 +4,12 @@ from __future__ import annotations
 
 from collections import Counter
 from dataclasses import dataclass, field
-from itertools import takewhile
 from typing import Counter as Counts
-from typing import Dict, FrozenSet, List, NamedTuple, Optional, Tuple
+from typing import Dict, FrozenSet, Iterator, List, NamedTuple, Optional, Tuple
 
 from crashfs_tools.checker.findings.groups import Findings, Group
 from crashfs_tools.checker.running.results import Head
-from crashfs_tools.checker.running.runner import BAD, GOOD
+from crashfs_tools.checker.running.runner import BAD, GOOD, Outcome
 from crashfs_tools.checker.states.plan import AllStates
 
 # There are more sets than so many if they can't be counted.
@@ -33,8 +32,8 @@ class StateCounts:
     """How many states there are, over all windows. results and cause_kinds count different states,
     which are tried once; `states` and all_failing_states also count states that are equal to them.
     is_part says that all crash states were asked for, but only some are tried. seconds_per_state is
-    0 if it isn't known. drawn_results counts the drawn sets, up to the first that wasn't tried, by
-    their results."""
+    0 if it isn't known. drawn_results counts the sets that were drawn at random, up to the first
+    that wasn't tried, by their results."""
 
     windows: int = 0
     operations: int = 0
@@ -52,8 +51,8 @@ class StateCounts:
     cause_kinds: Counts[str] = field(default_factory=Counter)
 
     def add(self, findings: Findings) -> None:
-        """Adds the states of a window; to be called once for each, in the order of windows. Of the
-        states that the window before has too only drawn ones count."""
+        """Adds the states of a window; call it once for each window, in their order. States that
+        the window before has too only count in drawn_results."""
         results, shard = findings.results, findings.head.shard
         outcomes = [
             results.outcomes[number]
@@ -69,9 +68,7 @@ class StateCounts:
         self.wanted_states += sum(map(shard.has_place, range(len(results.wanted_numbers))))
         self.is_part = self.is_part or results.is_part
         self.seconds_per_state = results.seconds_per_state or self.seconds_per_state
-        drawn = results.plan.all_states.drawn if results.plan.all_states else ()
-        tried = takewhile(bool, map(findings.outcomes_by_state.get, drawn))
-        self.drawn_results.update(outcome.result for outcome in tried if outcome is not None)
+        self.drawn_results.update(outcome.result for outcome in drawn_outcomes(findings))
         self.tried_states += len(outcomes)
         self.all_failing_states += sum(outcome.result == BAD for outcome in findings.own_outcomes())
         self.results.update(outcome.result for outcome in outcomes)
@@ -89,21 +86,21 @@ class StateCounts:
 
     @property
     def untried_count(self) -> int:
-        """How many different states that were chosen, of this shard and in the windows so far, were
-        not tried."""
+        """How many different states were chosen for this shard, in the windows so far, and not
+        tried."""
         return self.wanted_states - self.tried_states
 
     @property
-    def has_every(self) -> bool:
-        """Whether all crash states of each window are listed, tried or not; False without
+    def are_all_listed(self) -> bool:
+        """Whether the plan of each window lists all crash states, tried or not; False without
         windows."""
-        are_listed = [one is not None and one.are_listed for one in self.all_states]
+        are_listed = [plan is not None and plan.are_listed for plan in self.all_states]
         return bool(are_listed) and all(are_listed)
 
     @property
     def is_by_second_reading(self) -> bool:
-        """Whether the second reading, not the program, found which crash states there are."""
-        return any(one is not None and one.are_read for one in self.all_states)
+        """Whether the second reading, not the program, found which crash states a window has."""
+        return any(plan is not None and plan.are_read for plan in self.all_states)
 
     @property
     def set_count(self) -> Optional[int]:
@@ -118,25 +115,36 @@ class StateCounts:
         """A sentence on how many of the crash states were tried, or how many states of some
         families."""
         tried = f'{self.tried_states:,}'
-        if self.is_part or self.has_every:
+        if self.is_part or self.are_all_listed:
             return f'{tried} of {self.total_text} crash states were tried.'
         return f'{tried} different states of some families were tried, not all crash states.'
 
     @property
     def total_text(self) -> str:
-        """How many crash states there are, as text; they must have been asked for. If not all are
+        """How many crash states there are, as text; all must have been asked for. If not all are
         listed, it is `more than` the most that are tried for a session in windows; else the number
-        of sets, or `more than` LEAST_OF_MANY."""
-        if self.has_every:
+        of sets, or `more than` LEAST_OF_MANY if these can't be counted."""
+        if self.are_all_listed:
             return f'{self.different_states:,}'
         if len(self.all_states) > 1:
             return f'more than {max(plan.most for plan in self.all_states if plan is not None):,}'
         return f'more than {LEAST_OF_MANY:,}' if self.set_count is None else f'{self.set_count:,}'
 
     def has_tried_all(self, head: Head) -> bool:
-        """Whether the whole check has tried all states that it chose. False for a shard, even if
-        all its own states were tried, and if the session goes on after the last window."""
+        """Whether the whole check has tried all states that it chose. False for one of several
+        shards, even if all its own states were tried, and if the session goes on after the last
+        window."""
         return head.shard.parts == 1 and not self.untried_count and not head.has_rest
+
+
+def drawn_outcomes(findings: Findings) -> Iterator[Outcome]:
+    """Yields the outcomes of the sets of a window that were drawn at random, in the order of
+    drawing, up to the first set that wasn't tried."""
+    all_states = findings.plan.all_states
+    for number in all_states.drawn if all_states else ():
+        if number not in findings.outcomes_by_state:
+            return
+        yield findings.outcomes_by_state[number]
 
 
 def counts_by_profile(group: Group) -> Dict[str, int]:
@@ -149,9 +157,8 @@ def counts_by_profile(group: Group) -> Dict[str, int]:
 
 
 def count_accepted_states(groups: List[Group]) -> AcceptedStates:
-    """Counts the different states of accepted groups, without those of groups that aren't accepted.
-    A state of several accepted groups counts once, for the first of them; states that the window
-    before tried don't count."""
+    """Counts the different states that are only in accepted groups. A state of several accepted
+    groups counts once, for the first of them; states that the window before tried don't count."""
     none: FrozenSet[Tuple[int, ...]] = frozenset()
     counted = none.union(*(group.tried_states for group in groups if group.accepted_entry is None))
     cause_kinds: Counts[str] = Counter()

@@ -17,41 +17,43 @@ Drawing = Dict[str, Any]
 
 def drawing_of(findings: Findings) -> Drawing:
     """What the page's script draws of a window. `prefixes` is a row of signs. `holes` has a row for
-    each length of a hole, in which the sign at k is that of the hole that lacks k; `numbers` has
-    the states' numbers of each of these rows, without blanks. A blank is a state that isn't listed.
-    `picks` is as picks_of() has it."""
+    each end of a hole, in which the sign at k is that of the hole that lacks k; `numbers` has the
+    numbers of the states in each of these rows. A blank is in the place of a state that the plan
+    lacks, or of which it says that no crash leaves it. `picks` is what picks_of() returns."""
     plan = findings.plan
     count = len(plan.operations)
-    holes: List[List[str]] = [[' '] * max(0, length - 1) for length in range(count + 1)]
+    holes: List[List[str]] = [[' '] * max(0, end - 1) for end in range(count + 1)]
     numbers: List[List[int]] = [[] for _ in range(count + 1)]
     prefixes = [' '] * (count + 1)
     for state in plan.states:
         if state.family == 'prefix':
             prefixes[state.numbers[0]] = sign_of(findings, state)
         elif state.family == 'hole':
-            lost, length = state.numbers
-            holes[length][lost] = sign_of(findings, state)
-            numbers[length].append(state.number)
+            lost_place, end = state.numbers
+            holes[end][lost_place] = sign_of(findings, state)
+            numbers[end].append(state.number)
     return {
         'first': plan.first,
         'prefixes': ''.join(prefixes),
         'holes': [''.join(row) for row in holes],
         'numbers': numbers,
         'picks': picks_of(findings),
-        'operations': [f'{step.text} (line {step.line})' for step in plan.operations],
+        'operations': [
+            f'{operation.text} (line {operation.line})' for operation in plan.operations
+        ],
     }
 
 
 def picks_of(findings: Findings) -> List[List[Any]]:
     """The picks of a window, sorted by how many micro-operations they lack: each with its number,
-    its sign and that count. Of equal picks only the first is there, and none that is equal to a
-    prefix or a hole."""
+    its sign and that count. Of equal picks only the first is in the list, and none that is equal to
+    a prefix or a hole."""
     plan = findings.plan
-    drawn_trials = {state.trial for state in plan.states if state.family != 'pick'}
+    shown_trials = {state.trial for state in plan.states if state.family != 'pick'}
     picks = []
     for state in plan.states:
-        if state.trial not in drawn_trials:
-            drawn_trials.add(state.trial)
+        if state.trial not in shown_trials:
+            shown_trials.add(state.trial)
             lost_count = size_of(plan.set_lost_by(state))
             picks.append([state.number, sign_of(findings, state), lost_count])
     return sorted(picks, key=lambda pick: (pick[2], pick[0]))

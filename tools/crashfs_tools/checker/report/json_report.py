@@ -21,8 +21,8 @@ KILLED = 'a kill'
 
 def json_pieces(report: CheckReport) -> Iterator[str]:
     """The text of the file of --json, in pieces: the results of each window, the entries with their
-    texts, and what else was found. A report that was made without has_json has kept no window, so
-    its text has none."""
+    texts, and what else was found. A report that was made without has_json keeps no results, so
+    its text has no windows."""
     yield as_json(report.head.fields(), **COMPACT)[:-1] + ',\n"windows":[\n'
     for place, window in enumerate(report.packed_windows):
         yield (',\n' if place else '') + unpack_text(window)
@@ -52,8 +52,8 @@ def partial_pieces(report: CheckReport, results: Results, *, has_rest: bool) -> 
 
 
 def recovery_fields(recovery: Recovery) -> Dict[str, Any]:
-    """What the JSON has of a recovery. Its `groups` are empty if it has a fault; the `text` of each
-    is only the advice."""
+    """What the JSON has of a recovery. Its `groups` are empty if the recovery has a fault; the
+    `text` of a group is only the advice."""
     groups = [
         {
             'cause': group.cause,
@@ -73,8 +73,8 @@ def recovery_fields(recovery: Recovery) -> Dict[str, Any]:
 
 
 def group_fields(report: CheckReport, group: Group) -> Dict[str, Any]:
-    """What the JSON has of an entry. `good` and `differences` are only there if its files were
-    compared. `lost` has the numbers of the lines that the example lacks."""
+    """What the JSON has of an entry. It has `good` and `differences` only if the files of the
+    entry's example were compared. `lost` has the numbers of the lines that the example lacks."""
     fields = {
         'cause': group.cause,
         'states': [state.number for state in group.states],

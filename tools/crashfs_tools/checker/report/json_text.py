@@ -11,8 +11,8 @@ SURROGATE = re.compile('[\ud800-\udfff]')
 
 
 def pack_text(text: str) -> bytes:
-    """Compresses a text, which unpack_text() gives back. It may have surrogates of bytes that
-    aren't UTF-8."""
+    """Compresses a text, which unpack_text() gives back. The text may have surrogates of bytes that
+    aren't UTF-8; UnicodeEncodeError for other surrogates."""
     import zlib
 
     return zlib.compress(text.encode('utf-8', 'surrogateescape'))

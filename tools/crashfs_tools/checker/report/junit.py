@@ -3,6 +3,7 @@
 from __future__ import annotations
 
 from collections import Counter
+from itertools import chain
 from typing import Counter as Counts
 from typing import Iterator, List, Optional, Tuple
 from xml.sax.saxutils import escape, quoteattr
@@ -10,7 +11,7 @@ from xml.sax.saxutils import escape, quoteattr
 from crashfs_tools.checker.findings.groups import Group
 from crashfs_tools.checker.findings.second_crashes import SecondCrash
 from crashfs_tools.checker.findings.sightings import DiskFailure
-from crashfs_tools.checker.running.runner import BAD
+from crashfs_tools.checker.running.runner import BAD, Outcome
 from crashfs_tools.common.printable import escape_unprintable
 
 from .report import CheckReport
@@ -19,44 +20,51 @@ from .text import ReportText, accepted_text
 # Control characters that XML has too.
 SPACES = '\n\t'
 
-# A group, and the crashes of its example if there were two.
-Entry = Tuple[Group, Optional[SecondCrash]]
+# A group, and its second crash if it is one of second crashes, else None.
+ReportEntry = Tuple[Group, Optional[SecondCrash]]
 
 
 def junit_lines(report: CheckReport) -> Iterator[str]:
     """The text of the file of --junit, in pieces: a test case for each entry of the report, also of
     second crashes, for each failure on disks that no tried state has, and for all other states. The
-    time of an entry is that of its example's second run, 0 if it had none; the last case has the
-    rest of the check's until now. An entry with the cause of an earlier one has a number."""
-    entries: List[Entry] = [(group, None) for group in report.groups()]
+    time of an entry is that of its example's second run, 0 without one; that of the last case is
+    the rest of the time from the check's beginning until now."""
+    entries: List[ReportEntry] = [(group, None) for group in report.groups()]
     entries += report.recovery_groups()
     seconds = report.seconds
     name = xml_attribute(f'crashfs-check {report.head.trace}')
     yield '<?xml version="1.0" encoding="UTF-8"?>\n'
     yield f'<testsuite name={name} {suite_counts(report, entries)} time="{seconds:.3f}">\n'
-    names: Counts[str] = Counter()
-    for group, second_crash in entries:
-        names[group.cause] += 1
-        number = names[group.cause]
-        case = f'{group.cause} ({number})' if number > 1 else group.cause
-        yield from case_lines(
-            report, group, second_crash, f'classname={name} name={xml_attribute(case)}'
-        )
-        seconds -= group.rerun_seconds
-    for failure in report.disk_failures():
-        yield from disk_case_lines(failure, name)
-    yield from others_case_lines(report, name, max(0.0, seconds))
+    for entry, case_name in zip(entries, case_names(entries)):
+        attributes = f'classname={name} name={xml_attribute(case_name)}'
+        yield from case_lines(report, *entry, attributes)
+    yield from chain.from_iterable(
+        disk_case_lines(failure, name) for failure in report.disk_failures()
+    )
+    other_seconds = seconds - sum(group.rerun_seconds for group, _ in entries)
+    yield from others_case_lines(report, name, max(0.0, other_seconds))
     yield '</testsuite>\n'
 
 
-def suite_counts(report: CheckReport, entries: List[Entry]) -> str:
-    """How many test cases there are, and with which results, as attributes of the suite. The case
-    of all other states is counted too: as an error if the report isn't whole."""
+def case_names(entries: List[ReportEntry]) -> Iterator[str]:
+    """Yields the name of each entry's test case: its cause, with a number in brackets if an earlier
+    entry has this cause."""
+    counts: Counts[str] = Counter()
+    for group, _ in entries:
+        counts[group.cause] += 1
+        number = counts[group.cause]
+        yield f'{group.cause} ({number})' if number > 1 else group.cause
+
+
+def suite_counts(report: CheckReport, entries: List[ReportEntry]) -> str:
+    """How many test cases the suite has, and how many of them are failures, errors and skipped, as
+    attributes in XML. The case of all other states is counted too: as an error if the report isn't
+    whole."""
     results = [group.outcome.result for group, _ in entries if group.accepted_entry is None]
     results += [failure.outcome.result for failure in report.disk_failures()]
     skipped = sum(group.accepted_entry is not None for group, _ in entries)
     failures = results.count(BAD)
-    errors = len(results) - failures + (not report.is_whole)
+    errors = len(results) - failures + (0 if report.is_whole else 1)
     return (
         f'tests="{len(results) + skipped + 1}" failures="{failures}" errors="{errors}" '
         f'skipped="{skipped}"'
@@ -69,46 +77,53 @@ def case_lines(
     """The test case of an entry: a failure, or an error if the recovery gave no answer. If the
     entry is accepted, the case is skipped, and only has the reason. attributes has the class and
     the name of the case, quoted. second_crash is None unless the entry is one of second crashes."""
-    head, *details = ReportText(report).group_lines(group, second_crash)
-    kind = 'failure' if group.outcome.result == BAD else 'error'
-    message = ' '.join(group.advice.lines()) or head.strip()
+    first_line, *details = ReportText(report).group_lines(group, second_crash)
+    message = ' '.join(group.advice.lines()) or first_line.strip()
     yield f'<testcase {attributes} time="{group.rerun_seconds:.3f}">\n'
     if group.accepted_entry is not None:
         reason = xml_attribute(accepted_text(group.accepted_entry))
         yield f'<skipped message={reason}/>\n</testcase>\n'
         return
-    yield f'<{kind} message={xml_attribute(message)}>'
-    yield xml_text('\n'.join([head.strip(), *details])) + f'</{kind}>\n'
+    yield fault_element(fault_kind(group.outcome), message, [first_line.strip(), *details])
     yield f'<system-out>{xml_text(group.outcome.output)}</system-out>\n'
     yield '</testcase>\n'
 
 
 def others_case_lines(report: CheckReport, class_name: str, seconds: float) -> Iterator[str]:
-    """The test case of all other states: an error if the report isn't whole, because a state or a
-    recovery wasn't tried. class_name has its quotes, and is escaped."""
+    """The test case of all states that are in no entry: an error if the report isn't whole, because
+    a state or a recovery wasn't tried. Its time is `seconds`. class_name has its quotes, and is
+    escaped."""
     case = xml_attribute(f'all other states ({report.counts.good_count:,})')
     yield f'<testcase classname={class_name} name={case} time="{seconds:.3f}">\n'
     if not report.is_whole:
         report_text = ReportText(report)
         lines = [report_text.summary(), *report_text.not_tried_lines()]
-        yield f'<error message={xml_attribute(lines[0])}>' + xml_text(
-            '\n'.join(lines)
-        ) + '</error>\n'
+        yield fault_element('error', lines[0], lines)
     yield '</testcase>\n'
 
 
 def disk_case_lines(failure: DiskFailure, class_name: str) -> Iterator[str]:
     """The test case of a failure on disks that no tried state has: an error if COMMAND gave no
     answer there. Its time is 0. class_name has its quotes, and is escaped."""
-    kind = 'failure' if failure.outcome.result == BAD else 'error'
     case = f'{failure.outcome.cause} ({failure.explanation.reason})'
     yield f'<testcase classname={class_name} name={xml_attribute(case)} time="0.000">\n'
     lines = failure.lines()
-    yield f'<{kind} message={xml_attribute(lines[0])}>' + xml_text(
-        '\n'.join(lines)
-    ) + f'</{kind}>\n'
+    yield fault_element(fault_kind(failure.outcome), lines[0], lines)
     yield f'<system-out>{xml_text(failure.outcome.output)}</system-out>\n'
     yield '</testcase>\n'
+
+
+def fault_kind(outcome: Outcome) -> str:
+    """The name of the element that a test case has for an outcome, which isn't good: `failure`, or
+    `error` if there was no answer."""
+    return 'failure' if outcome.result == BAD else 'error'
+
+
+def fault_element(kind: str, message: str, lines: List[str]) -> str:
+    """An element of a test case, `failure` or `error`, with a message and these lines as its
+    text."""
+    text = xml_text('\n'.join(lines))
+    return f'<{kind} message={xml_attribute(message)}>{text}</{kind}>\n'
 
 
 def xml_text(text: str) -> str:

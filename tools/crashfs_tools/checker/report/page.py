@@ -5,7 +5,8 @@ from __future__ import annotations
 import html
 import shlex
 import time
-from typing import Iterator, List
+from itertools import chain
+from typing import Iterable, Iterator, List
 
 from crashfs_tools.checker.findings.groups import Group
 from crashfs_tools.checker.findings.second_crashes import SecondCrash
@@ -16,18 +17,18 @@ from crashfs_tools.common.command import version_text
 from .page_parts import SCRIPT, STYLE
 from .json_text import COMPACT, as_json
 from .report import CheckReport
-from .text import ReportText
+from .text import ReportText, lines_of_pair
 
-# Of a long session, so many lines are shown before and after each one that is named.
-NEAR = 20
+# Of a session in several windows, so many lines are shown before and after each marked one.
+NEAR_LINES = 20
 # So many windows are drawn: the page must stay small.
-DRAWN = 8
+MOST_DRAWINGS = 8
 
 
 def page_pieces(report: CheckReport) -> Iterator[str]:
     """The text of the file of --html, in pieces. It draws the states of the first crash, in at most
-    DRAWN windows. What windows cut off, all advised syncs at once, drawn sets and hits of the cache
-    are only in the other reports."""
+    MOST_DRAWINGS windows. What windows cut off, all advised syncs at once, sets drawn at random and
+    outcomes from the cache are only in the other reports."""
     title = shown_text(report.head.trace)
     report_text = ReportText(report)
     yield (
@@ -35,25 +36,16 @@ def page_pieces(report: CheckReport) -> Iterator[str]:
         '<meta name="viewport" content="width=device-width">\n'
         f'<title>{title}</title>\n<style>{STYLE}</style></head>\n<body>\n<h1>{title}</h1>\n'
     )
-    for line in [*report_text.first_lines(), *report_text.recovery_counts()]:
-        yield f'<p class="summary">{shown_text(line)}</p>\n'
+    first_lines = [*report_text.first_lines(), *report_text.recovery_counts()]
+    yield elements('p class="summary"', first_lines)
     yield about_line(report)
     groups = sorted(report.groups(), key=lambda group: group.accepted_entry is not None)
-    for group in groups:
-        yield from entry_lines(report, group)
-    for line in report_text.missing_accepted_lines():
-        yield f'<p>{shown_text(line.strip())}</p>\n'
+    yield from chain.from_iterable(entry_lines(report, group) for group in groups)
+    yield elements('p', map(str.strip, report_text.missing_accepted_lines()))
     yield from recovery_section(report)
     yield from disk_section(report)
-    for line in report.not_done:
-        yield f'<p>{shown_text(line)}</p>\n'
-    yield f'<h2>The states</h2>\n<p>{shown_text(report.counts.tried_text)}</p>\n'
-    yield '<div id="states"></div><p id="shown"></p>\n'
-    if report.counts.windows > len(report.drawings[:DRAWN]):
-        yield (
-            f'<p>These are {len(report.drawings[:DRAWN])} of {report.counts.windows:,} windows: '
-            'the first, and the first in which states fail.</p>\n'
-        )
+    yield elements('p', report.not_done)
+    yield from states_section(report)
     yield '<h2>The session</h2>\n<table class="session">\n'
     yield from session_lines(report, groups)
     yield '</table>\n'
@@ -66,9 +58,29 @@ def shown_text(text: str) -> str:
     return html.escape(escape_unprintable(text, '\n\t'))
 
 
+def elements(tag: str, lines: Iterable[str]) -> str:
+    """Lines as HTML, each as an element with this tag: its name, such as `p` or `li`, and perhaps
+    attributes after a blank."""
+    name = tag.partition(' ')[0]
+    return ''.join(f'<{tag}>{shown_text(line)}</{name}>\n' for line in lines)
+
+
+def states_section(report: CheckReport) -> Iterator[str]:
+    """The section of HTML with the states, which the page's script draws there: how many were
+    tried and, if some windows aren't drawn, how many are."""
+    yield f'<h2>The states</h2>\n<p>{shown_text(report.counts.tried_text)}</p>\n'
+    yield '<div id="states"></div><p id="shown"></p>\n'
+    drawn_count = len(report.drawings[:MOST_DRAWINGS])
+    if report.counts.windows > drawn_count:
+        yield (
+            f'<p>These are {drawn_count} of {report.counts.windows:,} windows: '
+            'the first, and the first in which states fail.</p>\n'
+        )
+
+
 def about_line(report: CheckReport) -> str:
-    """A line of HTML with the command, the version of the tools, what computed the states, and the
-    present time."""
+    """A line of HTML with COMMAND, the version of the tools, whether crashfs computed the states,
+    and the present time in UTC."""
     states = 'states by the Python implementation' if report.head.unproved else 'states by crashfs'
     parts = [
         f'COMMAND: {shlex.join(report.head.command)}',
@@ -84,13 +96,12 @@ def entry_lines(report: CheckReport, group: Group) -> Iterator[str]:
     the end of what COMMAND printed in the example. What isn't known is left out. Of a line that the
     report doesn't have only the number is shown."""
     states = ReportText.states_text(group)
-    kind = '' if group.accepted_entry is None else ' class="accepted"'
-    yield f'<section{kind}><h2>{shown_text(group.cause)}</h2><p>{shown_text(states)}</p>\n<ul>\n'
-    for line in ReportText(report).details(group):
-        yield f'<li>{shown_text(line)}</li>\n'
-    yield '</ul>\n<table class="session">\n'
-    for number in sorted({line.number for line in (group.lost_line, group.kept_line) if line}):
-        yield line_row(report.head.lines.get(number) or TraceLine(number, ''), 'pair')
+    css_class = '' if group.accepted_entry is None else ' class="accepted"'
+    yield f'<section{css_class}><h2>{shown_text(group.cause)}</h2><p>{shown_text(states)}</p>\n'
+    yield f'<ul>\n{elements("li", ReportText(report).details(group))}</ul>\n'
+    yield '<table class="session">\n'
+    for line in lines_of_pair(group):
+        yield line_row(report.head.lines.get(line.number) or TraceLine(line.number, ''), 'pair')
     yield '</table>\n'
     yield from difference_lines(group)
     if group.outcome.output:
@@ -99,8 +110,8 @@ def entry_lines(report: CheckReport, group: Group) -> Iterator[str]:
 
 
 def recovery_section(report: CheckReport) -> Iterator[str]:
-    """A section of HTML with the entries of second crashes, and the recoveries in which none was
-    tried; no section if there are neither."""
+    """A section of HTML with the entries of second crashes, and the recoveries in which no second
+    crash was tried; no section if there are neither."""
     report_text, entries = ReportText(report), report.recovery_groups()
     not_tried = report_text.not_tried_lines()
     if not entries and not not_tried:
@@ -108,8 +119,7 @@ def recovery_section(report: CheckReport) -> Iterator[str]:
     yield '<section><h2>A crash during the recovery</h2>\n'
     for group, second_crash in entries:
         yield from second_crash_lines(report_text, group, second_crash)
-    for line in not_tried:
-        yield f'<p>{shown_text(line.strip())}</p>\n'
+    yield elements('p', map(str.strip, not_tried))
     yield '</section>\n'
 
 
@@ -118,36 +128,31 @@ def second_crash_lines(
 ) -> Iterator[str]:
     """An entry of second crashes as HTML: its cause, the lines of second_crash_details(), and the
     end of what COMMAND printed in the example, if it printed anything."""
-    states = report_text.states_text(group, f'{second_crash.state}/')
-    yield f'<h3>{shown_text(group.cause)}</h3>\n<p>{shown_text(states)}</p>\n<ul>\n'
-    for line in report_text.second_crash_details(group, second_crash):
-        yield f'<li>{shown_text(line)}</li>\n'
-    yield '</ul>\n'
+    states = report_text.states_text(group, second_crash)
+    details = report_text.second_crash_details(group, second_crash)
+    yield f'<h3>{shown_text(group.cause)}</h3>\n<p>{shown_text(states)}</p>\n'
+    yield f'<ul>\n{elements("li", details)}</ul>\n'
     if group.outcome.output:
         yield f'<pre>{shown_text(group.outcome.output)}</pre>\n'
 
 
 def disk_section(report: CheckReport) -> Iterator[str]:
     """A section of HTML with what was seen on real disks, and the failures there that no tried
-    state has; no section without --disks."""
+    state has; no section if nothing was tried on disks."""
     if report.sightings is None:
         return
-    yield '<section><h2>On real disks</h2>\n<ul>\n'
-    for line in report.sightings.lines():
-        yield f'<li>{shown_text(line)}</li>\n'
-    yield '</ul>\n'
+    yield '<section><h2>On real disks</h2>\n'
+    yield f'<ul>\n{elements("li", report.sightings.lines())}</ul>\n'
     for failure in report.disk_failures():
-        yield f'<h3>{shown_text(failure.outcome.cause)}</h3>\n'
-        yield f'<p>{shown_text(failure.explanation.reason)}</p>\n<ul>\n'
-        for line in failure.lines():
-            yield f'<li>{shown_text(line)}</li>\n'
-        yield '</ul>\n'
+        yield elements('h3', [failure.outcome.cause])
+        yield elements('p', [failure.explanation.reason])
+        yield f'<ul>\n{elements("li", failure.lines())}</ul>\n'
     yield '</section>\n'
 
 
 def difference_lines(group: Group) -> Iterator[str]:
-    """How the files of an entry's example differ from those of the nearest good state, as HTML;
-    nothing if they weren't compared. If they are equal, it says so."""
+    """How the files of an entry's example differ from those of the nearest good state, as HTML, or
+    that they are equal; nothing if the files weren't compared."""
     difference = group.difference
     if difference is None:
         return
@@ -159,38 +164,34 @@ def difference_lines(group: Group) -> Iterator[str]:
         return
     yield (
         f'<p>State {group.example.number} and state {difference.good_state}, which is good:</p>'
-        '\n<ul class="differences">\n'
+        f'\n<ul class="differences">\n{elements("li", difference.lines)}</ul>\n'
     )
-    for line in difference.lines:
-        yield f'<li>{shown_text(line)}</li>\n'
-    yield '</ul>\n'
 
 
 def session_lines(report: CheckReport, groups: List[Group]) -> Iterator[str]:
     """The rows of the session's table, in which the lost and the kept line of each group are
-    marked. Of a session in several windows only these lines have rows, and those up to NEAR line
-    numbers away. No rows if the report has no lines."""
-    marked = {
-        line.number for group in groups for line in (group.lost_line, group.kept_line) if line
-    }
-    near = {near for number in marked for near in range(number - NEAR, number + NEAR + 1)}
+    marked. Of a session in several windows only these lines have rows, and those up to NEAR_LINES
+    line numbers away. No rows if the report has no lines."""
+    marked_numbers = {line.number for group in groups for line in lines_of_pair(group)}
+    distances = range(-NEAR_LINES, NEAR_LINES + 1)
+    near_numbers = {number + distance for number in marked_numbers for distance in distances}
     for number, line in report.head.lines.items():
-        if report.counts.windows == 1 or number in near:
-            yield line_row(line, 'pair' if number in marked else '')
+        if report.counts.windows == 1 or number in near_numbers:
+            yield line_row(line, 'pair' if number in marked_numbers else '')
 
 
 def line_row(line: TraceLine, mark: str) -> str:
-    """A row of a table, as HTML, for a line of the trace. mark is a class of the page's style, or
-    empty."""
-    kind = 'sync' if line.word in SYNCS else line.word
+    """A row of a table, as HTML, for a line of the trace. mark is a class of the page's style in
+    addition to that of the operation, or empty."""
+    word = 'sync' if line.word in SYNCS else line.word
     return (
-        f'<tr class="{shown_text(kind)} {mark}"><td>{line.number}</td>'
+        f'<tr class="{shown_text(word)} {mark}"><td>{line.number}</td>'
         f'<td>{shown_text(line.text)}</td><td>{shown_text(line.note)}</td></tr>\n'
     )
 
 
 def script_data(report: CheckReport) -> str:
-    """The first DRAWN drawings as a value of the page's script. It has no `<`, which could end the
-    script."""
-    shown = as_json(report.drawings[:DRAWN], **COMPACT)
-    return shown.replace('<', '\\u003c')
+    """The first MOST_DRAWINGS drawings of the report as a value of the page's script. The text has
+    no `<`, which could end the script."""
+    drawings = as_json(report.drawings[:MOST_DRAWINGS], **COMPACT)
+    return drawings.replace('<', '\\u003c')

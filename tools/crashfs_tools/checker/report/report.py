@@ -65,9 +65,9 @@ class CheckReport:
         self.not_done: List[str] = []
 
     def add(self, findings: Findings) -> None:
-        """Adds the findings of a window; with has_page also its drawing, if it is the first one or
-        has failures. The report has the findings' own groups: what is changed in them later is in
-        the report too."""
+        """Adds the findings of a window; with has_page also the window's drawing, if it is the
+        first one or has failures. The report has the findings' own groups, not copies: what is
+        changed in them later is in the report too."""
         self.counts.add(findings)
         self.profiles = findings.plan.profiles.names
         if self.has_states:
@@ -75,20 +75,20 @@ class CheckReport:
         self.groups_of_windows.append(findings.groups)
         self.syncs_of_windows.append(findings.all_syncs)
         if self.has_json:
-            self.packed_windows.append(pack_text(as_json(findings.results.fields(), **COMPACT)))
+            self.packed_windows.append(packed_results(findings))
         if self.has_page and (findings.groups or not self.drawings):
             from .drawing import drawing_of
 
             self.drawings.append(drawing_of(findings))
 
     def replace_last_window(self, findings: Findings) -> None:
-        """Replaces the groups, the advised syncs and the results of the last window that was added,
-        after something was added to its findings. The counts, the outcomes of states and the
-        drawing stay. A window must have been added."""
+        """Replaces the groups, the advised syncs and the results of the last window that was added
+        by those of its findings, to which something was added since. The counts, the outcomes of
+        states and the drawing stay. A window must have been added."""
         self.groups_of_windows[-1] = findings.groups
         self.syncs_of_windows[-1] = findings.all_syncs
         if self.has_json:
-            self.packed_windows[-1] = pack_text(as_json(findings.results.fields(), **COMPACT))
+            self.packed_windows[-1] = packed_results(findings)
 
     @property
     def seconds(self) -> float:
@@ -96,8 +96,8 @@ class CheckReport:
         return time.monotonic() - self.begin
 
     def groups(self) -> List[Group]:
-        """Copies of the groups of all windows, the largest first; groups with the same key are one.
-        Their advice is made again, and accepted failures are marked. Each call makes new copies,
+        """Copies of the groups of all windows, the largest first. Groups with the same key become
+        one. The advice is made again, and accepted failures are marked. Each call makes new copies,
         which may be slow."""
         merged = merged_groups(
             replace(group, states=list(group.states), advice=replace(group.advice))
@@ -110,8 +110,8 @@ class CheckReport:
         return merged
 
     def mark_accepted(self, group: Group) -> None:
-        """Sets accepted_entry of a group that is an accepted failure, or expired_entry if its last
-        day has passed. A group whose example gave no answer is never accepted."""
+        """Sets accepted_entry of a group that is an accepted failure, or expired_entry if the last
+        day of that failure has passed. A group whose example gave no answer stays as it is."""
         if self.accept_list is None or group.outcome.result != BAD:
             return
         entry = self.accept_list.entry_for(group.as_accepted)
@@ -121,8 +121,8 @@ class CheckReport:
             group.expired_entry = entry if has_expired else None
 
     def recovery_groups(self) -> List[Tuple[Group, SecondCrash]]:
-        """Copies of the groups of all recoveries, as second_crash_entries() merges them, with
-        accepted failures marked. A recovery with a fault has none."""
+        """The entries of second_crash_entries() for all recoveries, each with a copy of its group,
+        in which accepted failures are marked. A recovery with a fault has no entry."""
         if not self.recoveries:
             return []
         from crashfs_tools.checker.findings.second_crashes import second_crash_entries
@@ -134,18 +134,21 @@ class CheckReport:
         return entries
 
     def missing_accepted_failures(self) -> List[AcceptedFailure]:
-        """The accepted failures that no group is, nor any group of second crashes; empty without
-        --accept. A group counts also if the failure has expired, and if its example gave no answer.
+        """The failures of --accept that no group of all_groups() is; empty without --accept. A
+        group counts also if the failure has expired, and if the group's example gave no answer.
         What failed on disks only doesn't count."""
         if self.accept_list is None:
             return []
-        groups = [*self.groups(), *(group for group, _ in self.recovery_groups())]
-        return self.accept_list.entries_without(group.as_accepted for group in groups)
+        return self.accept_list.entries_without(group.as_accepted for group in self.all_groups())
+
+    def all_groups(self) -> List[Group]:
+        """Copies of all groups: those of groups(), then those of second crashes."""
+        return [*self.groups(), *(group for group, _ in self.recovery_groups())]
 
     def all_advised_syncs(self) -> Optional[AllSyncs]:
-        """The advised syncs of all windows that have failures, and their results added up: a state
-        that two windows have counts in both. None if no window has failures, or if the syncs of one
-        weren't tried."""
+        """The advised syncs of all windows with failures as one, with the sums of their counts, in
+        which a state that two windows have counts twice. None if no window has failures, or if the
+        syncs of one of these windows weren't tried."""
         windows = zip(self.groups_of_windows, self.syncs_of_windows)
         with_failures = [syncs for groups, syncs in windows if groups]
         tried = [syncs for syncs in with_failures if syncs is not None]
@@ -153,7 +156,8 @@ class CheckReport:
             return None
         points = frozenset(point for syncs in tried for point in syncs.points)
         counts = [syncs.failing_counts for syncs in tried]
-        before, after = sum(count.before for count in counts), sum(count.after for count in counts)
+        before = sum(count.before for count in counts)
+        after = sum(count.after for count in counts)
         return AllSyncs(points, FailingCounts(before, after))
 
     def disk_failures(self) -> List[DiskFailure]:
@@ -168,22 +172,26 @@ class CheckReport:
         a failure."""
         if self.counts.results[NO_ANSWER]:
             return NOT_ALL_TRIED
-        groups = [*self.groups(), *(group for group, _ in self.recovery_groups())]
-        if self.disk_failures() or any(group.accepted_entry is None for group in groups):
+        if self.disk_failures() or any(group.accepted_entry is None for group in self.all_groups()):
             return SOME_FAIL
         return NONE_FAILS if self.is_whole else NOT_ALL_TRIED
 
     @property
     def is_whole(self) -> bool:
         """Whether all was tried that was chosen, of a shard its own states: nothing stopped the
-        check, and no recovery had a fault. A state without an answer counts as tried, and options
-        in not_done don't count."""
+        check, and no recovery had a fault. A state without an answer counts as tried. Options that
+        are in not_done don't matter."""
         is_whole = not self.counts.untried_count and not self.head.stopped
         return is_whole and not any(recovery.fault for recovery in self.recoveries)
 
 
+def packed_results(findings: Findings) -> bytes:
+    """The results of a window as the JSON has them, packed by pack_text()."""
+    return pack_text(as_json(findings.results.fields(), **COMPACT))
+
+
 def state_rows(findings: Findings) -> List[StateRow]:
-    """The rows of the states of a window that have an outcome, their own or that of an equal state;
+    """The rows of the states of a window that have an outcome, which may be that of an equal state;
     without the states that the window before has too."""
     return [
         (state, findings.outcomes_by_state[state.number], findings.plan.profile_names_of(state))

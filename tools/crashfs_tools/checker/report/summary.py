@@ -24,6 +24,7 @@ class Summary:
     accepted failures, which count as failing in `counts`."""
 
     def __init__(self, head: Head, counts: StateCounts, accepted: AcceptedStates) -> None:
+        """All of these must be complete: what is added to them later may be missing."""
         self.head = head
         self.counts = counts
         self.accepted = accepted
@@ -50,15 +51,15 @@ class Summary:
 
     @property
     def states_text(self) -> str:
-        """How many crash states there are, with `all` only if each was tried, and none was cut off
-        by a window's end. If only a part of them is tried, how many of how many; if they weren't
-        asked for, how many states of some families."""
+        """How many crash states there are, with `all` only if each was tried, and no loss was cut
+        off by a window's end. If only a part of the states is tried, how many of how many; if not
+        all crash states were asked for, how many states of some families there are."""
         counts = self.counts
         under = f' under {counts.profile}' if counts.profile else ''
         if counts.is_part:
             tried = f'{counts.tried_states:,} of {counts.total_text} crash states'
             return f'{tried}{under} tried{self.stop_text}'
-        if not counts.has_every:
+        if not counts.are_all_listed:
             return f'{counts.states:,} states{under}, {counts.different_states:,} different'
         all_of = 'all ' if self.is_whole and not self.head.cut_off else ''
         sets = f' ({count_text(counts.set_count, "set")})' if counts.set_count else ''
@@ -68,8 +69,8 @@ class Summary:
 
     @property
     def verdict(self) -> str:
-        """How many states fail, are accepted, gave no answer or were not tried. `none fails`
-        without more means that all were tried."""
+        """How many states fail, are accepted, gave no answer or were not tried. It is `none fails`,
+        without any more words, only if all states were tried and are good."""
         counts = self.counts
         if not counts.tried_states:
             return f'nothing was tried{self.stop_text}'
@@ -106,13 +107,13 @@ class Summary:
         if not self.is_whole and not counts.is_part:
             return [f'{self.failing_count:,}{self.tried_words} {fail}: {causes}']
         of_all = f' ({counts.all_failing_states:,} of all {counts.states:,} states)'
-        is_every = counts.is_part or counts.has_every
+        is_every = counts.is_part or counts.are_all_listed
         return [f'{self.failing_count:,} {fail}{"" if is_every else of_all}: {causes}']
 
     @property
     def none_text(self) -> str:
-        """The words for no failing state: `none fails` only if all states were tried, else that
-        none of the tried states fails."""
+        """The words if no state fails: `none fails` if all states were tried, else that none of the
+        tried ones fails."""
         if self.counts.is_part:
             return 'none of these fails'
         return 'none fails' if self.is_whole else f'none{self.tried_words} fails'
@@ -128,7 +129,7 @@ class Summary:
     @property
     def untried_text(self) -> str:
         """How many states of the windows were not tried and, if the session goes on after the last
-        window, that no later state was. An empty text if neither is so."""
+        window, that all later states weren't. An empty text if all states were tried."""
         counts = self.counts
         parts = [f'{counts.untried_count:,}'] if counts.untried_count else []
         if self.head.has_rest:
@@ -137,16 +138,16 @@ class Summary:
 
 
 def partial_check_lines(counts: StateCounts) -> Iterator[str]:
-    """The last lines of a report of which only some crash states were tried: what was drawn at
-    random, how long all would take, and which option tries them. No lines if all were tried, or if
-    they weren't asked for. Nothing is said of draws with --in or in several windows, since a bound
-    would be wrong."""
+    """The last lines of a report if only some crash states were tried: what was drawn at random,
+    how long all would take, and which option tries all. No lines if all were chosen, or if not all
+    were asked for. With --in or in several windows there is no line on draws, since its bound would
+    be wrong."""
     if not counts.is_part:
         return
     if counts.drawn_results and len(counts.all_states) == 1 and not counts.profile:
         yield drawn_text(counts)
     most = max((plan.most for plan in counts.all_states if plan is not None), default=0)
-    if counts.has_every:
+    if counts.are_all_listed:
         total = counts.different_states
         yield f'all {total:,}{time_text(counts, total)}: --every'
         return
@@ -154,8 +155,8 @@ def partial_check_lines(counts: StateCounts) -> Iterator[str]:
 
 
 def time_text(counts: StateCounts, states: int, at_least: str = '') -> str:
-    """How long so many states would take, after a comma, with the words at_least before the time;
-    an empty text if it isn't known how long a state takes."""
+    """How long this number of states would take, after a comma, with the words at_least before the
+    time; an empty text if it isn't known how long a state takes."""
     seconds = counts.seconds_per_state * states
     return f', and would take {at_least}about {duration_text(seconds)}' if seconds else ''
 

@@ -3,14 +3,14 @@ and the packages of helpers/."""
 
 from __future__ import annotations
 
-from typing import Iterator, List, NamedTuple, Sequence
+from typing import Iterator, List, NamedTuple, Optional, Sequence
 
 from crashfs_tools.checker.findings.groups import Group
 from crashfs_tools.checker.findings.second_crashes import SecondCrash
 from crashfs_tools.common.printable import escape_unprintable
 
 from .report import CheckReport
-from .text import ReportText, accepted_text
+from .text import ReportText, accepted_text, example_number
 
 # prove of Debian 12 refuses version 14, of which nothing is needed.
 VERSION = 'TAP version 13'
@@ -40,7 +40,7 @@ def tap_lines(report: CheckReport) -> Iterator[str]:
     states. One of them fails exactly if the check's status isn't 0."""
     text = ReportText(report)
     points = [entry_point(text, group) for group in report.groups()]
-    points += [second_crash_point(text, *entry) for entry in report.recovery_groups()]
+    points += [entry_point(text, *entry) for entry in report.recovery_groups()]
     points += [
         failed_point(f'{failure.outcome.cause} ({failure.explanation.reason})', failure.lines())
         for failure in report.disk_failures()
@@ -51,21 +51,15 @@ def tap_lines(report: CheckReport) -> Iterator[str]:
         yield from point.lines(number)
 
 
-def entry_point(text: ReportText, group: Group) -> TestPoint:
-    """The test of an entry: skipped if the entry is accepted, else one that failed."""
+def entry_point(
+    text: ReportText, group: Group, second_crash: Optional[SecondCrash] = None
+) -> TestPoint:
+    """The test of an entry: skipped if the entry is accepted, else one that failed, whose last line
+    names the example. second_crash is None unless the entry is one of second crashes."""
     if group.accepted_entry is not None:
         return TestPoint(group.cause, reason=accepted_text(group.accepted_entry))
-    example = f'state {group.example.number} of {text.head.trace}'
-    return failed_point(group.cause, [*text.details(group), example])
-
-
-def second_crash_point(text: ReportText, group: Group, second_crash: SecondCrash) -> TestPoint:
-    """The test of an entry of second crashes, whose example names both states; skipped if it is
-    accepted, else one that failed."""
-    if group.accepted_entry is not None:
-        return TestPoint(group.cause, reason=accepted_text(group.accepted_entry))
-    example = f'state {second_crash.state}/{group.example.number} of {text.head.trace}'
-    return failed_point(group.cause, [*text.second_crash_details(group, second_crash), example])
+    example = f'state {example_number(group, second_crash)} of {text.head.trace}'
+    return failed_point(group.cause, [*text.entry_details(group, second_crash), example])
 
 
 def others_point(text: ReportText) -> TestPoint:
@@ -84,6 +78,6 @@ def failed_point(cause: str, details: List[str]) -> TestPoint:
 
 
 def escaped_name(name: str) -> str:
-    """A test's name as TAP has it: printable, with a backslash before each backslash and each `#`,
-    so that no `#` begins a directive such as SKIP."""
+    """The name of a test as TAP has it: printable, with a backslash before each backslash and each
+    `#`, so that no `#` begins a directive such as SKIP."""
     return escape_unprintable(name).replace('\\', '\\\\').replace('#', '\\#')

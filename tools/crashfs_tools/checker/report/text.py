@@ -38,6 +38,7 @@ class ReportText:
     """The lines of a report, and those of its parts for the page, for JUnit and for TAP."""
 
     def __init__(self, report: CheckReport) -> None:
+        """Computes nothing yet: what is added to the report later is in the lines too."""
         self.report = report
         self.head = report.head
         self.counts = report.counts
@@ -54,7 +55,8 @@ class ReportText:
             cut_text(escape_unprintable(line))
             for line in [
                 *self.entry_lines(shown),
-                *self.all_syncs_lines(shown, covered),
+                *self.all_syncs_lines(shown),
+                *self.covered_lines(shown, covered),
                 *self.accepted_lines(accepted),
                 *self.missing_accepted_lines(),
                 *self.cut_off_lines(),
@@ -68,7 +70,7 @@ class ReportText:
 
     def entry_lines(self, shown: List[Group]) -> List[str]:
         """The lines of the first SHOWN_GROUPS entries, and a line that says how many more there
-        are."""
+        are, if there are any."""
         lines = [line for group in shown[:SHOWN_GROUPS] for line in self.group_lines(group)]
         others = shown[SHOWN_GROUPS:]
         if others:
@@ -79,7 +81,7 @@ class ReportText:
 
     def accepted_lines(self, accepted: List[Group]) -> List[str]:
         """The lines of the first SHOWN_GROUPS accepted groups, with their reasons, and a line that
-        says how many more there are; no line if there are none."""
+        says how many more there are, if there are any. All groups must be accepted."""
         lines: List[str] = []
         for group in accepted[:SHOWN_GROUPS]:
             assert group.accepted_entry is not None
@@ -93,28 +95,31 @@ class ReportText:
         """The folded lines of the failures in the file of --accept that no entry is. They are
         `gone` if all crash states of the whole check were tried, else `not seen`."""
         counts = self.counts
-        is_all = counts.has_every and not counts.is_part and counts.has_tried_all(self.head)
-        how = 'gone' if is_all else 'not seen'
+        is_all = counts.are_all_listed and not counts.is_part and counts.has_tried_all(self.head)
+        words = 'accepted, and gone' if is_all else 'accepted, and not seen'
         missing = self.report.missing_accepted_failures()
-        return folded_lines((f'accepted, and {how}: {entry.name}' for entry in missing), '  ')
+        return folded_lines((f'{words}: {entry.name}' for entry in missing), '  ')
 
     def summary(self) -> str:
         """The line that says what was checked, and the verdict."""
         return Summary(self.head, self.counts, count_accepted_states(self.report.groups())).line
 
-    def all_syncs_lines(self, shown: List[Group], covered: List[Group]) -> List[str]:
-        """The lines for all advised syncs at once, if several of the shown entries have some; then
-        those of the first SHOWN_GROUPS covered entries, whose states these syncs remove too, and
-        how many more there are. Of the covered entries with one kind of cause only the first has
-        its sentences, and only if no shown entry has that kind."""
-        syncs, lines = self.report.all_advised_syncs(), []
+    def all_syncs_lines(self, shown: List[Group]) -> List[str]:
+        """A line for all advised syncs at once. No line unless several of the shown entries have
+        advised syncs, and these were tried."""
+        syncs = self.report.all_advised_syncs()
         advised = [group for group in shown if group.advice.syncs]
-        if syncs is not None and len(advised) > 1:
-            count = len(syncs.points)
-            how_many = 'both' if count == 2 else f'all {count:,}'
-            lines.append(f'  with {how_many} syncs {syncs.failing_counts.text}')
-        if covered:
-            lines.append('  with these syncs these entries are gone too:')
+        if syncs is None or len(advised) < 2:
+            return []
+        count = len(syncs.points)
+        how_many = 'both' if count == 2 else f'all {count:,}'
+        return [f'  with {how_many} syncs {syncs.failing_counts.text}']
+
+    def covered_lines(self, shown: List[Group], covered: List[Group]) -> List[str]:
+        """The lines of the first SHOWN_GROUPS covered entries, whose states the advised syncs of
+        the shown ones remove too, and how many more there are. Of the covered entries with one kind
+        of cause only the first has its sentences, and only if no shown entry has that kind."""
+        lines = ['  with these syncs these entries are gone too:'] if covered else []
         cause_kinds = {group.outcome.cause_kind for group in shown}
         for group in covered[:SHOWN_GROUPS]:
             states = self.states_text(group)
@@ -128,28 +133,25 @@ class ReportText:
         return lines
 
     def first_lines(self) -> List[str]:
-        """The summary line and, before it, a line that says so if the second reading took the
-        program's place or found the sets. These lines may have any length."""
-        how = HOW_TO_BUILD if can_be_built() else ''
+        """The summary line. If the second reading took the program's place or found the sets, a
+        line before it says so. These lines may have any length."""
         if self.head.refused_version:
             return [VERSION_UNPROVED.format(self.head.refused_version), self.summary()]
         if self.head.unproved:
-            return [UNPROVED + how, self.summary()]
-        return (
-            [SETS_UNPROVED, self.summary()]
-            if self.counts.is_by_second_reading
-            else [self.summary()]
-        )
+            return [UNPROVED + (HOW_TO_BUILD if can_be_built() else ''), self.summary()]
+        if self.counts.is_by_second_reading:
+            return [SETS_UNPROVED, self.summary()]
+        return [self.summary()]
 
     def cache_lines(self) -> List[str]:
-        """A line that counts the outcomes from earlier checks; none if there is none."""
+        """A line that counts the outcomes from earlier checks; no line if there are none."""
         count = self.report.cache_hits
         return [f'  {count_text(count, "outcome")} from earlier checks (--cache)'] if count else []
 
     def cut_off_lines(self) -> List[str]:
         """A line that names the first line of the trace whose loss wasn't tried to the session's
-        end, since a window ended before it was durable, and says how many more there are. No line
-        if there is none."""
+        end, since a window ended before the line was durable, and says how many more there are. No
+        line if all losses were tried to the end."""
         if not self.head.cut_off:
             return []
         number, tried_count = self.head.cut_off[0]
@@ -187,7 +189,8 @@ class ReportText:
         return lines
 
     def not_tried_lines(self) -> List[str]:
-        """A line for each recovery in which no second crash was tried, with the reason."""
+        """A line for each recovery with a fault, in which no second crash was tried, with the fault
+        as the reason."""
         return [
             f'  the recovery of state {recovery.state} was not tried: {recovery.fault}'
             for recovery in self.report.recoveries
@@ -209,12 +212,17 @@ class ReportText:
     def group_lines(self, group: Group, second_crash: Optional[SecondCrash] = None) -> List[str]:
         """The lines of an entry: its cause, which may be cut, with its states, and below it the
         details, folded. second_crash is None unless the entry is one of second crashes."""
-        states = self.states_text(group, f'{second_crash.state}/' if second_crash else '')
+        states = self.states_text(group, second_crash)
         cause = cut_text(escape_unprintable(group.cause), max(CAUSE_WIDTH, WIDTH - len(states) - 3))
-        lines = [f'  {cause:<{CAUSE_WIDTH}} {states}']
+        details = folded_lines(self.entry_details(group, second_crash), '    ')
+        return [f'  {cause:<{CAUSE_WIDTH}} {states}', *details]
+
+    def entry_details(self, group: Group, second_crash: Optional[SecondCrash]) -> List[str]:
+        """The lines below the cause of an entry: those of second_crash_details() or, if
+        second_crash is None, of details()."""
         if second_crash is None:
-            return lines + folded_lines(self.details(group), '    ')
-        return lines + folded_lines(self.second_crash_details(group, second_crash), '    ')
+            return self.details(group)
+        return self.second_crash_details(group, second_crash)
 
     @staticmethod
     def second_crash_details(group: Group, second_crash: SecondCrash) -> List[str]:
@@ -234,60 +242,79 @@ class ReportText:
         return [f'it fails only if this is lost too: {lines}'] if lines else []
 
     @staticmethod
-    def states_text(group: Group, prefix: str = '') -> str:
-        """How many different states an entry has, and the option that shows its example. The prefix
-        comes before the example's number: the state of a first crash and a slash, or nothing."""
-        example = f'--state {prefix}{group.example.number}'
+    def states_text(group: Group, second_crash: Optional[SecondCrash] = None) -> str:
+        """How many different states an entry has, and the option that shows its example.
+        second_crash is None unless the entry is one of second crashes."""
+        example = f'--state {example_number(group, second_crash)}'
         if group.count == 1:
             return f'1 state: {example}'
         return f'{group.count:,} states, e.g. {example}'
 
     def details(self, group: Group) -> List[str]:
-        """The lines below an entry's cause, not folded: the notes of its two lines, why it is
-        accepted, the advice, what isn't enough, what must be or is lost too, which profiles allow
-        its states, and where they were seen. Of syncs that aren't enough, and of what is lost too,
-        SHOWN_LINES are named."""
-        notes = {
-            line.number: line.note
-            for line in (group.lost_line, group.kept_line)
-            if line and line.note
-        }
-        lines = [f'line {number}: {note}' for number, note in sorted(notes.items())]
+        """The lines below an entry's cause, not folded: the notes of its two lines, why the entry
+        is accepted, the advice, which syncs aren't enough, what must be or is lost too, which
+        profiles allow its states, and on which disks these were seen."""
+        lines = [f'line {line.number}: {line.note}' for line in lines_of_pair(group) if line.note]
         lines += [*acceptance_lines(group), *group.advice.lines()]
-        for sync in group.other_syncs[:SHOWN_LINES] if group.advice.syncs else []:
-            lines.append(f'line {sync.number} is {sync.text}, which is not enough')
-        lines += self.needed_lines(group)
+        lines += [*other_sync_lines(group), *self.needed_lines(group)]
         if 0 < len(group.explained_states) < group.count:
             lines.append(
                 f'{len(group.explained_states):,} of these states lack the first of the two lines '
                 'and have the second'
             )
+        lines += self.other_loss_lines(group)
+        if counts_by_profile(group):
+            lines.append(profiles_text(group, are_all=self.counts.are_all_listed))
+        if self.report.sightings is not None:
+            numbers = [state.number for state in group.states]
+            lines.append(self.report.sightings.text_of_states(numbers))
+        return lines
+
+    def other_loss_lines(self, group: Group) -> List[str]:
+        """A line that names the first SHOWN_LINES lines of the trace that the example lacks, in
+        addition to the lost line and to needed_lines, and says how many more there are. No line if
+        there are none, or if the failure needs no loss."""
         named = {group.lost_line.number if group.lost_line else 0, *group.needed_lines}
         other_lost = [number for number in group.lost_lines if number not in named]
-        if other_lost and not group.has_no_loss:
-            shown = ', '.join(map(self.line_text, other_lost[:SHOWN_LINES]))
-            more = len(other_lost) - SHOWN_LINES
-            also = f' and {count_text(more, "more line")}' if more > 0 else ''
-            lines.append(f'state {group.example.number} also lacks {shown}{also}')
-        if counts_by_profile(group):
-            lines.append(profiles_text(group, self.counts.has_every))
-        if self.report.sightings is not None:
-            lines.append(
-                self.report.sightings.text_of_states([state.number for state in group.states])
-            )
-        return lines
+        if not other_lost or group.has_no_loss:
+            return []
+        shown = ', '.join(map(self.line_text, other_lost[:SHOWN_LINES]))
+        more = len(other_lost) - SHOWN_LINES
+        also = f' and {count_text(more, "more line")}' if more > 0 else ''
+        return [f'state {group.example.number} also lacks {shown}{also}']
 
     def line_text(self, number: int) -> str:
         """A line of the trace in words, by its number; with empty brackets if the report doesn't
-        have it."""
+        have that line."""
         line = self.head.lines.get(number, TraceLine(number, ''))
         return f'line {number} ({line.text})'
 
 
-def profiles_text(group: Group, are_all: bool) -> str:
-    """The profiles that allow states of an entry, with how many if one allows only some, and those
-    that allow none; counts_by_profile() must not be empty. are_all says whether all sets that leave
-    the states were looked at; if not, the text says so."""
+def lines_of_pair(group: Group) -> List[TraceLine]:
+    """The lost and the kept line of an entry, ascending by number, without a line that the entry
+    doesn't have. A torn line, which is both, is there once."""
+    lines = {line.number: line for line in (group.lost_line, group.kept_line) if line is not None}
+    return [lines[number] for number in sorted(lines)]
+
+
+def other_sync_lines(group: Group) -> List[str]:
+    """A line for each of the first SHOWN_LINES syncs that aren't enough; no line if no sync is
+    advised."""
+    syncs = group.other_syncs[:SHOWN_LINES] if group.advice.syncs else []
+    return [f'line {sync.number} is {sync.text}, which is not enough' for sync in syncs]
+
+
+def example_number(group: Group, second_crash: Optional[SecondCrash]) -> str:
+    """The number of an entry's example as --state takes it: of an entry of second crashes after the
+    number of the first crash's state and a slash."""
+    number = str(group.example.number)
+    return number if second_crash is None else f'{second_crash.state}/{number}'
+
+
+def profiles_text(group: Group, *, are_all: bool) -> str:
+    """The profiles that allow states of an entry, with how many if a profile allows only some, and
+    those that allow none; counts_by_profile() must not be empty. are_all says whether all sets that
+    leave the states were looked at; if not, the text says so."""
     counts = counts_by_profile(group)
     has_no_part = all(count in (0, group.count) for count in counts.values())
     allowing = [
@@ -298,8 +325,8 @@ def profiles_text(group: Group, are_all: bool) -> str:
     others = [profile_text(name) for name, count in counts.items() if not count]
     if not others:
         return f'under {joined_by("and", allowing)}'
-    how = '' if are_all else 'by the sets that were tried '
-    return f'under {joined_by("and", allowing)}; {how}not under {joined_by("or", others)}'
+    by_which = '' if are_all else 'by the sets that were tried '
+    return f'under {joined_by("and", allowing)}; {by_which}not under {joined_by("or", others)}'
 
 
 def profile_text(name: str) -> str:
@@ -309,7 +336,7 @@ def profile_text(name: str) -> str:
 
 def folded_lines(lines: Iterable[str], indent: str) -> List[str]:
     """Lines with an indent, printable and wrapped at WIDTH; the further parts of a line have a
-    larger indent. A word that is longer than WIDTH isn't broken. An empty line is left out."""
+    larger indent. A word that is longer than WIDTH isn't broken. Empty lines are left out."""
     from textwrap import wrap
 
     return [
@@ -331,9 +358,9 @@ def acceptance_lines(group: Group) -> List[str]:
     other entries."""
     if group.expired_entry is not None:
         return [f'accepted {accepted_text(group.expired_entry)} (this day has passed)']
-    return (
-        [] if group.accepted_entry is None else [f'accepted {accepted_text(group.accepted_entry)}']
-    )
+    if group.accepted_entry is not None:
+        return [f'accepted {accepted_text(group.accepted_entry)}']
+    return []
 
 
 def accepted_text(entry: AcceptedFailure) -> str:
