@@ -9,6 +9,7 @@ from dataclasses import dataclass, field
 from typing import Dict, Iterator, List, Optional, Tuple
 
 from crashfs_tools.common.command import TEXT, ending_text, relative_path_arguments
+from crashfs_tools.common.entry import Entries
 from crashfs_tools.common.limits import MICRO_OPERATIONS
 from crashfs_tools.common.printable import count_text
 from crashfs_tools.common.program import Crashfs, ProgramFault, is_plan_too_large
@@ -37,24 +38,25 @@ IN_WINDOWS = 'states in windows (crashfs-check makes them)'
 
 @dataclass
 class FinalReport:
-    """What is printed before the summary: lines on what the trace lacks, or why a loss could stay
-    hidden, and notes on what changes no verdict."""
+    """What is printed before the summary: `lines` on what the trace lacks, on COMMAND's failure and
+    on why a loss could stay hidden; `notes` on what changes no verdict on a crash state."""
 
     lines: List[str] = field(default_factory=list)
     notes: List[str] = field(default_factory=list)
 
     @property
     def status(self) -> int:
-        """The exit status: NOT_WHOLE if there are lines, NOTED if there are only notes."""
+        """The exit status: NOT_WHOLE if there are lines, NOTED if there are only notes, WHOLE if
+        there is neither."""
         return NOT_WHOLE if self.lines else NOTED if self.notes else WHOLE
 
 
 def final_report(
     recording: Recording, options: RecordOptions, failure: Optional[str]
 ) -> FinalReport:
-    """What the trace doesn't have; how COMMAND failed (None: it didn't), with the likely cause; and
-    why a loss could stay hidden, unless --no-say is given. compare_directory() adds differences
-    later."""
+    """A new report on what the trace doesn't have; on COMMAND's failure, which is in words (None:
+    it didn't fail), with the likely cause; and, without --no-say, on why a loss could stay hidden.
+    compare_directory() adds the differences later."""
     report = FinalReport()
     troubles = list(recording.troubles)
     report.lines = [f'not in the trace: {trouble}' for trouble in troubles if not trouble.is_note]
@@ -67,8 +69,8 @@ def final_report(
 
 
 def lines_on_missing_notes(trace: Trace) -> List[str]:
-    """A line with the number of operations for which --stacks found no function; empty if each
-    operation has a note."""
+    """A line with the number of operations for which --stacks found no function, and which so have
+    no note in the trace. Empty if each operation has one."""
     missing = len(trace.operations) - len(trace.notes)
     if not missing:
         return []
@@ -80,8 +82,9 @@ def lines_on_missing_notes(trace: Trace) -> List[str]:
 
 
 def relative_path_hints(options: RecordOptions) -> List[str]:
-    """A line for each relative path in COMMAND's arguments at which a file is here, but none in the
-    directory, where COMMAND runs: that is a likely cause of its failure."""
+    """A line for each relative path in COMMAND's arguments at which there is a file below this
+    process's working directory, but none below the recorded directory, where COMMAND runs: that is
+    a likely cause of its failure."""
     return [
         f'{word} is a relative path, but COMMAND runs in {options.directory}: use '
         f'{os.path.abspath(word)}'
@@ -91,8 +94,8 @@ def relative_path_hints(options: RecordOptions) -> List[str]:
 
 
 def lines_on_notes(troubles: List[Trouble]) -> List[str]:
-    """A line for all notes on one thing, with the first one's path and how many more paths there
-    are. Troubles that aren't notes are left out."""
+    """A line for each `what` of the notes among the troubles: that of its first note, and how many
+    more paths have such a note. Other troubles are left out."""
     notes_by_what: Dict[str, List[Trouble]] = {}
     for trouble in troubles:
         if trouble.is_note:
@@ -105,9 +108,9 @@ def lines_on_notes(troubles: List[Trouble]) -> List[str]:
 
 
 def acknowledgement_faults(recording: Recording) -> List[str]:
-    """Why a loss could stay hidden: no line was acknowledged; or all were in one write; or lines
-    were held, with a line for each such stream. Only the first of these reasons is returned; empty
-    if there is none."""
+    """Why a loss could stay hidden, as lines: no line was acknowledged; or all were in one write;
+    or held_line_faults() of each stream. Only the first of these reasons is returned. Empty if
+    there is none."""
     streams = list(recording.streams.all_streams())
     acknowledging = [stream for stream in streams if stream.is_acknowledged and stream.text_count]
     line_count = sum(stream.text_count for stream in acknowledging)
@@ -133,10 +136,10 @@ def acknowledgement_faults(recording: Recording) -> List[str]:
 
 
 def held_line_faults(stream: OutputStream) -> List[str]:
-    """A line if files were changed while the stream's text was incomplete, so that it counts too
-    late: more than once between the writes of a line, or after the beginning of a last line without
-    a line feed. Else empty: one change is usual, as a program prints what it does, and then, in the
-    same line, that it is done."""
+    """A line if files were changed while a text of the stream was incomplete, so that it counts too
+    late: at several places between the writes of a line, or after the beginning of a last line
+    without a line feed. Empty if not: changes at one place are usual, as a program prints what it
+    does, and then, in the same line, that it is done."""
     if stream.is_held:
         reason = 'its last text has no line feed, so it counts from the end'
     elif stream.most_gaps > 1:
@@ -153,39 +156,46 @@ def compare_directory(
     options: RecordOptions, recording: Recording, at_start: Scan, report: FinalReport
 ) -> str:
     """Compares the directory with the trace's last state, adds the differences to the report, and
-    returns in words how it was compared. If the directory can't be read, that is in the report, and
-    nothing is compared. If the program refuses the trace, a replay is compared. It raises what
-    last_state_readers() and ReplayReader.read_entries() do."""
+    returns the result in words, with the name of the reader. If the directory can't be read, that
+    is in the report, and nothing is compared. It raises what last_state_readers() and
+    ReplayReader.read_entries() do; the report is as it was then."""
     try:
         at_end = scan_directory(options.directory, options.is_ignored, options.version or NEWEST)
     except OSError as error:
         report.lines.append(f'{error.filename}: {error.strerror}: {NOT_COMPARED}')
         return NOT_COMPARED
+    last_state, reader_name = read_last_state(last_state_readers(options, recording))
     reported = recording.troubles.reported_paths() | recording.differing_paths
-    for reader in last_state_readers(options, recording):
+    omitted = {path for path, _ in at_end.omissions}
+    differences = (
+        lines_on_differences(at_end, last_state, reported | omitted)
+        + lines_on_new_omissions(at_start, at_end, reported)
+        + lines_on_links(at_end, recording.tree, reported)
+    )
+    report.lines += differences
+    report.notes += lines_on_attributes(at_start, at_end, list(recording.troubles))
+    verdict = 'differs from' if differences else 'equals'
+    exception = ', except for what is reported' if reported and not differences else ''
+    return f'its last state {verdict} the directory{exception} (by {reader_name})'
+
+
+def read_last_state(readers: List[LastStateReader]) -> Tuple[Entries, str]:
+    """The entries of the trace's last state, without the root, and the name of the reader that
+    computed them: the first one that raises no ProgramFault. The last one's errors are raised."""
+    *preferred_readers, last_reader = readers
+    for reader in preferred_readers:
         try:
-            entries = reader.read_entries()
+            return reader.read_entries(), reader.name
         except ProgramFault:
-            continue
-        omitted = {path for path, _ in at_end.omissions}
-        differences = (
-            lines_on_differences(at_end, entries, reported | omitted)
-            + lines_on_new_omissions(at_start, at_end, reported)
-            + lines_on_links(at_end, recording.tree, reported)
-        )
-        report.lines += differences
-        report.notes += lines_on_attributes(at_start, at_end, list(recording.troubles))
-        verdict = 'differs from' if differences else 'equals'
-        exception = ', except for what is reported' if reported and not differences else ''
-        return f'its last state {verdict} the directory{exception} (by {reader.name})'
-    return NOT_COMPARED
+            pass
+    return last_reader.read_entries(), last_reader.name
 
 
 def last_state_readers(options: RecordOptions, recording: Recording) -> List[LastStateReader]:
-    """The readers of the last state, in the order in which they are tried: the program, if there is
-    one for the trace's version and the trace isn't too long for it, then a replay. If OUT is no
-    file, there is only a replay of the trace in memory. Refused if --crashfs names no program;
-    OSError as in Crashfs.program_for_version()."""
+    """The readers of the last state, in the order in which they are to be tried, and at least one:
+    the program, if it reads the trace's version and the trace isn't too long for it, then a replay.
+    If OUT isn't a file, there is only a replay of the trace in memory. Refused if --crashfs names
+    no program; OSError as in Crashfs.program_for_version()."""
     if not os.path.isfile(options.out):
         return [ReplayReader(recording.trace.lines())]
     readers: List[LastStateReader] = [ReplayReader(lines_of_file(options.out))]
@@ -198,14 +208,14 @@ def last_state_readers(options: RecordOptions, recording: Recording) -> List[Las
 
 
 def needs_windows(recording: Recording) -> bool:
-    """Whether the trace has too many micro-operations for one plan, so that it is checked in
-    windows."""
+    """Whether the trace has more micro-operations than one plan may have, so that crashfs-check
+    checks it in windows."""
     return recording.tree.micro_operations > MICRO_OPERATIONS
 
 
 def summary_line(options: RecordOptions, recording: Recording, comparison: str) -> str:
-    """The last line that is printed: what the trace has, and how it was compared, which is given in
-    words. It raises what states_text() does."""
+    """The last line that is printed: what the trace has, and the result of the comparison, which is
+    given in words. It raises what states_text() does."""
     trace = recording.trace
     counts = [
         count_text(len(trace.start), 'start line'),
@@ -218,8 +228,8 @@ def summary_line(options: RecordOptions, recording: Recording, comparison: str) 
 
 
 def acknowledged_text(recording: Recording) -> str:
-    """How many lines are acknowledged in the trace, and, in brackets, which streams acknowledged
-    some at any time."""
+    """How many acknowledged lines the trace has, in words, and, in brackets, which streams
+    acknowledged some, perhaps before a later start of the trace."""
     line_count = sum(isinstance(operation, Say) for operation in recording.trace.operations)
     names = dict.fromkeys(
         stream.name
@@ -230,10 +240,10 @@ def acknowledged_text(recording: Recording) -> str:
 
 
 def states_text(options: RecordOptions, recording: Recording) -> str:
-    """How many states the trace has by prefixes and holes, in words, as the program or else the
-    second reading counts them. IN_WINDOWS if they are too many for a plan; the fault of the second
-    reading if neither can count them. OSError as in trace_file(), or if the second reading can't be
-    forked."""
+    """How many states the trace has by prefixes and holes, in words, as the program counts them, or
+    the second reading, if there is no program or it can't. IN_WINDOWS if they are too many for a
+    plan; the fault of the second reading if that can't count them either. Refused if --crashfs
+    names no program; OSError as in trace_file(), or if the second reading can't be forked."""
     if needs_windows(recording):
         return IN_WINDOWS
     text = ''
@@ -249,8 +259,8 @@ def states_text(options: RecordOptions, recording: Recording) -> str:
 
 @contextmanager
 def trace_file(out: str, trace: Trace) -> Iterator[str]:
-    """Yields the path of a file that has the trace: OUT, or, if OUT is no file, such as standard
-    output, a temporary file, which is removed at the end. OSError if that can't be made."""
+    """Yields the path of a file that has the trace: OUT, or, if OUT isn't a file, as for standard
+    output, a temporary file, which is removed at the end. OSError if that can't be written."""
     if os.path.isfile(out):
         yield out
         return
@@ -261,7 +271,8 @@ def trace_file(out: str, trace: Trace) -> Iterator[str]:
 
 
 def failure_of_command(status: int, passed_signals: Tuple[int, ...]) -> Optional[str]:
-    """How COMMAND failed, in words, by its status as Popen has it; None if it didn't. An end by a
-    signal that was passed to it is no failure; a shell reports that as 128 and the signal."""
-    statuses = [-number for number in passed_signals] + [128 + number for number in passed_signals]
-    return None if status == 0 or status in statuses else ending_text(status)
+    """How COMMAND failed, in words, by its status as Popen has it; None if it didn't fail. An end
+    by a signal that was passed to it is no failure: its status is the negative number of the
+    signal, or, if COMMAND is a shell whose child ended so, 128 and the number."""
+    stopped = [-number for number in passed_signals] + [128 + number for number in passed_signals]
+    return None if status == 0 or status in stopped else ending_text(status)

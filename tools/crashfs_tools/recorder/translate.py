@@ -37,18 +37,18 @@ class Translator:
     """Translates the calls of a log one by one, once. A method that reads a call's argument raises
     LogError if it isn't as strace writes it.
 
-    A mapped file has a number, which is that of FileCopies. call_copies has, by the call's id, the
-    copies that show what was stored before it. mapped_nodes has the file of each number, and
-    early_bytes what copies show of files whose mmap isn't translated yet. newest_copies has the
-    newest copy of each file: copies may be translated in another order than they were taken, which
-    copy_indexes has by their ids. forks has the calls that returned each process. Without --mapped
-    there are no copies."""
+    A mapped file has a number, which is that of FileCopies. call_copies has, by the id of a call,
+    the copies that show what was stored before it. By a file's number, mapped_nodes has its node,
+    early_bytes what copies show of it before its mmap is translated, and newest_copies its newest
+    copy: copies may be translated in another order than they were made, which copy_indexes has by
+    their ids. forks has, by a process, the calls that returned its number. Without --mapped there
+    are no copies."""
 
     def __init__(
         self, files: LiveFiles, log: Log, file_copies: Optional[FileCopies] = None
     ) -> None:
-        """Notes the forks of the log, and translates nothing yet. file_copies is None without
-        --mapped; has_copies of the files is set by it."""
+        """Notes the forks of the log, and sets has_copies of the files; translates nothing yet.
+        file_copies is None without --mapped."""
         self.files = files
         self.recording = files.recording
         self.log = log
@@ -66,9 +66,9 @@ class Translator:
 
     def translate_log(self) -> None:
         """Translates the whole log, and ends the recording, whose current_call is None then.
-        LogError if an argument isn't as strace writes it, with the number of the last line of its
-        call, or without one if it is raised while calls are put in order. The recording has the
-        calls before it then."""
+        LogError if an argument isn't as strace writes it, with the number of its call's last line,
+        or without a number if the calls can't be put in order. After a LogError the recording has
+        what the calls before did, and isn't ended."""
         try:
             self.translate_calls()
         except LogError as error:
@@ -80,9 +80,9 @@ class Translator:
 
     def translate_calls(self) -> None:
         """Translates all calls in the order of their operations, each as the recording's
-        current_call. Before that it sets call_copies, and the connections over which lines are
-        sent. It empties the arguments of writes, since the trace has their bytes. LogError as
-        arguments.py raises it."""
+        current_call. Before that it sets call_copies, and line_connections of the streams. The
+        arguments of writes are emptied, to save memory: the trace has their bytes. LogError has no
+        line's number here."""
         if SOCKETS in self.recording.streams.acknowledging_descriptors:
             self.recording.streams.line_connections = connections_with_lines(self.log.calls)
         ordered = call_order.calls_in_order(self.log.calls)
@@ -100,8 +100,8 @@ class Translator:
         self.files.add_ended_syncs(None)
 
     def end_recording(self) -> None:
-        """Adds what comes after the last call: lines of output without a line feed, what the last
-        copy shows, and reports on names and mappings that the trace lacks."""
+        """Adds what comes after the last call: lines of output without a line feed, the stores that
+        the last copy shows, and reports on names and mapped files that the trace lacks."""
         self.recording.end_streams()
         for copy in self.file_copies.copies:
             if copy.is_last:
@@ -111,14 +111,14 @@ class Translator:
         self.report_untraced_names()
 
     def translate_call(self, call: Call) -> None:
-        """Translates a call or an event. A call that failed or was cut changes nothing, but stores
-        that its copies show are added, and a change that was cut is reported. EXIT forgets the
-        thread; SUPERSEDE gives it its new number."""
+        """Translates a call or an event. Of a call that failed or was cut only the stores that its
+        copies show are added, and a change that was cut is reported. EXIT removes the thread from
+        the processes; SUPERSEDE gives it its new number."""
         is_event = call.name in (EXIT, SUPERSEDE)
         if not is_event and not call.is_cut and call.result >= 0:
             self.translate_returned_call(call)
             return
-        # The program was stopped and copied from after a call that failed, too.
+        # Mapped files are copied after a call that failed, too.
         for copy in self.call_copies.get(id(call), []):
             self.add_stores(copy)
         if call.name == EXIT:
@@ -129,21 +129,10 @@ class Translator:
             self.report_cut_change(call)
 
     def report_cut_change(self, call: Call) -> None:
-        """Reports a change, or an open that makes or truncates a file, that was cut by the end of
-        its thread: the log doesn't show whether it was done. If it has several paths in the
-        directory, the report names the first, and all others may differ at the end. Nothing for a
-        change elsewhere, or of extended attributes."""
-        is_open = call.name in call_order.OPENS
-        is_change = call_order.is_change(call) and call.name not in call_order.LIST_CHANGES
-        if not (is_open or is_change):
-            return
-        process = self.find_process(call.thread, call.end)
-        if call.name in call_order.DESCRIPTOR_CHANGES:
-            targets = self.targets_by_descriptor(process, call)
-        else:
-            targets = self.targets_by_path(process, call)
-        if is_open:
-            targets = [path for path in targets if self.may_change_by_open(call, path)]
+        """Reports a call that was cut by the end of its thread, if cut_targets() has paths of it:
+        the log doesn't show whether the call was done. The report names the first path; what is at
+        the others may differ at the end."""
+        targets = self.cut_targets(call)
         if targets:
             self.recording.report(
                 f'{call.name} was cut by the end of its thread: whether it was '
@@ -152,9 +141,25 @@ class Translator:
             )
             self.recording.differing_paths.update(targets[1:])
 
+    def cut_targets(self, call: Call) -> List[str]:
+        """The paths in the directory, or the name of the stream, that a call would change; of an
+        open those of files that it would make or truncate. Empty for a call that changes nothing,
+        or only extended attributes."""
+        is_open = call.name in call_order.OPENS
+        is_change = call_order.is_change(call) and call.name not in call_order.LIST_CHANGES
+        if not (is_open or is_change):
+            return []
+        process = self.find_process(call.thread, call.end)
+        if call.name in call_order.DESCRIPTOR_CHANGES:
+            return self.targets_by_descriptor(process, call)
+        targets = self.targets_by_path(process, call)
+        if is_open:
+            return [path for path in targets if self.may_change_by_open(call, path)]
+        return targets
+
     def may_change_by_open(self, call: Call, path: str) -> bool:
-        """Whether an open of a path would change something: make a file, if nothing is there, or
-        truncate the one that is there, unless that is empty."""
+        """Whether an open of this path would make a file, as nothing is there, or truncate the one
+        that is there, which isn't empty."""
         flags = opens.CREAT_FLAGS if call.name == 'creat' else ' '.join(call.arguments[1:])
         node = self.files.tree.node_at(path)
         if node is None:
@@ -162,8 +167,9 @@ class Translator:
         return 'O_TRUNC' in flags and node.size > 0
 
     def targets_by_descriptor(self, process: Process, call: Call) -> List[str]:
-        """The name of the stream, or the path of the file, that a call changes by a descriptor, as
-        a list of one; empty if the file is elsewhere or ignored."""
+        """The name of the stream, or the path of the file, that a call of DESCRIPTOR_CHANGES would
+        change, as a list of one. Empty if the file is outside the directory, ignored, or unknown,
+        since strace shows no path of the descriptor."""
         index = call_order.TARGET_INDEXES.get(call.name, 0)
         stream = self.files.find_output_stream(process, call, index)
         if stream is not None:
@@ -173,9 +179,10 @@ class Translator:
         return [] if path is None else [path]
 
     def targets_by_path(self, process: Process, call: Call) -> List[str]:
-        """The paths that a call changes, by its arguments that are paths; without those outside the
-        directory, ignored ones, and those that strace cut. A path is relative to the descriptor
-        before it, or to the working directory. A link changes only its new path."""
+        """The paths that a call would change, by its arguments that are paths; without those
+        outside the directory, ignored ones, and those that strace cut. A relative path begins at
+        the directory of the descriptor before it, or else at the working directory. Of a link only
+        the new path is changed."""
         follow_last_link = call.name.startswith(('chmod', 'chown', 'fchmod', 'truncate'))
         if call.name in call_order.OPENS:
             follow_last_link = opens.may_follow_last_link(' '.join(call.arguments))
@@ -194,14 +201,13 @@ class Translator:
         return [path for path in paths if path is not None]
 
     def translate_returned_call(self, call: Call) -> None:
-        """Translates a call that returned, with the stores that its copies show: before it those to
-        other files, after it those to the file that it changes. A call that has no handler changes
-        nothing."""
+        """Translates a call that returned, with the stores that its copies show: those to other
+        files before the call, and those to the file that the call itself changes after it. A call
+        without a handler changes nothing."""
         process = self.find_process(call.thread, call.end)
         handler = HANDLERS.get(call.name) or SOCKET_HANDLERS.get(call.name)
         changed_file = self.file_changed_by(process, call) if self.call_copies else None
-        # What was stored before the call is before it; but a copy of the file that the
-        # call itself changed has that change in it already.
+        # The copy of a file that the call itself changed has that change in it already.
         for copy in self.call_copies.get(id(call), []):
             self.add_stores(copy, changed_file)
         if handler is not None:
@@ -212,8 +218,8 @@ class Translator:
             self.add_own_stores(copy, changed_file)
 
     def note_mapped_file(self, process: Process, call: Call, number: int) -> None:
-        """Notes that a call mapped the file with a number; nothing if the file isn't followed. What
-        copies showed of it before is stored after the call."""
+        """Notes that a call mapped the file with this number; nothing if the file isn't followed.
+        The stores that earlier copies show of it are added now, after the mmap."""
         file = process.descriptors.files.get(call.descriptor(4).number)
         if file is None or file.node is None:
             return
@@ -223,8 +229,8 @@ class Translator:
             mapped_stores.add_stores(self.files, file.node, data, has_one_writer=False)
 
     def file_changed_by(self, process: Process, call: Call) -> Optional[Node]:
-        """The file whose bytes a call changes; None for any other call, and if the file isn't
-        followed."""
+        """The file whose bytes a call changes. None if the call changes no bytes, or if the file
+        isn't followed."""
         if call.name in ('truncate', 'truncate64'):
             return self.files.node_argument(process, call, 0)
         if call.name not in call_order.DATA_CHANGES:
@@ -234,22 +240,23 @@ class Translator:
         return file.node if file else None
 
     def add_stores(self, copy: FileCopy, changed_file: Optional[Node] = None) -> None:
-        """Adds the stores that a copy shows to all mapped files but changed_file, which the copy's
-        call itself changes; None if it changes none."""
+        """Adds the stores that a copy shows to all mapped files except changed_file: the one that
+        the copy's call itself changes, or None if there is none."""
         for number, node in self.files_to_store(copy):
             if node is not changed_file:
                 self.add_stores_of_file(copy, number, node)
 
     def add_own_stores(self, copy: FileCopy, changed_file: Optional[Node]) -> None:
         """Adds the stores that a copy shows to the file that the copy's call itself changes;
-        nothing if that is None."""
+        nothing if that is None. add_stores() adds those to the other files."""
         for number, node in self.files_to_store(copy):
             if node is changed_file:
                 self.add_stores_of_file(copy, number, node)
 
     def files_to_store(self, copy: FileCopy) -> Iterator[Tuple[int, Node]]:
-        """Yields the number and the node of each mapped file of which a copy is the newest from now
-        on. The bytes of a file whose mmap isn't translated yet wait in early_bytes."""
+        """Makes a copy the newest one of each file that it has, unless a newer one is known, and
+        yields the file's number and node. The bytes of a file whose mmap isn't translated yet wait
+        in early_bytes instead."""
         for number, data in copy.bytes_by_number.items():
             node = self.mapped_nodes.get(number)
             if not self.note_newest_copy(copy, number):
@@ -260,13 +267,13 @@ class Translator:
                 yield number, node
 
     def add_stores_of_file(self, copy: FileCopy, number: int, node: Node) -> None:
-        """Adds the stores that a copy shows to the file with a number, which is this node."""
+        """Adds the stores that a copy shows to the file with this number, whose node is given."""
         data, has_one_writer = copy.bytes_by_number[number], copy.has_one_writer(number)
         mapped_stores.add_stores(self.files, node, data, has_one_writer=has_one_writer)
 
     def note_newest_copy(self, copy: FileCopy, number: int) -> bool:
-        """Makes a copy the newest one of the file with a number, and returns True. Returns False if
-        a newer one may be in the trace already; that stays the newest."""
+        """Makes a copy the newest one of the file with this number, and returns True. Returns
+        False, and changes nothing, if a copy that was made later is the newest already."""
         newest = self.newest_copies.setdefault(number, copy)
         if self.copy_indexes[id(newest)] > self.copy_indexes[id(copy)]:
             return False
@@ -274,9 +281,9 @@ class Translator:
         return True
 
     def find_process(self, number: int, line: int) -> Process:
-        """The process with a number, which calls at this line of the log. One that isn't known is
-        added: COMMAND's first process, or the child of a fork, which may call before its parent's
-        fork has returned."""
+        """The process with this number, which makes a call at this line of the log. One that isn't
+        known is added: COMMAND's first process, or that of new_process(), as a child may call
+        before its parent's fork has returned."""
         processes = self.files.processes
         if number not in processes:
             if number == self.log.first_thread:
@@ -286,9 +293,9 @@ class Translator:
         return processes[number]
 
     def new_process(self, number: int, line: int) -> Process:
-        """A process that hasn't called yet, as the newest fork that began at this line or before
-        made it. A parent that isn't known is added. If the log has no such fork, that is reported,
-        and the process begins as COMMAND does, but with nothing open."""
+        """The process with this number as the newest fork made it that began at this line of the
+        log or before. A parent that isn't known is added to the processes. If there is no such
+        fork, that is reported, and the process begins as COMMAND does, but with nothing open."""
         forks = [fork for fork in self.forks.get(number, []) if fork.begin <= line]
         if not forks:
             self.recording.report('a process whose parent is not in the log', '/')
@@ -298,15 +305,16 @@ class Translator:
         return self.find_process(newest.thread, newest.begin - 1).forked_child(newest)
 
     def renumber_thread(self, call: Call) -> None:
-        """Gives the thread that called exec the number of its process, as the system does. What had
-        that number before is forgotten, and the thread's old number is free. Nothing if the thread
-        isn't known."""
+        """Gives the thread that called exec the number of its process, as the system does. The
+        thread that had this number is forgotten, and nothing has the old number any more. Nothing
+        changes if the thread that called exec isn't known."""
         processes = self.files.processes
         if call.result in processes:
             processes[call.thread] = processes.pop(call.result)
 
     def report_untraced_names(self) -> None:
-        """Reports each name at the end that the trace lacks, if it has the file by another name."""
+        """Reports each name that a file has at the end and that the trace lacks, if the trace has
+        the file by another name."""
         for node in dict.fromkeys(self.files.tree.nodes.values()):
             if not node.traced_paths:
                 continue
