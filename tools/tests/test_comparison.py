@@ -6,7 +6,7 @@ from typing import Dict
 
 from crashfs_tools.common.trace import BLOCKS, Creat, Header, Link, Mkdir, Operation, Start
 from crashfs_tools.common.tree import Tree
-from crashfs_tools.recorder.comparison import lines_on_attributes, lines_on_links
+from crashfs_tools.recorder.comparison import lines_on_attributes_and_notes, lines_on_links
 from crashfs_tools.recorder.directory import Scan, scan_directory
 from crashfs_tools.recorder.troubles import Trouble
 
@@ -65,7 +65,7 @@ class Attributes(unittest.TestCase):
         ]
         for path in changed:
             self.assertEqual(
-                lines_on_attributes(Scan(HEADER), now, [Trouble('a change', path)]),
+                lines_on_attributes_and_notes(Scan(HEADER), now, [Trouble('a change', path)]),
                 [
                     f'not in the trace: {line}'
                     for line in wanted

@@ -119,13 +119,13 @@ def parse_path(word: str) -> Optional[str]:
     return None if data is None else data.decode('utf-8', 'surrogateescape')
 
 
-def parse_shown_text(shown: Optional[str]) -> Optional[str]:
+def parse_shown_text(text: Optional[str]) -> Optional[str]:
     """The path that strace shows between `<` and `>` after a descriptor, in hexadecimal digits. Any
     other text there, such as `pipe:[7]`, is returned unchanged, and so is None, if strace shows
     nothing. LogError if only a part of a path is in such digits."""
-    if not shown or not shown.startswith('\\x'):
-        return shown
-    return parse_escapes(shown).decode('utf-8', 'surrogateescape')
+    if not text or not text.startswith('\\x'):
+        return text
+    return parse_escapes(text).decode('utf-8', 'surrogateescape')
 
 
 def parse_integer(word: str) -> int:

@@ -4,7 +4,7 @@ recording."""
 from __future__ import annotations
 
 from abc import ABC, abstractmethod
-from typing import Dict, Iterable, Iterator, List, Set
+from typing import Collection, Dict, Iterable, Iterator, List
 
 from crashfs_tools.common.entry import Entries, Entry
 from crashfs_tools.common.program import Crashfs
@@ -68,16 +68,15 @@ def lines_of_file(path: str) -> Iterator[str]:
 
 
 def lines_on_differences(
-    directory: Scan, last_state: Entries, reported_paths: Iterable[str]
+    directory: Scan, last_state: Entries, reported_paths: Collection[str]
 ) -> List[str]:
     """A line for each difference between a scanned directory and the trace's last state, sorted by
     path, except at and below the reported paths. The directory itself, hard links and extended
     attributes aren't compared."""
-    reported = set(reported_paths)
     scanned = {entry.path: entry for entry in directory.entries}
     lines = []
     for path in sorted(scanned.keys() | last_state.keys()):
-        if is_at_or_below(path, reported):
+        if is_at_or_below(path, reported_paths):
             continue
         if path not in last_state:
             lines.append(f'{path}: it is there at the end, and the trace has it not')
@@ -103,7 +102,7 @@ def kind_text(entry: Entry) -> str:
     return 'a directory' if entry.is_directory else 'a file'
 
 
-def is_at_or_below(path: str, others: Set[str]) -> bool:
+def is_at_or_below(path: str, others: Collection[str]) -> bool:
     """Whether a path is one of some others, or below one of them. The root counts only for the path
     `/` itself."""
     names = path.split('/')
@@ -134,16 +133,15 @@ def entry_differences(at_end: Entry, traced: Entry) -> List[str]:
     return differences
 
 
-def lines_on_links(directory: Scan, last_tree: Tree, reported_paths: Iterable[str]) -> List[str]:
+def lines_on_links(directory: Scan, last_tree: Tree, reported_paths: Collection[str]) -> List[str]:
     """A line for each path at which a scanned directory and the trace's last tree both have
     something, if they differ in whether it is a hard link, or to which path; sorted by path. There
     is no line on the reported paths and what is below them."""
-    reported = set(reported_paths)
     traced_first_paths = first_paths_of_files(last_tree)
     lines = []
     for path in sorted(traced_first_paths.keys() & {entry.path for entry in directory.entries}):
         first_path, traced_first_path = directory.links.get(path, path), traced_first_paths[path]
-        if first_path != traced_first_path and not is_at_or_below(path, reported):
+        if first_path != traced_first_path and not is_at_or_below(path, reported_paths):
             is_link = first_path != path
             kind = f'a link to {first_path}' if is_link else f'no link to {traced_first_path}'
             lines.append(f'{path}: it is {kind} at the end, and not so in the trace')
@@ -165,33 +163,44 @@ def scan_order(path: str) -> List[str]:
     return path.split('/')
 
 
-def lines_on_attributes(at_start: Scan, at_end: Scan, troubles: List[Trouble]) -> List[str]:
+def lines_on_attributes_and_notes(
+    at_start: Scan, at_end: Scan, troubles: List[Trouble]
+) -> List[str]:
     """A line for each path whose extended attributes changed during the session, and for each note
     that only the scan at the end has. There is no line on a path that one of the troubles has, but
-    what is below such a path has lines."""
-    reported = {trouble.where for trouble in troubles}
-    changed = [
-        path
-        for path in sorted(at_start.attributes.keys() | at_end.attributes.keys())
-        if at_start.attributes.get(path) != at_end.attributes.get(path)
+    there are lines on what is below such a path."""
+    reported_paths = {trouble.where for trouble in troubles}
+    changes = [
+        (path, 'its extended attributes differ, which no trace has')
+        for path in paths_of_changed_attributes(at_start, at_end)
     ]
-    changes = [(path, 'its extended attributes differ, which no trace has') for path in changed]
     changes += [
         (path, f'it has {note} at the end')
         for path, note in at_end.notes
         if (path, note) not in at_start.notes
     ]
-    return [f'not in the trace: {path}: {text}' for path, text in changes if path not in reported]
+    return [
+        f'not in the trace: {path}: {text}' for path, text in changes if path not in reported_paths
+    ]
+
+
+def paths_of_changed_attributes(at_start: Scan, at_end: Scan) -> List[str]:
+    """The paths, sorted, whose extended attributes aren't the same in two scans. If only one scan
+    has the path, it has none in the other."""
+    return [
+        path
+        for path in sorted(at_start.attributes.keys() | at_end.attributes.keys())
+        if at_start.attributes.get(path) != at_end.attributes.get(path)
+    ]
 
 
 def lines_on_new_omissions(
-    at_start: Scan, at_end: Scan, reported_paths: Iterable[str]
+    at_start: Scan, at_end: Scan, reported_paths: Collection[str]
 ) -> List[str]:
     """A line for each omission, such as a device, that only the scan at the end has. There is no
     line on the reported paths and what is below them."""
-    reported = set(reported_paths)
     return [
         f'{path}: at the end it is {reason}, which no trace has'
         for path, reason in at_end.omissions
-        if (path, reason) not in at_start.omissions and not is_at_or_below(path, reported)
+        if (path, reason) not in at_start.omissions and not is_at_or_below(path, reported_paths)
     ]

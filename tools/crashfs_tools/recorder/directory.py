@@ -97,8 +97,8 @@ class Scanner:
         """Adds the entries of a directory that aren't ignored, in the order of their names, and
         what is below them. `parent` is the directory's path in the scan, but empty for the root.
         OSError as in scan_all()."""
-        with os.scandir(self.top + parent) as listed:
-            names = sorted(entry.name for entry in listed)
+        with os.scandir(self.top + parent) as entries:
+            names = sorted(entry.name for entry in entries)
         for name in names:
             path = f'{parent}/{name}'
             if not self.is_ignored(path):

@@ -31,7 +31,9 @@ class Rule:
         body = body.rstrip('/')
         is_anchored = '/' in body
         regex = ('' if is_anchored else '(?:.*/)?') + translate_pattern(body.lstrip('/'))
-        return Rule(re.compile(regex, re.S), is_negated, is_of_directories)
+        return Rule(
+            re.compile(regex, re.S), is_negated=is_negated, is_of_directories=is_of_directories
+        )
 
 
 # A character of a set, a range of characters by its first and last one, or a class of POSIX.

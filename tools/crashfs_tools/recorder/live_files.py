@@ -96,8 +96,8 @@ class LiveFiles:
         """COMMAND's first process as it starts: in the directory, with the umask of the start
         conditions, and with the output streams that it inherits. Other descriptors that are open at
         its start aren't known. It isn't added to `processes`."""
-        inherited = self.recording.streams.inherited_streams()
-        files = {number: OpenFile(None, stream=stream) for number, stream in inherited.items()}
+        streams = self.recording.streams.inherited_streams()
+        files = {number: OpenFile(None, stream=stream) for number, stream in streams.items()}
         return Process(Descriptors(files), PathContext(self.conditions.top, self.conditions.umask))
 
     # Paths
@@ -206,10 +206,10 @@ class LiveFiles:
         """The open file of the descriptor in the argument with this index; None if the descriptor
         isn't followed. If strace shows a path of the directory for such a descriptor, the log lacks
         the call that opened it: that is reported, unless the file is unlinked."""
-        shown = call.descriptor(index)
-        file = process.descriptors.files.get(shown.number)
-        if file is None and shown.path is not None and not shown.is_deleted:
-            path = self.resolve_path(shown.path)
+        descriptor = call.descriptor(index)
+        file = process.descriptors.files.get(descriptor.number)
+        if file is None and descriptor.path is not None and not descriptor.is_deleted:
+            path = self.resolve_path(descriptor.path)
             if path is not None:
                 what = f'{call.name} by a descriptor that was opened {UNKNOWN}'
                 self.recording.report(what, path)
@@ -220,14 +220,14 @@ class LiveFiles:
     ) -> Optional[OutputStream]:
         """The output stream of the descriptor in the argument with this index. A stream that isn't
         known is made if --say-fd names the descriptor; None for a file, and for any other stream.
-        From now on standard output is also found by what strace shows for the descriptor."""
-        shown = call.descriptor(index)
+        If it is standard output, what strace shows for the descriptor is added to the streams."""
+        descriptor = call.descriptor(index)
         streams = self.recording.streams
-        file = process.descriptors.files.get(shown.number)
+        file = process.descriptors.files.get(descriptor.number)
         if file is None:
-            return streams.find_stream(shown.number, shown.text)
+            return streams.find_stream(descriptor.number, descriptor.text)
         if file.stream is streams.standard_streams[1]:
-            streams.add_text_of_output(shown.text)
+            streams.add_text_of_output(descriptor.text)
         return file.stream
 
     # Changes
@@ -240,13 +240,13 @@ class LiveFiles:
         parent = self.tree.node_at(parent_of(path))
         if parent is None or parent.traced_path is None:
             return
-        operation = self.operation_that_makes(node, path)
+        operation = self.operation_that_makes(path, node)
         if isinstance(operation, Symlink) and not self.recording.may_have_newest_version:
             self.recording.report('a symbolic link was made', path)
         elif self.recording.add_operation(operation):
             node.traced_paths.add(path)
 
-    def operation_that_makes(self, node: Node, path: str) -> Operation:
+    def operation_that_makes(self, path: str, node: Node) -> Operation:
         """The operation that makes a node at a path, with the owner and group of the start
         conditions. A file is made without its bytes."""
         owner, group = self.conditions.owner, self.conditions.group

@@ -60,15 +60,15 @@ class LogFilter:
         match = HEAD.match(line)
         if match is None:
             return False
-        name, number, shown = match.groups()
+        name, number, shown_text = match.groups()
         if name in MEMORY_CALLS:
             return not self.has_mapping and self.shown_top not in line
         if name not in DESCRIPTOR_CALLS or number is None:
             return False
-        text_to_search = shown or '' if name in WRITING_CALLS else line
+        text_to_search = shown_text or '' if name in WRITING_CALLS else line
         return (
             parse_integer(number) not in self.needed_descriptors
-            and (shown is None or shown.startswith(SLASH))
+            and (shown_text is None or shown_text.startswith(SLASH))
             and self.shown_top not in text_to_search
         )
 

@@ -131,8 +131,8 @@ class LogStream:
         self.parse_line(line.rstrip('\n'))
         if self.mapped_files is not None:
             self.mapped_files.note_mapping(line, self.line_number)
-        stopped = STOPPED.match(line)
-        return int(stopped[1]) if stopped else None
+        stop = STOPPED.match(line)
+        return int(stop[1]) if stop else None
 
     def parse_line(self, line: str) -> None:
         """Adds what a line shows to the log. If the line isn't as strace writes it, log_error is

@@ -71,7 +71,7 @@ def run_under_strace(options: RecordOptions, guard: Guard) -> RecordedRun:
     try:
         status = traced_run.run_command()
     finally:
-        unended = guard.end_processes()
+        unended_processes = guard.end_processes()
     log = stream.finish()
     refuse_incomplete_log(log, options.command[0])
     return RecordedRun(
@@ -80,7 +80,7 @@ def run_under_strace(options: RecordOptions, guard: Guard) -> RecordedRun:
         status=status,
         passed_signals=tuple(traced_run.signals),
         output_pipe=traced_run.output_pipe,
-        unended_processes=descendants.processes_text(unended),
+        unended_processes=descendants.processes_text(unended_processes),
         log_fault=stream.keep_fault.strerror if stream.keep_fault else '',
     )
 

@@ -151,20 +151,20 @@ class MappedFiles:
         """Adds a copy of the files that changed since the copy before, also if none did. `line`,
         `thread` and is_alone are those of FileCopy; `others` are the processes that aren't stopped.
         OSError if a file can't be read: then no copy is added, and newest_bytes stays."""
-        changed: Dict[int, Bytes] = {}
+        changed_bytes: Dict[int, Bytes] = {}
         for number, descriptor in enumerate(self.descriptors):
             data = read_file_bytes(descriptor)
             if self.newest_bytes.get(number) != data:
-                changed[number] = data
-        self.newest_bytes.update(changed)
-        shared = self.numbers_mapped_by(others) & changed.keys() if changed else set()
+                changed_bytes[number] = data
+        self.newest_bytes.update(changed_bytes)
+        mapped_numbers = self.numbers_mapped_by(others) if changed_bytes else set()
         self.file_copies.copies.append(
             FileCopy(
                 line=line,
                 thread=thread,
                 is_alone=is_alone,
-                bytes_by_number=changed,
-                shared_numbers=shared,
+                bytes_by_number=changed_bytes,
+                shared_numbers=mapped_numbers & changed_bytes.keys(),
             )
         )
 

@@ -75,12 +75,12 @@ class OutputStream:
             self.gap_count += 1
             self.most_gaps = max(self.most_gaps, self.gap_count)
         self.last_change_count = change_count
-        ended, line_feed, unended = data.rpartition(b'\n')
+        ended_lines, line_feed, last_piece = data.rpartition(b'\n')
         if not line_feed:
             self.pieces.append(data)
             return []
-        lines = b''.join([*self.pieces, ended]).split(b'\n')
-        self.pieces = [unended] if unended else []
+        lines = b''.join([*self.pieces, ended_lines]).split(b'\n')
+        self.pieces = [last_piece] if last_piece else []
         return [line[:-1] if line.endswith(b'\r') else line for line in lines]
 
 
@@ -123,7 +123,8 @@ class OutputStreams:
         """A new stream of the descriptor with this number, which isn't added. It acknowledges
         something if --say-fd names the descriptor: by lines, unless --say-each says otherwise."""
         is_acknowledged = str(number) in self.acknowledging_descriptors
-        return OutputStream(name, is_acknowledged, self.say_each or SayEach.LINE)
+        say_each = self.say_each or SayEach.LINE
+        return OutputStream(name, is_acknowledged=is_acknowledged, say_each=say_each)
 
     def is_named_by_option(self, number: int) -> bool:
         """Whether --say-fd names the descriptor with this number, and it is above 2: the standard
@@ -164,9 +165,9 @@ class OutputStreams:
         if strace shows nothing. Two descriptors of a device may be two streams."""
         if text is None:
             return None
-        known = self.streams_by_text.get(text)
-        if known is not None or not self.is_named_by_option(number):
-            return known
+        known_stream = self.streams_by_text.get(text)
+        if known_stream is not None or not self.is_named_by_option(number):
+            return known_stream
         key = f'{number}<{text}>' if text.startswith('/dev/') else text
         return self.streams_by_text.setdefault(key, self.new_stream(f'descriptor {number}', number))
 

@@ -23,7 +23,7 @@ from .comparison import (
     lines_on_differences,
     lines_on_new_omissions,
     lines_on_links,
-    lines_on_attributes,
+    lines_on_attributes_and_notes,
 )
 from .directory import NEWEST, Scan, scan_directory
 from .options import RecordOptions
@@ -173,7 +173,7 @@ def compare_directory(
         + lines_on_links(at_end, recording.tree, reported)
     )
     report.lines += differences
-    report.notes += lines_on_attributes(at_start, at_end, list(recording.troubles))
+    report.notes += lines_on_attributes_and_notes(at_start, at_end, list(recording.troubles))
     verdict = 'differs from' if differences else 'equals'
     exception = ', except for what is reported' if reported and not differences else ''
     return f'its last state {verdict} the directory{exception} (by {reader_name})'
