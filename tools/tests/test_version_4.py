@@ -140,7 +140,7 @@ class ByHand:
         source, target = operation.entries
         there = self.entries.get(target)
         assert self.entries.pop(source) == operation.node
-        assert (there and there.kind == DIRECTORY) in (None, operation.moves_directory)
+        assert (there and there.kind == DIRECTORY) in (None, operation.is_directory_move)
         assert there is None or there.kind != DIRECTORY or not self.has_entries(there)
         self.entries[target] = operation.node
 

@@ -9,11 +9,11 @@ from __future__ import annotations
 
 from typing import Dict, FrozenSet, Iterator, List, NamedTuple, Optional, Set, Tuple, Union
 
-from .contents import Contents
+from .contents import Contents, IdTable
 from .micro import Acknowledgement, ChangeSize, LinkEntry, MicroOperation, Rights
 from .names import DIRECTORY, Entry, Inode
 from .order import Order
-from .place_sets import places_of
+from .place_sets import places_of, sets_by_key
 from .tables import change_entries, change_rights, reachable_paths
 from .trace import Reading
 
@@ -30,7 +30,7 @@ Tree = FrozenSet[Tuple[str, Optional[Shown]]]
 
 class SetResult(NamedTuple):
     """What the micro-operations of a set leave: the id of its name changes, see SetClasses; the
-    contents of changed files, ascending by file; and how many lines are acknowledged."""
+    ids of the contents of changed files, ascending by file; and how many lines are acknowledged."""
 
     changes_id: int
     file_contents: FileContents
@@ -38,17 +38,18 @@ class SetResult(NamedTuple):
 
 
 class SetClasses:
-    """A walk through the sets of a trace's micro-operations that an order allows, which must be one
-    of this trace. Later walks use what earlier ones have computed.
+    """A walk through the sets of micro-operations that an order of a trace allows. Later walks use
+    what earlier ones have computed.
 
-    Each NameChanges that some set leaves has an id, which is its place in all_changes. start_ids
-    has the id of each file's first content, and start_entries the entries that hold the file in the
-    start tree. resizes and links have the sets of the places that change a file's size, and that
-    give it one more entry. All are by the file's number.
+    `changes` has an id for each NameChanges that some set leaves. start_ids has the id of each
+    file's first content, and start_entries the entries that hold a file in the start tree. resizes
+    has the sets of the places that change a file's size, and links those that give a file one more
+    entry. All but `changes` are by the file's number, and lack files that have no such thing.
     """
 
     def __init__(self, reading: Reading, order: Order) -> None:
-        """Computes the first contents of all files. Only different_sets() walks through sets."""
+        """Computes the first contents of all files. `order` must be one of this trace. Only the
+        walk computes what sets leave."""
         self.reading = reading
         self.order = order
         self.contents = Contents(reading)
@@ -60,15 +61,17 @@ class SetClasses:
         for entry, node in reading.start.items():
             if node.kind != DIRECTORY:
                 self.start_entries.setdefault(node.number, []).append(entry)
-        self.resizes: Dict[int, int] = {}
-        self.links: Dict[int, int] = {}
-        for place, operation in enumerate(reading.operations):
-            if isinstance(operation, ChangeSize):
-                add_place(self.resizes, operation.file_number, place)
-            elif isinstance(operation, LinkEntry):
-                add_place(self.links, operation.node.number, place)
-        self.all_changes: List[NameChanges] = []
-        self.change_ids: Dict[FrozenSet[object], int] = {}
+        self.resizes = sets_by_key(
+            (operation.file_number, place)
+            for place, operation in enumerate(reading.operations)
+            if isinstance(operation, ChangeSize)
+        )
+        self.links = sets_by_key(
+            (operation.node.number, place)
+            for place, operation in enumerate(reading.operations)
+            if isinstance(operation, LinkEntry)
+        )
+        self.changes: IdTable[NameChanges] = IdTable(lambda changes: frozenset(changes.items()))
         self._ids_after: Dict[Tuple[int, int], int] = {}
         self._has_name: Dict[Tuple[int, int], bool] = {}
         self._start_paths: Dict[str, Inode] = {}
@@ -76,32 +79,37 @@ class SetClasses:
     def different_sets(self) -> Iterator[int]:
         """The first set of each different state, in the order of every_set(). States differ if
         their trees do, or their numbers of acknowledged lines. There may be far too many: the
-        caller stops when it has enough. All that were found are kept in memory."""
-        followed: Set[Tuple[int, SetResult]] = set()
+        caller must stop when it has enough. What was found is kept in memory."""
         trees: Set[Tuple[int, Tree]] = set()
-        waiting = [(0, self.order.all_places, SetResult(self.changes_id({}), (), 0))]
+        for place_set, result in self.first_sets():
+            tree = result.says, self.changed_tree(result)
+            if tree not in trees:
+                trees.add(tree)
+                yield place_set
+
+    def first_sets(self) -> Iterator[Tuple[int, SetResult]]:
+        """The first allowed set of each class of whole sets, in the order of every_set(), with what
+        it leaves. Different classes may still leave equal trees."""
+        followed: Set[Tuple[int, SetResult]] = set()
+        waiting = [(0, self.order.all_places, SetResult(self.changes.id_of({}), (), 0))]
         while waiting:
             place_set, future, result = waiting.pop()
             result = self.shown_result(result, future)
             if (future, result) in followed:
                 continue
             followed.add((future, result))
-            if future:
-                lowest_bit = future & -future
-                unit = self.order.unit_at(lowest_bit)
-                waiting.append((place_set | unit, future & ~unit, self.after_unit(result, unit)))
-                future_without = self.order.future_without(future, lowest_bit)
-                waiting.append((place_set, future_without, result))
+            if not future:
+                yield place_set, result
                 continue
-            tree = result.says, self.changed_tree(result)
-            if tree not in trees:
-                trees.add(tree)
-                yield place_set
+            lowest_bit = future & -future
+            unit = self.order.unit_at(lowest_bit)
+            waiting.append((place_set | unit, future & ~unit, self.after_unit(result, unit)))
+            waiting.append((place_set, self.order.future_without(future, lowest_bit), result))
 
     def shown_result(self, result: SetResult, future: int) -> SetResult:
-        """What a set leaves, as far as its extensions by places of `future` can show it. This
-        leaves out files that have no name and can't get one, files that are as they were made, and
-        bytes past a size that no place of `future` changes."""
+        """What a set leaves, without what a reader can't see in any extension of the set by places
+        of `future`: files that have no name and can't get one, files that are as they were made,
+        and bytes past a size that no place of `future` changes."""
         shown_contents = []
         for file_number, content_id in result.file_contents:
             may_get_name = future & self.links.get(file_number, 0)
@@ -113,16 +121,16 @@ class SetClasses:
         return result._replace(file_contents=tuple(shown_contents))
 
     def after_unit(self, result: SetResult, unit: int) -> SetResult:
-        """What a set leaves together with the micro-operations of `unit`, a set of places after its
-        own. KeyError as after_operation()."""
+        """What a set leaves together with the micro-operations of the set `unit`, which must come
+        after its own. KeyError as after_operation()."""
         for place in places_of(unit):
             result = self.after_operation(result, place)
         return result
 
     def after_operation(self, result: SetResult, place: int) -> SetResult:
-        """What a set leaves together with the micro-operation at `place`, which comes after its
+        """What a set leaves together with the micro-operation at `place`, which must come after its
         own. The files of the result are sorted, so that equal results are equal keys. KeyError if
-        the set lacks what the micro-operation needs, as change_names()."""
+        the set lacks what the micro-operation needs."""
         operation = self.reading.operations[place]
         if operation.file_number is not None:
             contents = dict(result.file_contents)
@@ -139,20 +147,21 @@ class SetClasses:
 
     def changes_id_after(self, changes_id: int, place: int) -> int:
         """The id of what name changes, given by their id, become by the micro-operation at `place`,
-        which must change entries or a directory's rights. Computed only once. KeyError as
-        change_names()."""
+        which must change entries or a directory's rights. It is computed only once. KeyError as
+        change_held_nodes()."""
         key = changes_id, place
         if key not in self._ids_after:
-            changes, operation = dict(self.all_changes[changes_id]), self.reading.operations[place]
-            self.change_names(changes, operation)
-            self.change_directories(changes, operation)
-            self._ids_after[key] = self.changes_id(changes)
+            operation = self.reading.operations[place]
+            changes = dict(self.changes.values[changes_id])
+            self.change_held_nodes(changes, operation)
+            self.change_directory_rights(changes, operation)
+            self._ids_after[key] = self.changes.id_of(changes)
         return self._ids_after[key]
 
-    def change_names(self, changes: NameChanges, operation: MicroOperation) -> None:
-        """Adds to name changes how a micro-operation changes entries. Entries that are then as at
-        the start are dropped from them. KeyError if an entry that the micro-operation removes or
-        moves isn't there."""
+    def change_held_nodes(self, changes: NameChanges, operation: MicroOperation) -> None:
+        """Updates `changes` by what a micro-operation does to entries. An entry that holds the same
+        as at the start again is dropped. KeyError if an entry that the micro-operation removes or
+        moves holds nothing."""
         nodes = {entry: self.node_at_entry(changes, entry) for entry in operation.entries}
         held_nodes = {entry: node for entry, node in nodes.items() if node is not None}
         change_entries(held_nodes, operation)
@@ -161,9 +170,9 @@ class SetClasses:
             if changes[entry] == self.reading.start.get(entry):
                 del changes[entry]
 
-    def change_directories(self, changes: NameChanges, operation: MicroOperation) -> None:
-        """Adds to name changes how a micro-operation changes the rights of directories. A directory
-        that it removes, or whose rights are then as at the start, is dropped from them."""
+    def change_directory_rights(self, changes: NameChanges, operation: MicroOperation) -> None:
+        """Updates `changes` by what a micro-operation does to the rights of directories. A
+        directory that it removes, or whose rights are as at the start again, is dropped."""
         changed_rights: Dict[int, Rights] = {}
         change_rights(changed_rights, operation)
         for directory, rights in changed_rights.items():
@@ -180,15 +189,6 @@ class SetClasses:
         assert node is None or isinstance(node, Inode)
         return node
 
-    def changes_id(self, changes: NameChanges) -> int:
-        """The id of name changes: a new one, unless equal ones have it. They are kept, and must not
-        be changed afterwards."""
-        key = frozenset(changes.items())
-        if key not in self.change_ids:
-            self.change_ids[key] = len(self.all_changes)
-            self.all_changes.append(changes)
-        return self.change_ids[key]
-
     def has_name(self, changes_id: int, file_number: int) -> bool:
         """Whether a file has an entry after the name changes with this id."""
         key = changes_id, file_number
@@ -197,8 +197,8 @@ class SetClasses:
         return self._has_name[key]
 
     def entries_of(self, changes_id: int, file_number: int) -> Iterator[Entry]:
-        """The entries that hold a file after the name changes with this id; in no order."""
-        changes = self.all_changes[changes_id]
+        """The entries that hold a file after the name changes with this id, in no order."""
+        changes = self.changes.values[changes_id]
         start_entries = self.start_entries.get(file_number, [])
         yield from (entry for entry in start_entries if entry not in changes)
         for entry, node in changes.items():
@@ -209,11 +209,11 @@ class SetClasses:
     # The trees
 
     def changed_tree(self, result: SetResult) -> Tree:
-        """What the state of a result changes of the start tree. Equal for two results exactly if
-        their states have equal trees."""
-        changes, contents = self.all_changes[result.changes_id], dict(result.file_contents)
-        is_home = self.are_directories_home(changes)
-        nodes = self.nodes_at_home(result) if is_home else self.all_nodes(changes)
+        """What the state of a result changes of the start tree. It is equal for two results exactly
+        if their states have equal trees."""
+        changes, contents = self.changes.values[result.changes_id], dict(result.file_contents)
+        is_moved = self.has_moved_directory(changes)
+        nodes = self.all_nodes(changes) if is_moved else self.changed_nodes(result)
         items = {}
         for path, node in nodes.items():
             item = self.shown_item(node, changes, contents)
@@ -223,65 +223,60 @@ class SetClasses:
 
     @property
     def start_paths(self) -> Dict[str, Inode]:
-        """The paths of the start tree, the root among them, with what is there. Made only once."""
+        """What is at each path of the start tree, the root among them. It is made only once."""
         if not self._start_paths:
             self._start_paths = dict(reachable_paths(self.reading.start.items()))
         return self._start_paths
 
-    def are_directories_home(self, changes: NameChanges) -> bool:
-        """Whether each directory that name changes have at an entry is at its home, the path that
-        it has while no directory is moved."""
-        return all(
-            self.reading.home_path(entry) == self.reading.homes[node.number]
+    def has_moved_directory(self, changes: NameChanges) -> bool:
+        """Whether name changes have a directory at an entry that isn't at the directory's home, the
+        path that it has while no directory is moved."""
+        return any(
+            self.reading.home_path(entry) != self.reading.homes[node.number]
             for entry, node in changes.items()
             if isinstance(entry, tuple) and isinstance(node, Inode) and node.kind == DIRECTORY
         )
 
-    def nodes_at_home(self, result: SetResult) -> Dict[str, Optional[Inode]]:
-        """What is at each path of a changed entry, file or directory, or None if nothing is. The
-        directories must be at their homes, see are_directories_home()."""
-        changes, home_path = self.all_changes[result.changes_id], self.reading.home_path
-        nodes: Dict[str, Optional[Inode]] = {}
-        for key in changes:
-            if isinstance(key, int):
-                nodes[self.reading.homes[key] or '/'] = Inode(DIRECTORY, key)
-                continue
-            node = self.node_at_entry(changes, key)
+    def changed_nodes(self, result: SetResult) -> Dict[str, Optional[Inode]]:
+        """What is at each path of a changed entry, file or directory; None if nothing is. No
+        directory may be moved: see has_moved_directory()."""
+        changes, homes = self.changes.values[result.changes_id], self.reading.homes
+        directories = [key for key in changes if isinstance(key, int)]
+        nodes: Dict[str, Optional[Inode]] = {
+            homes[number] or '/': Inode(DIRECTORY, number) for number in directories
+        }
+        for entry in self.changed_entries(result):
+            path = self.reading.home_path(entry)
             # A directory that is gone and one that is made again may have the same paths.
-            nodes[home_path(key)] = node or nodes.get(home_path(key))
-        for file_number, _ in result.file_contents:
-            for entry in self.entries_of(result.changes_id, file_number):
-                nodes[home_path(entry)] = self.node_at_entry(changes, entry)
+            nodes[path] = self.node_at_entry(changes, entry) or nodes.get(path)
         return nodes
 
+    def changed_entries(self, result: SetResult) -> Iterator[Entry]:
+        """The entries that a result's name changes have, then those that hold a changed file. One
+        may come twice."""
+        changes = self.changes.values[result.changes_id]
+        yield from (key for key in changes if isinstance(key, tuple))
+        for file_number, _ in result.file_contents:
+            yield from self.entries_of(result.changes_id, file_number)
+
     def all_nodes(self, changes: NameChanges) -> Dict[str, Optional[Inode]]:
-        """What is at each path after name changes, also of moved directories; and None at each path
-        of the start tree at which nothing is left. Unlike nodes_at_home() it has all unchanged
+        """What is at each path after name changes, also of moved directories, and None at each path
+        of the start tree at which nothing is left. Unlike changed_nodes() it has all unchanged
         paths."""
-        entries = dict(self.reading.start)
-        for key in changes:
-            if isinstance(key, tuple):
-                node = self.node_at_entry(changes, key)
-                if node is None:
-                    entries.pop(key, None)
-                else:
-                    entries[key] = node
-        return {**dict.fromkeys(self.start_paths), **dict(reachable_paths(entries.items()))}
+        keys = dict.fromkeys((*self.reading.start, *changes))
+        nodes = ((key, self.node_at_entry(changes, key)) for key in keys if isinstance(key, tuple))
+        held_nodes = ((entry, node) for entry, node in nodes if node is not None)
+        return {**dict.fromkeys(self.start_paths), **dict(reachable_paths(held_nodes))}
 
     def shown_item(
         self, node: Optional[Inode], changes: NameChanges, contents: Dict[int, int]
     ) -> Optional[Shown]:
-        """What a reader sees of a file or directory: its kind, and the id of its content or a
-        directory's rights. What `changes` and `contents`, ids by file number, lack is as at the
-        start. None if `node` is None."""
+        """What a reader sees of `node`: its kind, and the id of a file's content or a directory's
+        rights; None if `node` is None. `contents` has the ids of changed files, by their numbers.
+        A file or directory that it and `changes` lack is as at the start."""
         if node is None:
             return None
         if node.kind == DIRECTORY:
             return node.kind, changes.get(node.number, self.reading.start_rights.get(node.number))
         content_id = contents.get(node.number, self.start_ids[node.number])
         return node.kind, self.contents.shown_content_id(content_id)
-
-
-def add_place(place_sets: Dict[int, int], file_number: int, place: int) -> None:
-    """Adds a place to the set that `place_sets` has for a file: a new set if it has none."""
-    place_sets[file_number] = place_sets.get(file_number, 0) | 1 << place

@@ -2,12 +2,13 @@
 
 from __future__ import annotations
 
-from typing import Dict, List, NamedTuple, Tuple
+from typing import Callable, Dict, Generic, Hashable, List, NamedTuple, Tuple, TypeVar
 
-from .data import Data, overwritten_block
-from .micro import ChangeSize, MicroOperation, Rights, SetRights, WriteBlock
+from .data import overwritten_block
+from .micro import ChangeSize, MicroOperation, Rights, SetFileRights, WriteBlock
 from .trace import Reading
 
+Value = TypeVar('Value')
 # The id of a block of zeros, which no content has.
 ZEROS = 0
 # The blocks of a content that aren't zero, ascending: the number of each, and its id.
@@ -23,58 +24,65 @@ class Content(NamedTuple):
     blocks: BlockIds
 
 
+class IdTable(Generic[Value]):
+    """Different values, each with an id, which is its index in `values`. `key` returns what is
+    equal exactly for equal values, and can be hashed. No value is dropped."""
+
+    def __init__(self, key: Callable[[Value], Hashable]) -> None:
+        self.key = key
+        self.values: List[Value] = []
+        self._ids: Dict[Hashable, int] = {}
+
+    def id_of(self, value: Value) -> int:
+        """The id of a value: a new one, unless an equal value has one. A value with a new id is
+        kept, not copied, and must not be changed afterwards."""
+        key = self.key(value)
+        if key not in self._ids:
+            self._ids[key] = len(self.values)
+            self.values.append(value)
+        return self._ids[key]
+
+
 class Contents:
-    """The contents that the files of a trace can have. Each has an id, which is its place in
-    `contents`; so have the bytes of blocks, in `blocks`. Equal ones have one id, also in different
-    files. Both lists have what was asked for so far; nothing is dropped."""
+    """The contents that the files of a trace can have, and the bytes of their blocks, which come
+    without the zeros at a block's end. Equal contents have one id, also if they are of different
+    files, and so have equal blocks. `contents` and `blocks` have those that were asked for so far.
+    """
 
     def __init__(self, reading: Reading) -> None:
+        """No content has an id yet. The block of zeros has the id ZEROS."""
         self.reading = reading
-        self.block_ids: Dict[bytes, int] = {b'': ZEROS}
-        self.blocks: List[bytes] = [b'']
-        self.content_ids: Dict[Content, int] = {}
-        self.contents: List[Content] = []
+        self.contents: IdTable[Content] = IdTable(lambda content: content)
+        self.blocks: IdTable[bytes] = IdTable(lambda block_bytes: block_bytes)
+        self.blocks.id_of(b'')
         self._ids_after: Dict[Tuple[int, int], int] = {}
         self._shown_ids: Dict[int, int] = {}
 
     def initial_content_id(self, file_number: int) -> int:
         """The id of the content with which a file is made. One that an operation makes is empty,
         unless it is a symbolic link."""
-        data = self.reading.initial_data.get(file_number, Data(self.reading.block_size))
-        blocks = tuple((block, self.block_id(data.blocks[block])) for block in sorted(data.blocks))
+        data = self.reading.initial_data_of(file_number)
+        blocks = sorted(data.blocks.items())
+        block_ids = tuple((block, self.blocks.id_of(block_bytes)) for block, block_bytes in blocks)
         rights = self.reading.initial_rights[file_number]
-        return self.content_id(Content(rights, data.length, blocks))
-
-    def content_id(self, content: Content) -> int:
-        """The id of a content: a new one, unless an equal content has it."""
-        if content not in self.content_ids:
-            self.content_ids[content] = len(self.contents)
-            self.contents.append(content)
-        return self.content_ids[content]
-
-    def block_id(self, block_bytes: bytes) -> int:
-        """The id of a block's bytes, which come without the zeros at its end: a new one, unless
-        equal bytes have it; ZEROS if there are none."""
-        if block_bytes not in self.block_ids:
-            self.block_ids[block_bytes] = len(self.blocks)
-            self.blocks.append(block_bytes)
-        return self.block_ids[block_bytes]
+        return self.contents.id_of(Content(rights, data.length, block_ids))
 
     def content_id_after(self, content_id: int, place: int) -> int:
         """The id of what a content becomes by the micro-operation at `place`, which must be a
-        change of a file with this content. Computed only once."""
+        change of a file that has this content. It is computed only once. AssertionError as
+        content_after()."""
         key = content_id, place
         if key not in self._ids_after:
             operation = self.reading.operations[place]
-            content = self.content_after(self.contents[content_id], operation)
-            self._ids_after[key] = self.content_id(content)
+            content = self.content_after(self.contents.values[content_id], operation)
+            self._ids_after[key] = self.contents.id_of(content)
         return self._ids_after[key]
 
     def content_after(self, content: Content, operation: MicroOperation) -> Content:
         """What a content becomes by a change of its file: new rights, a new size, or a write to a
         block. A smaller size drops all bytes past it; a write doesn't change the size.
         AssertionError for any other micro-operation."""
-        if isinstance(operation, SetRights):
+        if isinstance(operation, SetFileRights):
             return content._replace(rights=operation.rights)
         if isinstance(operation, ChangeSize):
             blocks = content.blocks
@@ -88,26 +96,26 @@ class Contents:
         """The blocks of a content without the bytes past a length. A block of which only zeros are
         left is dropped."""
         cut_block, cut_offset = divmod(length, self.reading.block_size)
-        before = tuple((block, block_id) for block, block_id in blocks if block < cut_block)
-        cut_bytes = self.blocks[dict(blocks).get(cut_block, ZEROS)][:cut_offset]
-        cut_id = self.block_id(cut_bytes.rstrip(b'\0'))
-        return before if cut_id == ZEROS else (*before, (cut_block, cut_id))
+        whole_blocks = tuple((block, block_id) for block, block_id in blocks if block < cut_block)
+        bytes_left = self.blocks.values[dict(blocks).get(cut_block, ZEROS)][:cut_offset]
+        id_left = self.blocks.id_of(bytes_left.rstrip(b'\0'))
+        return whole_blocks if id_left == ZEROS else (*whole_blocks, (cut_block, id_left))
 
     def blocks_after_write(self, blocks: BlockIds, write: WriteBlock) -> BlockIds:
-        """The blocks of a content after a write to a block, which may be a new one. If the block
-        has only zeros then, it is dropped."""
-        changed = dict(blocks)
-        bytes_before = self.blocks[changed.pop(write.block, ZEROS)]
-        block_id = self.block_id(overwritten_block(bytes_before, write.offset, write.data))
+        """The blocks of a content after a write to a block, which the content may lack so far. If
+        the block has only zeros then, it is dropped."""
+        ids_after = dict(blocks)
+        bytes_before = self.blocks.values[ids_after.pop(write.block, ZEROS)]
+        block_id = self.blocks.id_of(overwritten_block(bytes_before, write.offset, write.data))
         if block_id != ZEROS:
-            changed[write.block] = block_id
-        return tuple(sorted(changed.items()))
+            ids_after[write.block] = block_id
+        return tuple(sorted(ids_after.items()))
 
     def shown_content_id(self, content_id: int) -> int:
-        """The id of a content without the bytes past its size, which no reader sees. Computed only
-        once."""
+        """The id of a content without the bytes past its size, which no reader sees. It is computed
+        only once."""
         if content_id not in self._shown_ids:
-            content = self.contents[content_id]
+            content = self.contents.values[content_id]
             blocks = self.blocks_up_to(content.blocks, content.size)
-            self._shown_ids[content_id] = self.content_id(content._replace(blocks=blocks))
+            self._shown_ids[content_id] = self.contents.id_of(content._replace(blocks=blocks))
         return self._shown_ids[content_id]

@@ -22,24 +22,29 @@ class Data:
         """The bytes of a file of this length: its parts, each after its offset, and zeros
         elsewhere. If parts overlap the last one counts; bytes past the length are hidden."""
         data = Data(block_size, length)
-        for part_offset, part in parts:
-            for block, offset, piece in split_by_blocks(part_offset, part, block_size):
-                data.write(block, offset, piece)
+        for offset, part in parts:
+            data.write_bytes(offset, part)
         return data
 
     def copy(self) -> Data:
         """A copy: changes of one don't change the other."""
         return Data(self.block_size, self.length, dict(self.blocks))
 
-    def write(self, block: int, offset: int, piece: bytes) -> None:
-        """Writes bytes into a block, given by its number, at an offset in it; they must end in the
-        block. The length stays: bytes past it are hidden."""
+    def write_bytes(self, file_offset: int, data: bytes) -> None:
+        """Writes bytes at an offset of the file, into as many blocks as they need. The length
+        stays: bytes past it are hidden."""
+        for block, offset, piece in split_by_blocks(file_offset, data, self.block_size):
+            self.write_block(block, offset, piece)
+
+    def write_block(self, block: int, offset: int, piece: bytes) -> None:
+        """Writes bytes into one block, given by its number, at an offset in the block, in which
+        they must also end. The length stays: bytes past it are hidden."""
         block_bytes = self.blocks.get(block, b'')
         self.set_block(block, overwritten_block(block_bytes, offset, piece))
 
     def set_block(self, block: int, block_bytes: bytes) -> None:
-        """Sets a block, given by its number, to bytes that come without the zeros at its end. If
-        there are none, the block is zeros."""
+        """Sets a block, given by its number, to these bytes, which must come without the zeros at
+        the block's end. If there are no bytes, the block is all zeros."""
         if block_bytes:
             self.blocks[block] = block_bytes
         else:
@@ -66,8 +71,8 @@ class Data:
         return data
 
     def __eq__(self, other: object) -> bool:
-        """Whether a reader of the two files sees the same: equal lengths, and equal bytes up to
-        them. Both must have blocks of one size."""
+        """Whether a reader of the two files sees the same: equal lengths, and equal bytes up to the
+        length. Both must have blocks of one size."""
         if not isinstance(other, Data):
             return NotImplemented
         own_blocks = self.without_hidden_bytes().blocks
@@ -87,8 +92,8 @@ class Data:
         return b''.join(self.shown_blocks())
 
     def read(self, begin: int, end: int) -> bytes:
-        """The bytes from offset `begin` to before `end`, which must not be past the length: hidden
-        bytes or zeros would be returned."""
+        """The bytes from offset `begin` to before `end`. `end` must not be past the length: for
+        offsets there, hidden bytes or zeros are returned."""
         first_block = begin // self.block_size
         blocks = (
             self.blocks.get(block, b'').ljust(self.block_size, b'\0')
@@ -99,8 +104,8 @@ class Data:
 
 
 def overwritten_block(block_bytes: bytes, offset: int, piece: bytes) -> bytes:
-    """The bytes of a block after a piece was written into it at an offset. They come, and are
-    returned, without the zeros at the block's end."""
+    """The bytes of a block after a piece was written into it at an offset. `block_bytes`, and what
+    is returned, are without the zeros at the block's end."""
     changed = bytearray(block_bytes.ljust(offset, b'\0'))
     changed[offset : offset + len(piece)] = piece
     return bytes(changed).rstrip(b'\0')
@@ -109,8 +114,8 @@ def overwritten_block(block_bytes: bytes, offset: int, piece: bytes) -> bytes:
 def split_by_blocks(
     file_offset: int, data: bytes, block_size: int
 ) -> Iterator[Tuple[int, int, bytes]]:
-    """Divides bytes at an offset of a file by its blocks: of each piece the number of the block,
-    the offset in it, and the bytes. Nothing if there are no bytes."""
+    """Divides bytes at an offset of a file into pieces, each in one of the file's blocks: the
+    block's number, the offset in the block, and the bytes. Nothing if there are no bytes."""
     end = file_offset + len(data)
     begin = file_offset
     while begin < end:

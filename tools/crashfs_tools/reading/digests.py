@@ -8,8 +8,8 @@ from functools import lru_cache
 from typing import Callable, Dict, Tuple
 
 from .data import Data, overwritten_block
-from .micro import ChangeSize, Rights, SetRights, WriteBlock
-from .place_sets import places_of, set_of
+from .micro import ChangeSize, Rights, SetFileRights, WriteBlock
+from .place_sets import places_of, set_of, sets_by_key
 from .trace import Reading
 
 # The digests of a file's blocks, by their numbers.
@@ -20,12 +20,12 @@ ZEROS = b''
 
 class Digests:
     """Digests of the files of a trace. A file's digest is made of its length and the digests of its
-    blocks. That of a block depends only on the writes to it and on the size, so that many states
-    share it, and is kept in memory.
+    blocks. A block's digest depends only on the writes to the block and on the file's size, so that
+    many states share it; all digests of blocks are kept in memory.
 
     `changes` has the set of each changed file's changes, by the file's number. `compute_file`
-    returns the rights and bytes of a file after some of them, without hidden bytes: it is called
-    for files that may shrink, and for those without changes.
+    returns the rights and bytes of a file after a part of such a set, without hidden bytes: it is
+    called for files that may shrink, and for those without changes.
     """
 
     def __init__(
@@ -60,10 +60,15 @@ class Digests:
             digests = {block: hash_block(data.blocks[block]) for block in data.blocks}
             return rights, hash_file(data.length, digests)
         rights, size = self.rights_and_size(file_number, place_set & ~self.all_writes)
-        block_writes = self.block_writes[file_number]
-        are_all_written = block_writes.keys() >= self.initial_data(file_number).blocks.keys()
-        digests = {} if are_all_written else dict(self.initial_digests(file_number))
-        block_size = self.reading.block_size
+        return rights, hash_file(size, self.block_digests(file_number, place_set, size))
+
+    def block_digests(self, file_number: int, place_set: int, size: int) -> BlockDigests:
+        """The digests of the blocks of a file that never shrinks, after the changes of a set, which
+        leave this size. Blocks past the size, and some that are zeros, are left out."""
+        block_writes, block_size = self.block_writes[file_number], self.reading.block_size
+        initial_blocks = self.reading.initial_data_of(file_number).blocks
+        has_unwritten_blocks = not initial_blocks.keys() <= block_writes.keys()
+        digests = dict(self.initial_digests(file_number)) if has_unwritten_blocks else {}
         last_block, last_bytes = divmod(size, block_size)
         for block, writes in block_writes.items():
             if block < last_block:
@@ -72,16 +77,11 @@ class Digests:
         if last_bytes:
             writes = block_writes.get(last_block, 0) & place_set
             digests[last_block] = self.block_digest(file_number, last_block, writes, last_bytes)
-        return rights, hash_file(size, digests)
-
-    def initial_data(self, file_number: int) -> Data:
-        """The bytes with which a file is made: none if an operation makes it, unless it is a
-        symbolic link."""
-        return self.reading.initial_data.get(file_number, Data(self.reading.block_size))
+        return digests
 
     def writes_that_show(self, writes: int) -> int:
-        """Of a set of writes to one block those whose bytes may show: only the last one if it
-        writes the whole block, else all."""
+        """Those of a set of writes to one block whose bytes a reader may see: only the last write
+        if it fills the block, else all."""
         last = writes.bit_length() - 1
         operation = self.reading.operations[last] if writes else None
         if isinstance(operation, WriteBlock) and len(operation.data) == self.reading.block_size:
@@ -90,13 +90,13 @@ class Digests:
 
     def compute_initial_digests(self, file_number: int) -> BlockDigests:
         """The digests of the blocks with which a file is made; those of zeros are left out."""
-        blocks = self.initial_data(file_number).blocks
+        blocks = self.reading.initial_data_of(file_number).blocks
         return {block: hash_block(block_bytes) for block, block_bytes in blocks.items()}
 
     def compute_block_digest(self, file_number: int, block: int, writes: int, size: int) -> bytes:
         """The digest of the first `size` bytes of a file's block, given by its number, after a set
         of writes, all to this block."""
-        block_bytes = self.initial_data(file_number).blocks.get(block, b'')
+        block_bytes = self.reading.initial_data_of(file_number).blocks.get(block, b'')
         for place in places_of(writes):
             operation = self.reading.operations[place]
             assert isinstance(operation, WriteBlock)
@@ -104,21 +104,21 @@ class Digests:
         return hash_block(block_bytes[:size].rstrip(b'\0'))
 
     def compute_rights_and_size(self, file_number: int, place_set: int) -> Tuple[Rights, int]:
-        """The rights and the size of a file after a set of its changes."""
+        """The rights and the size of a file after a set of its changes; writes don't count."""
         rights = self.reading.initial_rights[file_number]
-        size = self.initial_data(file_number).length
+        size = self.reading.initial_data_of(file_number).length
         for place in places_of(place_set):
             operation = self.reading.operations[place]
-            if isinstance(operation, SetRights):
+            if isinstance(operation, SetFileRights):
                 rights = operation.rights
             elif isinstance(operation, ChangeSize):
                 size = operation.length
         return rights, size
 
     def may_shrink(self, file_number: int, place_set: int) -> bool:
-        """Whether one of a set of changes, all of this file, makes the file shorter. If not, no
-        subset of them does."""
-        size = self.initial_data(file_number).length
+        """Whether one of a set of changes, all of this file, makes the file shorter if all of them
+        are made. If none does, none does in a subset either."""
+        size = self.reading.initial_data_of(file_number).length
         for place in places_of(place_set):
             operation = self.reading.operations[place]
             if isinstance(operation, ChangeSize):
@@ -128,25 +128,25 @@ class Digests:
         return False
 
     def writes_by_block(self, place_set: int) -> Dict[int, int]:
-        """Those of a set of one file's changes that are writes: for each block, by its number, the
-        set of the writes to it."""
-        writes: Dict[int, int] = {}
-        for place in places_of(place_set & self.all_writes):
-            operation = self.reading.operations[place]
-            assert isinstance(operation, WriteBlock)
-            writes[operation.block] = writes.get(operation.block, 0) | 1 << place
-        return writes
+        """For each block of a file, by its number, the set of the writes to the block that a set of
+        the file's changes has. A block that none writes is left out."""
+        operations = ((self.reading.operations[place], place) for place in places_of(place_set))
+        return sets_by_key(
+            (operation.block, place)
+            for operation, place in operations
+            if isinstance(operation, WriteBlock)
+        )
 
 
 def hash_block(block_bytes: bytes) -> bytes:
-    """The digest of a block, which comes without the zeros at its end. ZEROS if nothing is left of
-    it."""
+    """The digest of a block, given by its bytes without the zeros at its end; ZEROS if there are
+    none."""
     return hashlib.sha256(block_bytes).digest() if block_bytes else ZEROS
 
 
 def hash_file(length: int, block_digests: BlockDigests) -> bytes:
-    """The digest of a file, from its length and the digests of its blocks. A block that is left out
-    counts as zeros."""
+    """The digest of a file, from its length and the digests of its blocks, by their numbers. A
+    block without a digest counts as zeros, as one with the digest ZEROS."""
     digest = hashlib.sha256(length.to_bytes(8, 'little'))
     for block in sorted(block_digests):
         if block_digests[block]:

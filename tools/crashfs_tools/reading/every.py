@@ -17,8 +17,8 @@ MOST_MEMBERS = 2**64 - 1
 
 
 def every_set(order: Order) -> Iterator[int]:
-    """All sets that an order allows, as a stream. At the first place in which two sets differ, the
-    set without this place comes first. There may be far too many: the caller stops when it has
+    """All sets that an order allows, as a stream. Of two sets the one that lacks the first place in
+    which they differ comes first. There may be far too many: the caller must stop when it has
     enough."""
     waiting = [(0, order.all_places)]
     while waiting:
@@ -37,20 +37,30 @@ def count_futures(order: Order) -> List[Dict[int, int]]:
     k, each with how many sets have it. ReadingFault if one k has more than MOST_FUTURES."""
     levels = [{order.all_places: 1}]
     for place in range(order.count):
-        level: Dict[int, int] = {}
-        for future, sets in levels[-1].items():
-            for next_future in next_futures(order, future, 1 << place):
-                level[next_future] = level.get(next_future, 0) + sets
-        if len(level) > MOST_FUTURES:
+        levels.append(count_next_futures(order, levels[-1], 1 << place))
+        if len(levels[-1]) > MOST_FUTURES:
             raise ReadingFault('too many sets to count')
-        levels.append(level)
     return levels
 
 
+def count_next_futures(order: Order, set_counts: Dict[int, int], bit: int) -> Dict[int, int]:
+    """The futures of the allowed sets of places below k + 1, each with how many sets have it, from
+    those of the sets of places below k, and the bit of place k."""
+    pairs = (
+        (next_future, set_count)
+        for future, set_count in set_counts.items()
+        for next_future in next_futures(order, future, bit)
+    )
+    next_counts: Dict[int, int] = {}
+    for future, set_count in pairs:
+        next_counts[future] = next_counts.get(future, 0) + set_count
+    return next_counts
+
+
 def next_futures(order: Order, future: int, bit: int) -> List[int]:
-    """The futures that follow a future when the next place, given by its bit, is decided: first
-    that of the sets without the place, then that of the sets with it. If the future lacks the
-    place, only the future itself."""
+    """The futures that follow a future when the next place, given by its bit, is decided: that of
+    the sets without the place, then that of the sets with the place. If the place can't be added,
+    since the future lacks it, only the future itself."""
     if not future & bit:
         return [future]
     return [order.future_without(future, bit), future & ~order.unit_at(bit)]
@@ -63,9 +73,9 @@ def count_sets(order: Order) -> int:
 
 
 def drawn_sets(order: Order, count: int, seed: int) -> Iterator[int]:
-    """Draws so many allowed sets, each time with the same chance for every set, so one may come
-    twice. The same seed gives the same sets. ReadingFault, only when the first set is taken, if
-    there are more than MOST_MEMBERS sets, or more than MOST_FUTURES futures of one k."""
+    """Draws so many allowed sets, each time with the same chance for every set, so that a set may
+    come twice. The same seed gives the same sets. ReadingFault, only when the first set is asked
+    for, if there are more than MOST_MEMBERS sets, or more than MOST_FUTURES futures of one k."""
     extensions = count_extensions(order)
     set_count = extensions[0][order.all_places]
     if set_count > MOST_MEMBERS:
@@ -76,25 +86,25 @@ def drawn_sets(order: Order, count: int, seed: int) -> Iterator[int]:
 
 
 def count_extensions(order: Order) -> List[Dict[int, int]]:
-    """For each k and each future there, how many allowed sets extend a set of places below k that
-    has this future. ReadingFault if one k has more than MOST_FUTURES."""
+    """For each k, from 0 to the number of places, and each future of count_futures() there, how
+    many allowed sets extend one set of places below k that has this future. ReadingFault if one k
+    has more than MOST_FUTURES."""
     futures = count_futures(order)
     levels: List[Dict[int, int]] = [{0: 1}]
-    for place in range(order.count - 1, -1, -1):
-        next_level = levels[-1]
-        levels.append(
-            {
-                future: sum(next_level[it] for it in next_futures(order, future, 1 << place))
-                for future in futures[place]
-            }
-        )
+    for place in reversed(range(order.count)):
+        next_level, bit = levels[-1], 1 << place
+        level = {
+            future: sum(next_level[it] for it in next_futures(order, future, bit))
+            for future in futures[place]
+        }
+        levels.append(level)
     levels.reverse()
     return levels
 
 
 def nth_set(order: Order, extensions: List[Dict[int, int]], number: int) -> int:
-    """The allowed set that has `number` sets before it in the order of every_set(); there must be
-    more than `number` sets. `extensions` are those of count_extensions() for the same order."""
+    """The allowed set that comes after `number` others in the order of every_set(); there must be
+    more than `number` sets. `extensions` must be what count_extensions() returns for this order."""
     place_set, future, sets_to_pass = 0, order.all_places, number
     for place in range(order.count):
         bit = 1 << place

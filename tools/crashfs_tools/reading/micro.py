@@ -11,9 +11,11 @@ Rights = Tuple[str, str, str]
 
 
 class MicroOperation:
-    """A micro-operation: what it changes, and where it comes from. What a kind doesn't have is None
-    or empty."""
+    """A micro-operation: what it changes, and where it comes from. What a kind doesn't have is
+    None, empty, 0 or False."""
 
+    # What `list` calls this kind.
+    kind: str
     # The paths that `list` prints of it.
     paths: Tuple[str, ...] = ()
     # The entries that it touches.
@@ -23,15 +25,16 @@ class MicroOperation:
     # The number of the directory that it makes, or removes.
     made_directory: Optional[int] = None
     removed_directory: Optional[int] = None
-    moves_directory = False
+    # Whether it moves a directory.
+    is_directory_move = False
     # Of a rename into another directory: 1 for its first half, 2 for its second one.
     rename_half = 0
-    # The number of the file whose size, bytes or rights it changes, and a path that the file had
-    # then.
+    # The number of the file whose size, bytes or rights it changes.
     file_number: Optional[int] = None
-    path = ''
     # The number of the directory whose rights it changes.
     directory_number: Optional[int] = None
+    # A path that this file or directory had then.
+    path = ''
     # The number of its line in the trace, 0 until Reading.read_line() sets it.
     line_number = 0
 
@@ -41,18 +44,20 @@ class MicroOperation:
         raise NotImplementedError
 
     def fields(self) -> Dict[str, Any]:
-        """Its fields in `list --json`, except its kind, its line and its needs."""
+        """The fields that only its kind has in `list --json`."""
         raise NotImplementedError
 
     def file_fields(self) -> Dict[str, Any]:
-        """The fields in `list --json` of the file that it changes: a path of the file, None if it
-        has none, and its number."""
-        return {'path': self.path or None, 'file': self.file_number}
+        """The fields in `list --json` of the file that it changes: a path of the file, and the
+        file's number. `path` and file_number must be set."""
+        return {'path': self.path, 'file': self.file_number}
 
 
 class CreateEntry(MicroOperation):
     """A file, a symbolic link or a directory (`node`) is made at an entry, with these rights.
     target: that of a symbolic link, else empty."""
+
+    kind = 'create_dir_entry'
 
     def __init__(
         self, path: str, entry: Entry, node: Inode, rights: Rights, target: str = ''
@@ -66,7 +71,7 @@ class CreateEntry(MicroOperation):
 
     @property
     def text(self) -> str:
-        return f'create_dir_entry {self.paths[0]} {self.node.kind}'
+        return f'{self.kind} {self.paths[0]} {self.node.kind}'
 
     def fields(self) -> Dict[str, Any]:
         """See MicroOperation.fields. A directory has no `file`, and only a symbolic link has
@@ -81,6 +86,8 @@ class DeleteEntry(MicroOperation):
     """An entry of a directory is removed; `node` is what it held. rename_half is 2 if this is the
     second half of a rename, else 0."""
 
+    kind = 'delete_dir_entry'
+
     def __init__(self, path: str, entry: Entry, node: Inode, rename_half: int = 0) -> None:
         self.paths, self.entries, self.handled_inodes = (path,), (entry,), (node,)
         self.node = node
@@ -90,16 +97,18 @@ class DeleteEntry(MicroOperation):
 
     @property
     def text(self) -> str:
-        return f'delete_dir_entry {self.paths[0]}'
+        return f'{self.kind} {self.paths[0]}'
 
     def fields(self) -> Dict[str, Any]:
         return {'path': self.paths[0], 'node': self.node.kind}
 
 
 class MoveEntry(MicroOperation):
-    """What is at the first of two entries (`node`) is moved to the second one. replaced: what was
-    at the second one, or None. has_node_field: whether JSON has the kind of what is moved, as in
+    """What is at the first of two entries (`node`) is moved to the second. replaced: what was at
+    the second entry, or None. has_node_field: whether JSON has the kind of what is moved, as in
     version 4."""
+
+    kind = 'move_dir_entry'
 
     def __init__(
         self,
@@ -107,19 +116,20 @@ class MoveEntry(MicroOperation):
         entries: Tuple[Entry, Entry],
         node: Inode,
         replaced: Optional[Inode],
+        *,
         has_node_field: bool,
     ) -> None:
         self.paths, self.entries = paths, entries
         self.handled_inodes = (node,) if replaced is None else (node, replaced)
         self.node = node
         self.has_node_field = has_node_field
-        self.moves_directory = node.kind == DIRECTORY
+        self.is_directory_move = node.kind == DIRECTORY
         if replaced is not None and replaced.kind == DIRECTORY:
             self.removed_directory = replaced.number
 
     @property
     def text(self) -> str:
-        return 'move_dir_entry {} {}'.format(*self.paths)
+        return f'{self.kind} {self.paths[0]} {self.paths[1]}'
 
     def fields(self) -> Dict[str, Any]:
         fields = {'path': self.paths[0], 'to': self.paths[1]}
@@ -128,8 +138,9 @@ class MoveEntry(MicroOperation):
 
 class LinkEntry(MicroOperation):
     """A file or symbolic link (`node`) gets one more entry. rename_half is 1 if this is the first
-    half of a rename, else 0. Only a first half may replace something: `replaced` is that, or
-    None."""
+    half of a rename, else 0. Only such a half may replace something, which is `replaced`."""
+
+    kind = 'link_dir_entry'
 
     def __init__(
         self,
@@ -146,7 +157,7 @@ class LinkEntry(MicroOperation):
 
     @property
     def text(self) -> str:
-        return f'link_dir_entry {self.paths[0]} {self.node.number}'
+        return f'{self.kind} {self.paths[0]} {self.node.number}'
 
     def fields(self) -> Dict[str, Any]:
         return {'path': self.paths[0], 'file': self.node.number}
@@ -155,6 +166,7 @@ class LinkEntry(MicroOperation):
 class ChangeSize(MicroOperation):
     """A file, given by its number, gets a size."""
 
+    kind = 'change_file_size'
     file_number: int
 
     def __init__(self, file_number: int, length: int) -> None:
@@ -163,7 +175,7 @@ class ChangeSize(MicroOperation):
 
     @property
     def text(self) -> str:
-        return f'change_file_size {self.file_number} {self.length}'
+        return f'{self.kind} {self.file_number} {self.length}'
 
     def fields(self) -> Dict[str, Any]:
         return {**self.file_fields(), 'length': self.length}
@@ -173,6 +185,7 @@ class WriteBlock(MicroOperation):
     """Bytes are written into a block of a file, both given by their numbers, at an offset in the
     block. file_offset is their offset in the file."""
 
+    kind = 'write_block'
     file_number: int
 
     def __init__(
@@ -186,7 +199,7 @@ class WriteBlock(MicroOperation):
 
     @property
     def text(self) -> str:
-        return f'write_block {self.file_number} {self.block} {self.offset} {len(self.data)}'
+        return f'{self.kind} {self.file_number} {self.block} {self.offset} {len(self.data)}'
 
     def fields(self) -> Dict[str, Any]:
         write = {'block': self.block, 'at': self.offset, 'count': len(self.data)}
@@ -194,44 +207,58 @@ class WriteBlock(MicroOperation):
 
 
 class SetRights(MicroOperation):
-    """A file, given by its number, gets an owner, a group and a mode; or, if file_number is None, a
-    directory, given by its number and path."""
+    """A file or a directory gets an owner, a group and a mode: see the subclasses."""
 
-    def __init__(
-        self,
-        rights: Rights,
-        file_number: Optional[int],
-        directory_number: Optional[int] = None,
-        path: str = '',
-    ) -> None:
-        self.file_number = file_number
-        self.directory_number = directory_number
-        self.path = path
+    kind = 'set_attr'
+
+    def __init__(self, rights: Rights) -> None:
         self.rights = rights
 
-    @property
-    def is_directory(self) -> bool:
-        """Whether it is a directory that gets them."""
-        return self.file_number is None
+    def rights_fields(self) -> Dict[str, str]:
+        """The fields in `list --json` of what is set."""
+        owner, group, mode = self.rights
+        return {'mode': mode, 'owner': owner, 'group': group}
+
+
+class SetFileRights(SetRights):
+    """A file, given by its number, gets an owner, a group and a mode."""
+
+    file_number: int
+
+    def __init__(self, rights: Rights, file_number: int) -> None:
+        super().__init__(rights)
+        self.file_number = file_number
 
     @property
     def text(self) -> str:
-        """See MicroOperation.text. A directory is printed by its path, a file by its number."""
-        owner, group, mode = self.rights
-        target = f'dir {self.path}' if self.is_directory else f'file {self.file_number}'
-        return f'set_attr {target} {mode} {owner} {group}'
+        return ' '.join([self.kind, 'file', str(self.file_number), *self.rights_fields().values()])
 
     def fields(self) -> Dict[str, Any]:
-        """See MicroOperation.fields. A directory has a path, a file also its number."""
-        target = {'path': self.path} if self.is_directory else self.file_fields()
-        owner, group, mode = self.rights
-        return {**target, 'mode': mode, 'owner': owner, 'group': group}
+        return {**self.file_fields(), **self.rights_fields()}
+
+
+class SetDirectoryRights(SetRights):
+    """A directory, given by its number and path, gets an owner, a group and a mode."""
+
+    directory_number: int
+
+    def __init__(self, rights: Rights, directory_number: int, path: str) -> None:
+        super().__init__(rights)
+        self.directory_number = directory_number
+        self.path = path
+
+    @property
+    def text(self) -> str:
+        return ' '.join([self.kind, 'dir', self.path, *self.rights_fields().values()])
+
+    def fields(self) -> Dict[str, Any]:
+        return {'path': self.path, **self.rights_fields()}
 
 
 class Acknowledgement(MicroOperation):
     """A line is acknowledged."""
 
-    text = 'say'
+    kind = text = 'say'
 
     def fields(self) -> Dict[str, Any]:
         return {}

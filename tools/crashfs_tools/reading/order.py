@@ -3,6 +3,7 @@
 from __future__ import annotations
 
 from copy import copy
+from itertools import accumulate
 from operator import or_
 from typing import Dict, Iterator, List, Optional, Tuple
 
@@ -14,11 +15,11 @@ from .micro import (
     CreateEntry,
     LinkEntry,
     MicroOperation,
-    SetRights,
+    SetFileRights,
     WriteBlock,
 )
 from .names import DIRECTORY
-from .place_sets import gaps_in, places_of, set_of
+from .place_sets import gaps_in, places_of, set_of, sets_by_key, union_of
 from .syncs import SyncPoint
 from .trace import Reading
 
@@ -30,45 +31,43 @@ IN_ORDER = ('ordered', 'journal')
 
 
 def changed_marks(operation: MicroOperation) -> Iterator[Mark]:
-    """The marks of what a micro-operation changes, if all changes of that stay in order: a block, a
-    size (P1), a file's rights (P7), an entry, and a directory that is made or removed or gets
-    rights (P2). An acknowledged line has none."""
+    """A mark for each thing that a micro-operation changes and whose changes all stay in order: a
+    block, a size (P1), a file's rights (P7), an entry, and a directory that is made or removed or
+    gets rights (P2). An acknowledged line has none."""
     if isinstance(operation, WriteBlock):
         yield 'block', operation.file_number, operation.block
     elif isinstance(operation, ChangeSize):
         yield 'size', operation.file_number
-    elif isinstance(operation, SetRights) and operation.file_number is not None:
+    elif isinstance(operation, SetFileRights):
         yield 'rights', operation.file_number
-    for entry in operation.entries:
-        yield 'entry', entry
-    for directory in (
-        operation.made_directory,
-        operation.removed_directory,
-        operation.directory_number,
-    ):
+    yield from (('entry', entry) for entry in operation.entries)
+    made_or_removed = operation.made_directory, operation.removed_directory
+    for directory in (*made_or_removed, operation.directory_number):
         if directory is not None:
             yield 'directory', directory
 
 
 def provided_marks(operation: MicroOperation) -> Iterator[Mark]:
-    """The marks that a micro-operation provides: a later one that requires one of them needs it."""
+    """The marks that a micro-operation provides: each later one that requires one of these marks
+    needs it."""
     yield from changed_marks(operation)
     if isinstance(operation, Acknowledgement):
         yield ('say',)
     if operation.entries:
         yield ('entries',)
-    for directory, _ in operation.entries:
-        yield 'entry in', directory
-    if isinstance(operation, CreateEntry) and operation.node.kind != DIRECTORY:
-        yield 'made', operation.node.number
-    if operation.moves_directory:
+    yield from (('entry in', directory) for directory, _ in operation.entries)
+    if isinstance(operation, CreateEntry):
+        is_directory = operation.node.kind == DIRECTORY
+        yield 'directory made' if is_directory else 'file made', operation.node.number
+    if operation.is_directory_move:
         yield ('directory moved',)
 
 
 def required_marks(operation: MicroOperation, reading: Reading, profile: str) -> Iterator[Mark]:
     """The marks that a micro-operation requires under a profile: it needs all earlier ones that
-    provide one of them. What the rules P3, P5, P11 and P13 say isn't among them."""
+    provide one of these marks. For the rules P5, P11 and P13 there are no marks."""
     yield from changed_marks(operation)
+    yield from (('directory made', directory) for directory, _ in operation.entries)  # P3
     if operation.removed_directory is not None:
         yield 'entry in', operation.removed_directory  # P4
     if isinstance(operation, Acknowledgement) or reading.version >= 3:
@@ -76,8 +75,8 @@ def required_marks(operation: MicroOperation, reading: Reading, profile: str) ->
     if operation.entries and profile in IN_ORDER:
         yield ('entries',)  # P8
     if isinstance(operation, LinkEntry):
-        yield 'made', operation.node.number  # P10
-    if operation.moves_directory:
+        yield 'file made', operation.node.number  # P10
+    if operation.is_directory_move:
         yield ('directory moved',)  # P12
 
 
@@ -102,25 +101,18 @@ class Order:
 
     def compute_needs(self, reading: Reading) -> List[int]:
         """For each place the set of those that its micro-operation needs, by all rules and by any
-        chain; itself isn't among them."""
+        chain, without the place itself. synced_sets and logged_sets must be computed before."""
         needs: List[int] = []
         providers: Dict[Mark, int] = {}
-        directory_makers: Dict[int, int] = {}
         for place, operation in enumerate(reading.operations):
-            direct_needs = self.synced_sets[place] | self.logged_sets[place]  # P5, P11
-            for mark in required_marks(operation, reading, self.profile):
-                direct_needs |= providers.get(mark, 0)
-            for directory, _ in operation.entries:
-                direct_needs |= directory_makers.get(directory, 0)  # P3
+            required = required_marks(operation, reading, self.profile)
+            direct_needs = union_of(providers.get(mark, 0) for mark in required)
+            direct_needs |= self.synced_sets[place] | self.logged_sets[place]  # P5, P11
             if operation.rename_half == 2:
                 direct_needs |= 1 << (place - 1)  # P13
-            needs.append(direct_needs)
-            for needed in places_of(direct_needs):
-                needs[place] |= needs[needed]
-            for mark in provided_marks(operation):
-                providers[mark] = providers.get(mark, 0) | 1 << place
-            if operation.made_directory is not None:
-                directory_makers[operation.made_directory] = 1 << place
+            needs.append(direct_needs | union_of(needs[it] for it in places_of(direct_needs)))
+            provided = provided_marks(operation)
+            providers.update({mark: providers.get(mark, 0) | 1 << place for mark in provided})
         return needs
 
     @property
@@ -129,11 +121,10 @@ class Order:
         return (1 << self.count) - 1
 
     def pending_set(self, count: int) -> int:
-        """The set of those of the first `count` micro-operations that no sync point between them,
-        or right after them, has made durable. What a durable one needs is durable too."""
+        """Of the first `count` micro-operations the set of those that no sync point among or right
+        after them has made durable. What a durable one needs is durable too."""
         durable = self.synced_sets[count] | self.logged_sets[count]
-        for place in places_of(durable):
-            durable |= self.needs[place]
+        durable |= union_of(self.needs[place] for place in places_of(durable))
         return (1 << count) - 1 & ~durable
 
     def future_without(self, future: int, lowest_bit: int) -> int:
@@ -147,9 +138,9 @@ class Order:
         return self.units.get(lowest_bit.bit_length() - 1, lowest_bit)
 
     def intersected_with(self, other: Order) -> Order:
-        """The order that allows a set exactly if this one and another do. Both must be of the same
-        micro-operations. What one of them has made durable is durable, and the profile is that of
-        this one."""
+        """The order, with this order's profile, that allows a set exactly if this one and another
+        do. Both must be of the same micro-operations. A sync that makes something durable in one of
+        them makes it durable in the new order."""
         both = copy(self)
         both.needs, both.units = [], {**self.units, **other.units}
         both.synced_sets = list(map(or_, self.synced_sets, other.synced_sets))
@@ -157,16 +148,14 @@ class Order:
         for place, needs in enumerate(map(or_, self.needs, other.needs)):
             if place in both.units:
                 needs |= (self.needs[place + 1] | other.needs[place + 1]) & ~(1 << place)
-            for needed in places_of(needs):
-                needs |= both.needs[needed]
-            both.needs.append(needs)
+            both.needs.append(needs | union_of(both.needs[it] for it in places_of(needs)))
         both.needed_by = inverse_sets(both.needs)
         return both
 
     def restricted_to(self, reading: Reading, profile: str) -> Order:
-        """The order that allows a set if this one does, and a file system of a profile may leave
-        it; it has that profile. Except with `blocks`, a rename in two halves is one unit. `reading`
-        must be that of this order."""
+        """The order, with this profile, that allows a set if this order does and a file system of
+        the profile may leave the set. Except with `blocks`, both halves of a rename are one unit.
+        `reading` must be that of this order."""
         other = Order(reading, profile)
         if profile != 'blocks':
             other.units = {place: 0b11 << place for place in first_halves(reading.operations)}
@@ -175,8 +164,8 @@ class Order:
         return both
 
     def with_earlier_lines(self, reading: Reading) -> Order:
-        """The order that allows a set if this one does, and if each member of the set has all
-        acknowledged lines before it in the set. From version 3 on it is the same order. `reading`
+        """The order that allows a set if this one does and the set has all acknowledged lines that
+        come before one of its members. From version 3 on it allows what this one does. `reading`
         must be that of this order."""
         line_order = copy(self)
         lines, line_order.needs = 0, []
@@ -186,57 +175,49 @@ class Order:
         return self.intersected_with(line_order)
 
     def is_allowed(self, place_set: int) -> bool:
-        """Whether a set of the trace's places has all that its members need. It isn't checked that
-        the set has units as a whole."""
+        """Whether a set has all that its members need. All its places must be those of the trace.
+        That it has each unit as a whole, or not at all, isn't checked."""
         return not any(self.needed_by[gap] & place_set for gap in places_of(gaps_in(place_set)))
 
     def set_without(self, place_set: int, lost: int) -> int:
-        """A set without the members of the set `lost`, and without all that need one of these."""
-        removed = lost
-        for place in places_of(lost):
-            removed |= self.needed_by[place]
-        return place_set & ~removed
+        """A set without the places of the set `lost`, and without all that need one of these."""
+        return place_set & ~(lost | union_of(self.needed_by[place] for place in places_of(lost)))
 
 
 def inverse_sets(needs: List[int]) -> List[int]:
-    """For each place the set of those that need it, from the sets that each one needs."""
-    needed_by = [0] * len(needs)
-    for place, needed_set in enumerate(needs):
-        for needed in places_of(needed_set):
-            needed_by[needed] |= 1 << place
-    return needed_by
+    """For each place the set of those that need it, from the set that each place needs."""
+    needed_by = sets_by_key(
+        (needed, place)
+        for place, needed_set in enumerate(needs)
+        for needed in places_of(needed_set)
+    )
+    return [needed_by.get(place, 0) for place in range(len(needs))]
 
 
 def compute_synced_sets(operations: List[MicroOperation], syncs: List[SyncPoint]) -> List[int]:
     """For each place, and for the end, the set that the sync points before it cover."""
-    covered = [0] * (len(operations) + 1)
+    synced_sets = [0] * (len(operations) + 1)
     for sync in syncs:
         earlier = enumerate(operations[: sync.place])
-        covered[sync.place] |= set_of(
+        synced_sets[sync.place] |= set_of(
             place for place, operation in earlier if sync.covers(operation)
         )
-    for place in range(1, len(covered)):
-        covered[place] |= covered[place - 1]
-    return covered
+    return list(accumulate(synced_sets, or_))
 
 
 def compute_logged_sets(reading: Reading, profile: str) -> List[int]:
     """For each place, and for the end, the set of what sync points before it wrote to the log. With
     the profile `journal` a fresh sync point writes all changes of entries before it; with other
     profiles there is no log, and all sets are empty."""
-    entry_changes, logged, begin = 0, [0] * (len(reading.operations) + 1), 0
-    if profile != 'journal':
-        return logged
-    for sync in reading.syncs:
+    entry_changes, logged_sets, begin = 0, [0] * (len(reading.operations) + 1), 0
+    for sync in reading.syncs if profile == 'journal' else []:
         operations_since = reading.operations[begin : sync.place]
-        for place, operation in enumerate(operations_since, begin):
-            entry_changes |= bool(operation.entries) << place
+        numbered = enumerate(operations_since, begin)
+        entry_changes |= set_of(place for place, operation in numbered if operation.entries)
         if sync.is_fresh(operations_since):
-            logged[sync.place] |= entry_changes
+            logged_sets[sync.place] |= entry_changes
         begin = sync.place
-    for place in range(1, len(logged)):
-        logged[place] |= logged[place - 1]
-    return logged
+    return list(accumulate(logged_sets, or_))
 
 
 def first_halves(operations: List[MicroOperation]) -> List[int]:

@@ -3,15 +3,30 @@ member."""
 
 from __future__ import annotations
 
-from typing import Iterable, Iterator
+from functools import reduce
+from operator import or_
+from typing import Dict, Iterable, Iterator, Tuple, TypeVar
+
+Key = TypeVar('Key')
 
 
 def set_of(places: Iterable[int]) -> int:
     """The set that has these places, of which one may come twice; 0 if there are none."""
-    place_set = 0
-    for place in places:
-        place_set |= 1 << place
-    return place_set
+    return union_of(1 << place for place in places)
+
+
+def union_of(place_sets: Iterable[int]) -> int:
+    """The set of the places that at least one of these sets has; 0 if there are no sets."""
+    return reduce(or_, place_sets, 0)
+
+
+def sets_by_key(pairs: Iterable[Tuple[Key, int]]) -> Dict[Key, int]:
+    """The set of each key, from pairs of a key and a place that its set has. The pairs may be in
+    any order; a key without a pair has no set here."""
+    place_sets: Dict[Key, int] = {}
+    for key, place in pairs:
+        place_sets[key] = place_sets.get(key, 0) | 1 << place
+    return place_sets
 
 
 def places_of(place_set: int) -> Iterator[int]:

@@ -3,13 +3,13 @@
 from __future__ import annotations
 
 from functools import lru_cache
-from typing import Dict, NamedTuple, Optional, Tuple
+from typing import Callable, Dict, Iterator, List, NamedTuple, Optional, Tuple, TypeVar
 
 from .data import Data
 from .digests import Digests
-from .micro import ChangeSize, MicroOperation, Rights, SetRights, WriteBlock
+from .micro import Acknowledgement, ChangeSize, MicroOperation, Rights, SetFileRights, WriteBlock
 from .names import DIRECTORY, Inode
-from .place_sets import places_of
+from .place_sets import places_of, set_of, sets_by_key
 from .tables import EntryTable, change_entries, change_rights
 from .trace import Reading
 
@@ -28,6 +28,7 @@ class Item(NamedTuple):
         return None if self.data is None else self.data.all_bytes()
 
 
+DataOrDigest = TypeVar('DataOrDigest', Data, bytes)
 # A tree in a form in which equal trees are equal, and others are not.
 Digest = Tuple[Tuple[str, str, Rights, Optional[bytes]], ...]
 # What is at each path of a state, in the order of the paths, and the rights of its directories by
@@ -40,27 +41,31 @@ class States:
     only on its own changes, and the names only on changes of entries and directories, so that many
     states share them.
 
-    change_places has the set of each changed file's changes, by its number. The sets entry_places,
-    directory_moves and says have the changes of entries or directories, the moves of directories,
-    and the acknowledged lines.
+    change_places has the set of each changed file's changes, by the file's number. entry_places is
+    the set of the changes of entries or of a directory's rights, directory_moves that of the moves
+    of directories, and says that of the acknowledged lines.
     """
 
     def __init__(self, reading: Reading) -> None:
         """Sorts the places by what they change. Trees are made when they are asked for."""
         self.reading = reading
-        self.entry_places = 0
-        self.directory_moves = 0
-        self.change_places: Dict[int, int] = {}
-        self.says = 0
-        for place, operation in enumerate(reading.operations):
-            if operation.file_number is not None:
-                earlier_changes = self.change_places.get(operation.file_number, 0)
-                self.change_places[operation.file_number] = earlier_changes | 1 << place
-            elif operation.entries or operation.directory_number is not None:
-                self.entry_places |= 1 << place
-                self.directory_moves |= operation.moves_directory << place
-            else:
-                self.says |= 1 << place
+        operations = list(enumerate(reading.operations))
+        self.change_places = sets_by_key(
+            (operation.file_number, place)
+            for place, operation in operations
+            if operation.file_number is not None
+        )
+        self.entry_places = set_of(
+            place
+            for place, operation in operations
+            if operation.entries or operation.directory_number is not None
+        )
+        self.directory_moves = set_of(
+            place for place, operation in operations if operation.is_directory_move
+        )
+        self.says = set_of(
+            place for place, operation in operations if isinstance(operation, Acknowledgement)
+        )
         self.start_nodes = dict(EntryTable(reading).paths())
         digests = Digests(reading, self.change_places, self.compute_file)
         self._nodes = lru_cache(64)(self.compute_nodes)
@@ -74,28 +79,27 @@ class States:
     def tree(self, place_set: int) -> Dict[str, Item]:
         """The tree of an allowed set: what is at each path, the root among them, in the order of
         the paths. Trees share the bytes of files, which must not be changed."""
-        nodes, rights = self._nodes(place_set & self.entry_places)
-        return {
-            path: (
-                Item(DIRECTORY, rights[node.number], None)
-                if node.kind == DIRECTORY
-                else Item(node.kind, *self.rights_and_data(node.number, place_set))
-            )
-            for path, node in nodes.items()
-        }
+        items = self.items(place_set, self.rights_and_data)
+        return {path: Item(kind, rights, data) for path, kind, rights, data in items}
 
     def digest(self, place_set: int) -> Digest:
         """The tree of an allowed set, in a form that is equal for sets that leave equal trees, and
         for no others. The acknowledged lines aren't in it: see count_says()."""
-        nodes, rights = self._nodes(place_set & self.entry_places)
-        return tuple(
-            (
-                (path, DIRECTORY, rights[node.number], None)
-                if node.kind == DIRECTORY
-                else (path, node.kind, *self.rights_and_digest(node.number, place_set))
-            )
-            for path, node in nodes.items()
-        )
+        return tuple(self.items(place_set, self.rights_and_digest))
+
+    def items(
+        self, place_set: int, file_items: Callable[[int, int], Tuple[Rights, DataOrDigest]]
+    ) -> Iterator[Tuple[str, str, Rights, Optional[DataOrDigest]]]:
+        """What is at each path of an allowed set's tree, in the order of the paths: the path, its
+        kind, its rights, and its data or digest, which is None for a directory. Those of a file
+        are what `file_items` returns for the file's number and the set."""
+        nodes, directory_rights = self._nodes(place_set & self.entry_places)
+        for path, node in nodes.items():
+            if node.kind == DIRECTORY:
+                yield path, DIRECTORY, directory_rights[node.number], None
+            else:
+                rights, data = file_items(node.number, place_set)
+                yield path, node.kind, rights, data
 
     def rights_and_data(self, file_number: int, place_set: int) -> Tuple[Rights, Data]:
         """The rights and bytes of a file in an allowed set. The bytes are shared, and must not be
@@ -113,51 +117,54 @@ class States:
 
     def compute_nodes(self, place_set: int) -> NodesAndRights:
         """What is at each path after the changes of a set, all of entries and directories, in the
-        order of the paths, and the rights of all directories. Unless a directory is moved, each is
-        at its home, and only the paths of changed entries are computed."""
+        order of the paths, and the rights of all directories, also of removed ones."""
         operations = [self.reading.operations[place] for place in places_of(place_set)]
-        if place_set & self.directory_moves:
-            table = EntryTable(self.reading)
-            for operation in operations:
-                table.apply(operation)
-            return dict(sorted(table.paths())), table.rights
-        rights = dict(self.reading.start_rights)
-        changed_entries = {
-            entry: self.reading.start[entry]
-            for operation in operations
-            for entry in operation.entries
-            if entry in self.reading.start
-        }
-        nodes = dict(self.start_nodes)
-        for entry in changed_entries:
-            del nodes[self.reading.home_path(entry)]
-        for operation in operations:
-            change_entries(changed_entries, operation)
-            change_rights(rights, operation)
-        nodes.update(
-            (self.reading.home_path(entry), node) for entry, node in changed_entries.items()
-        )
+        has_moves = place_set & self.directory_moves
+        compute = self.nodes_after_moves if has_moves else self.nodes_at_home
+        nodes, rights = compute(operations)
         return dict(sorted(nodes.items())), rights
+
+    def nodes_after_moves(self, operations: List[MicroOperation]) -> NodesAndRights:
+        """As nodes_at_home(), but directories may be moved: all paths are computed again."""
+        table = EntryTable(self.reading)
+        for operation in operations:
+            table.apply(operation)
+        return dict(table.paths()), table.rights
+
+    def nodes_at_home(self, operations: List[MicroOperation]) -> NodesAndRights:
+        """What is at each path after these micro-operations, and the rights of all directories.
+        None of them may move a directory: then each directory is at its home, and only the paths
+        of changed entries are computed. KeyError as change_entries()."""
+        start, home_path = self.reading.start, self.reading.home_path
+        rights = dict(self.reading.start_rights)
+        touched = dict.fromkeys(entry for operation in operations for entry in operation.entries)
+        entries = {entry: start[entry] for entry in touched if entry in start}
+        old_paths = {home_path(entry) for entry in entries}
+        for operation in operations:
+            change_entries(entries, operation)
+            change_rights(rights, operation)
+        nodes = {path: node for path, node in self.start_nodes.items() if path not in old_paths}
+        nodes.update((home_path(entry), node) for entry, node in entries.items())
+        return nodes, rights
 
     def compute_file(self, file_number: int, place_set: int) -> Tuple[Rights, Data]:
         """The rights and bytes of a file after the changes of a set, all of this file; without
         hidden bytes."""
         rights = self.reading.initial_rights[file_number]
-        empty = Data(self.reading.block_size)
-        data = self.reading.initial_data.get(file_number, empty).copy()
+        data = self.reading.initial_data_of(file_number).copy()
         for place in places_of(place_set):
             operation = self.reading.operations[place]
-            if isinstance(operation, SetRights):
+            if isinstance(operation, SetFileRights):
                 rights = operation.rights
             change_data(data, operation)
         return rights, data.without_hidden_bytes()
 
 
 def change_data(data: Data, operation: MicroOperation) -> None:
-    """Changes a file's bytes as a micro-operation of the file does. Bytes that it writes past the
-    size are hidden until a size covers them; a smaller size drops them. A change of rights does
-    nothing."""
+    """Changes a file's bytes as a micro-operation of the file does. Bytes that are written past the
+    size are hidden until a larger size shows them; a smaller size drops all bytes past it. A change
+    of rights changes nothing."""
     if isinstance(operation, ChangeSize):
         data.resize(operation.length)
     elif isinstance(operation, WriteBlock):
-        data.write(operation.block, operation.offset, operation.data)
+        data.write_block(operation.block, operation.offset, operation.data)

@@ -5,26 +5,27 @@ from __future__ import annotations
 
 from typing import List
 
-from .micro import ChangeSize, CreateEntry, MicroOperation, SetRights, WriteBlock
+from .micro import ChangeSize, CreateEntry, MicroOperation, SetFileRights, WriteBlock
 from .names import DIRECTORY, Inode
 
 
 class SyncPoint:
     """A sync of everything, which comes before the micro-operation at `place`, and after those at
-    lower places. A sync point of one file or directory is a subclass, and has its number."""
+    lower places. A sync point of one file or directory is of a subclass, and has the `number` of
+    the file or directory; it is -1 here."""
 
     def __init__(self, place: int, number: int = -1) -> None:
         self.place = place
         self.number = number
 
     def covers(self, operation: MicroOperation) -> bool:
-        """Whether it makes a micro-operation durable. This must be one before it: its place isn't
-        compared."""
+        """Whether the sync makes a micro-operation durable, which must come before the sync: the
+        places aren't compared."""
         return True
 
     def is_fresh(self, operations_since: List[MicroOperation]) -> bool:
-        """Whether it writes the log of the file system, if that has one. `operations_since` has the
-        micro-operations between the sync point before it, of whatever file, and this one."""
+        """Whether the sync writes the log of the file system, if there is a log. `operations_since`
+        has the micro-operations since the sync point before this one, of whatever file."""
         return True
 
 
@@ -32,13 +33,13 @@ class FileSync(SyncPoint):
     """An fsync of a file, by its number."""
 
     def covers(self, operation: MicroOperation) -> bool:
-        """See SyncPoint.covers: true for a change of the file's size, bytes or rights, false for
-        one of its names."""
+        """See SyncPoint.covers: true for a change of the file's size, bytes or rights, false for a
+        change of its names."""
         return operation.file_number == self.number
 
     def is_fresh(self, operations_since: List[MicroOperation]) -> bool:
-        """See SyncPoint.is_fresh: whether one of these changed, made, linked, moved, removed or
-        replaced the file."""
+        """See SyncPoint.is_fresh: whether one of operations_since changed, made, linked, moved,
+        removed or replaced the file."""
         return any(
             operation.file_number == self.number
             or any(is_file(node, self.number) for node in operation.handled_inodes)
@@ -47,16 +48,16 @@ class FileSync(SyncPoint):
 
 
 class DataSync(FileSync):
-    """An fdatasync of a file, by its number: of its sizes and blocks, but not of its rights. Only a
-    new size, or a new file, makes it write the log."""
+    """An fdatasync of a file, by its number: of its sizes and blocks, but not of its rights. It
+    writes the log only after a new size, or if the file is new."""
 
     def covers(self, operation: MicroOperation) -> bool:
         """See SyncPoint.covers: true for a change of the file's size or bytes."""
-        return super().covers(operation) and not isinstance(operation, SetRights)
+        return super().covers(operation) and not isinstance(operation, SetFileRights)
 
     def is_fresh(self, operations_since: List[MicroOperation]) -> bool:
-        """See SyncPoint.is_fresh: whether one of these made the file, or gave it a new size. Writes
-        and names don't count."""
+        """See SyncPoint.is_fresh: whether one of operations_since made the file, or gave it a new
+        size. Writes and other names don't count."""
         return any(
             isinstance(operation, ChangeSize)
             and operation.file_number == self.number
@@ -88,19 +89,19 @@ class RangeSync(DataSync):
 
 
 class DirectorySync(SyncPoint):
-    """An fsync of a directory, by its number: of its rights, and of all that touches an entry in
-    it. A move between two directories is covered by an fsync of either one."""
+    """An fsync of a directory, by its number: of its rights, and of all changes of entries in it.
+    An fsync of either directory covers a move between the two."""
 
     def covers(self, operation: MicroOperation) -> bool:
-        """See SyncPoint.covers: true for a change of the directory's rights or of an entry in it,
-        false for one of its own name."""
+        """See SyncPoint.covers: true for a change of the directory's rights or of an entry in the
+        directory, false for a change of its own entry."""
         return operation.directory_number == self.number or any(
             directory == self.number for directory, _ in operation.entries
         )
 
     def is_fresh(self, operations_since: List[MicroOperation]) -> bool:
-        """See SyncPoint.is_fresh: whether one of these changed the directory or an entry in it, or
-        made, moved, removed or replaced the directory."""
+        """See SyncPoint.is_fresh: whether one of operations_since changed the directory's rights or
+        an entry in it, or made, moved, removed or replaced the directory."""
         synced = Inode(DIRECTORY, self.number)
         return any(
             self.covers(operation) or synced in operation.handled_inodes

@@ -4,7 +4,15 @@ from __future__ import annotations
 
 from typing import Dict, Iterable, Iterator, List, Tuple
 
-from .micro import CreateEntry, DeleteEntry, LinkEntry, MicroOperation, MoveEntry, Rights, SetRights
+from .micro import (
+    CreateEntry,
+    DeleteEntry,
+    LinkEntry,
+    MicroOperation,
+    MoveEntry,
+    Rights,
+    SetDirectoryRights,
+)
 from .names import DIRECTORY, ROOT, Entry, Inode
 from .trace import Reading
 
@@ -18,9 +26,9 @@ class EntryTable:
         self.rights: Dict[int, Rights] = dict(reading.start_rights)
 
     def apply(self, operation: MicroOperation) -> None:
-        """Changes entries and rights as a micro-operation does; one that changes a file does
-        nothing here. KeyError if an entry that it removes or moves isn't there: what it needs must
-        be applied before it."""
+        """Changes entries and rights as a micro-operation does; a change of a file changes nothing
+        here. What the micro-operation needs must be applied before: KeyError if an entry that it
+        removes or moves isn't there."""
         change_entries(self.entries, operation)
         change_rights(self.rights, operation)
 
@@ -31,9 +39,9 @@ class EntryTable:
 
 
 def change_entries(entries: Dict[Entry, Inode], operation: MicroOperation) -> None:
-    """Changes a map of entries as a micro-operation does; one that touches no entry does nothing.
-    An entry that it makes replaces what is there. KeyError if an entry that it removes or moves
-    isn't in the map."""
+    """Changes `entries` as a micro-operation does; one that touches no entry changes nothing. What
+    is made, linked or moved to an entry replaces what is there. KeyError if an entry that is
+    removed or moved isn't in the map."""
     if isinstance(operation, (CreateEntry, LinkEntry)):
         entries[operation.entries[0]] = operation.node
     elif isinstance(operation, DeleteEntry):
@@ -43,12 +51,11 @@ def change_entries(entries: Dict[Entry, Inode], operation: MicroOperation) -> No
 
 
 def change_rights(rights: Dict[int, Rights], operation: MicroOperation) -> None:
-    """Changes a map of the rights of directories, by their numbers, as a micro-operation does that
-    makes a directory or sets its rights; another one does nothing. A removed directory keeps its
-    rights here."""
+    """Changes the rights of directories, by their numbers, if a micro-operation makes a directory
+    or sets its rights; any other changes nothing. So a removed directory keeps its rights here."""
     if isinstance(operation, CreateEntry) and operation.made_directory is not None:
         rights[operation.made_directory] = operation.rights
-    elif isinstance(operation, SetRights) and operation.directory_number is not None:
+    elif isinstance(operation, SetDirectoryRights):
         rights[operation.directory_number] = operation.rights
 
 
@@ -56,15 +63,22 @@ def reachable_paths(entries: Iterable[Tuple[Entry, Inode]]) -> Iterator[Tuple[st
     """The paths that lead from the root to what entries hold, each with what is there: the root
     first, and each directory before what is in it. Entries of a directory that no path leads to are
     left out."""
-    children: Dict[int, List[Tuple[str, Inode]]] = {}
-    for (directory, name), node in entries:
-        children.setdefault(directory, []).append((name, node))
+    listings = directory_listings(entries)
     yield '/', Inode(DIRECTORY, ROOT)
     waiting = [('', ROOT)]
     while waiting:
         parent_path, directory = waiting.pop()
-        for name, node in children.get(directory, []):
-            path = f'{parent_path}/{name}'
-            yield path, node
-            if node.kind == DIRECTORY:
-                waiting.append((path, node.number))
+        nodes = [(f'{parent_path}/{name}', node) for name, node in listings.get(directory, [])]
+        yield from nodes
+        waiting += [(path, node.number) for path, node in nodes if node.kind == DIRECTORY]
+
+
+def directory_listings(
+    entries: Iterable[Tuple[Entry, Inode]]
+) -> Dict[int, List[Tuple[str, Inode]]]:
+    """What each directory holds, by its number: the names of its entries, each with what is there.
+    A directory without entries is left out."""
+    listings: Dict[int, List[Tuple[str, Inode]]] = {}
+    for (directory, name), node in entries:
+        listings.setdefault(directory, []).append((name, node))
+    return listings

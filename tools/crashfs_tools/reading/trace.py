@@ -16,7 +16,8 @@ from .micro import (
     MicroOperation,
     MoveEntry,
     Rights,
-    SetRights,
+    SetDirectoryRights,
+    SetFileRights,
     WriteBlock,
 )
 from .names import DIRECTORY, ROOT, SYMLINK, Entry, Inode, NameTree
@@ -30,8 +31,8 @@ LINK_MODE = '777'
 
 class Reading:
     """A trace, read line by line: read_line() takes the header first. `names` is the tree after the
-    lines read so far, `start` the entries of the start tree. Files and symbolic links are numbered
-    together, directories apart."""
+    lines read so far, `start` has the entries of the start tree. Files and symbolic links are
+    numbered together, directories apart."""
 
     def __init__(self) -> None:
         self.version = 1
@@ -54,18 +55,18 @@ class Reading:
         """Adds what a line does. LineFault if it doesn't fit the lines before it; then nothing was
         added. The line must be well formed. The number of micro-operations isn't limited here."""
         self.names.refuse_unfit_line(line)
+        earlier_count = len(self.operations)
         if line.key == 'trace':
             self.read_header(line)
         else:
             getattr(self, f'{line.key}_{line.word}')(line)
-        for operation in reversed(self.operations):
-            if operation.line_number:
-                break
+        for operation in self.operations[earlier_count:]:
             operation.line_number = line.number
 
     def read_header(self, line: Line) -> None:
-        """Begins the tree: an empty root with the header's rights, in its version and profile. If
-        it has no profile or size of blocks, `blocks` and 4096 stay."""
+        """Takes the version, the profile and the size of blocks from a header, and begins the tree:
+        an empty root with the header's rights. If the header has no profile or size, `blocks` and
+        4096 stay."""
         self.version = line.fields['trace']
         self.names = NameTree(self.version)
         self.profile = line.fields.get('profile', self.profile)
@@ -73,29 +74,35 @@ class Reading:
         self.start_rights[ROOT] = self.rights[Inode(DIRECTORY, ROOT)] = line.rights
 
     def add_change(self, operation: MicroOperation) -> None:
-        """Adds a change of a file, with the oldest of the file's paths. IndexError if the file has
-        no path any more."""
+        """Adds a change of a file, with the oldest of the file's paths. The change must have the
+        file's number. IndexError if the file has no path any more."""
         assert operation.file_number is not None
         operation.path = self.names.path_of_file(operation.file_number)
         self.operations.append(operation)
 
+    def initial_data_of(self, file_number: int) -> Data:
+        """The bytes with which a file is made: none if an operation makes it, unless it is a
+        symbolic link. They are shared: copy them before you change them."""
+        return self.initial_data.get(file_number, Data(self.block_size))
+
     def home_path(self, entry: Entry) -> str:
-        """The path that an entry has while no directory above it is moved. KeyError if no line has
-        made its directory."""
+        """The path that an entry has while no directory above the entry is moved. KeyError if no
+        line has made the entry's directory."""
         directory, name = entry
         return f'{self.homes[directory]}/{name}'
 
     # Files, symbolic links and directories
 
     def make_file(self, line: Line, length: int) -> Inode:
-        """Makes the file of a line, with this length, and returns it. Its bytes aren't set here."""
+        """Makes the file of a line, with this length, and returns its inode. Its bytes are all zero
+        so far."""
         node = self.names.add_file(line.fields['path'], length)
         self.initial_rights[node.number] = self.rights[node] = line.rights
         return node
 
     def make_link(self, line: Line) -> Inode:
         """Makes the symbolic link of a line, whose bytes are its target and whose mode is
-        LINK_MODE, and returns it."""
+        LINK_MODE, and returns its inode."""
         target = line.fields['target'].encode('utf-8')
         node = self.names.add_file(line.fields['path'], len(target), SYMLINK)
         rights = line.fields['owner'], line.fields['group'], LINK_MODE
@@ -105,7 +112,7 @@ class Reading:
         return node
 
     def make_directory(self, line: Line) -> Inode:
-        """Makes the directory of a line, with its home, and returns it."""
+        """Makes the directory of a line, with its home, and returns its inode."""
         path = line.fields['path']
         node = self.names.add_directory(path)
         self.homes[node.number] = self.home_path(self.names.entry_at(path))
@@ -117,22 +124,27 @@ class Reading:
     def start_dir(self, line: Line) -> None:
         """Adds a directory, with its rights, also to the start tree."""
         node = self.make_directory(line)
-        self.start[self.names.entry_at(line.fields['path'])] = node
         self.start_rights[node.number] = line.rights
+        self.add_start_entry(line, node)
 
     def start_file(self, line: Line) -> None:
         """Adds a file, with its rights and bytes, also to the start tree."""
         node = self.make_file(line, line.length)
-        self.start[self.names.entry_at(line.fields['path'])] = node
         self.initial_data[node.number] = Data.from_parts(self.block_size, line.length, line.parts)
+        self.add_start_entry(line, node)
 
     def start_symlink(self, line: Line) -> None:
-        self.start[self.names.entry_at(line.fields['path'])] = self.make_link(line)
+        self.add_start_entry(line, self.make_link(line))
 
     def start_link(self, line: Line) -> None:
         """Adds one more entry of a file, also to the start tree. The file must be there."""
         node = self.names.require_inode(line.fields['from'])
         self.names.add_path(line.fields['path'], node)
+        self.add_start_entry(line, node)
+
+    def add_start_entry(self, line: Line, node: Inode) -> None:
+        """Adds the entry of a start line's path, which holds `node`, to the start tree. `names`
+        must have the path already."""
         self.start[self.names.entry_at(line.fields['path'])] = node
 
     # Operations on entries: each of these adds what an `op` line of its kind does.
@@ -154,8 +166,8 @@ class Reading:
         self.operations.append(CreateEntry(path, entry, node, self.rights[node], target))
 
     def op_unlink(self, line: Line) -> None:
-        """Adds the removal of an entry: of a file, a symbolic link or, for an rmdir, an empty
-        directory."""
+        """Adds the removal of an entry, which holds a file, a symbolic link or, for an rmdir, an
+        empty directory."""
         path = line.fields['path']
         entry = self.names.entry_at(path)
         self.operations.append(DeleteEntry(path, entry, self.names.remove_path(path)))
@@ -163,9 +175,9 @@ class Reading:
     op_rmdir = op_unlink
 
     def op_rename(self, line: Line) -> None:
-        """Adds a rename. One onto itself, or onto a path of the same file, does nothing, as
-        rename(2) has it. In version 4 with the profile `blocks`, a file or symbolic link goes into
-        another directory in two halves."""
+        """Adds a rename. One between two paths of the same file, or onto the same path, does
+        nothing, as in rename(2). In version 4 with the profile `blocks`, a file or symbolic link
+        goes into another directory in two halves: LinkEntry, then DeleteEntry."""
         old_path, new_path = line.fields['from'], line.fields['to']
         node, replaced = self.names.require_inode(old_path), self.names.inode_at(new_path)
         if node == replaced:
@@ -174,15 +186,16 @@ class Reading:
         self.names.move(old_path, new_path)
         is_whole = self.version < 4 or self.profile != 'blocks' or node.kind == DIRECTORY
         if is_whole or source[0] == target[0]:
-            paths, has_node_field = (old_path, new_path), self.version >= 4
-            move = MoveEntry(paths, (source, target), node, replaced, has_node_field)
+            paths, entries = (old_path, new_path), (source, target)
+            move = MoveEntry(paths, entries, node, replaced, has_node_field=self.version >= 4)
             self.operations.append(move)
         else:
-            self.operations.append(LinkEntry(new_path, target, node, 1, replaced))
-            self.operations.append(DeleteEntry(old_path, source, node, 2))
+            first_half = LinkEntry(new_path, target, node, rename_half=1, replaced=replaced)
+            self.operations.append(first_half)
+            self.operations.append(DeleteEntry(old_path, source, node, rename_half=2))
 
     def op_link(self, line: Line) -> None:
-        """Adds one more entry of a file, and the LinkEntry that makes it."""
+        """Adds one more entry of a file, and its LinkEntry, which is no half of a rename."""
         node = self.names.require_inode(line.fields['from'])
         self.names.add_path(line.fields['to'], node)
         entry = self.names.entry_at(line.fields['to'])
@@ -191,9 +204,9 @@ class Reading:
     # Operations on what files and directories are
 
     def op_write(self, line: Line) -> None:
-        """Adds a write: a new size if it ends past the file's end, then its blocks. In version 4,
-        if the file ends inside a page and the write past that page, the page's end is a size before
-        the new one. A write of no bytes does nothing."""
+        """Adds a write: a new size if the write ends past the file's end, then its blocks. In
+        version 4, if the file ends inside a page and the write past that page, the file first gets
+        the page's end as its size. A write of no bytes does nothing."""
         file_number = self.names.file_number_at(line.fields['path'])
         begin, size = line.fields['offset'], self.names.sizes[file_number]
         end = begin + len(line.data)
@@ -210,9 +223,9 @@ class Reading:
             self.add_change(WriteBlock(file_number, block, self.block_size, offset, piece))
 
     def op_truncate(self, line: Line) -> None:
-        """Adds a truncate: a new size, unless the file has it. In version 4 a shorter file gets
-        zeros first, from its new end to the end of that page, or to its old end if that comes
-        first."""
+        """Adds a truncate: a new size, or nothing if the file has this size. In version 4 a file
+        that gets shorter gets zeros first, from its new end to the end of that page, or to its old
+        end if that is in the page."""
         file_number = self.names.file_number_at(line.fields['path'])
         length, size = line.fields['length'], self.names.sizes[file_number]
         if size == length:
@@ -238,17 +251,17 @@ class Reading:
         self.set_rights(line, (line.fields['owner'], line.fields['group'], mode))
 
     def set_rights(self, line: Line, rights: Rights) -> None:
-        """Adds the micro-operation that sets owner, group and mode of a line's path, unless they
-        are so already. Of a directory it has the line's path, of a file the oldest."""
+        """Adds the micro-operation that sets the rights of what is at a line's path, unless it has
+        these rights already. For a directory it has the line's path, for a file the oldest one."""
         node = self.names.require_inode(line.fields['path'])
         if self.rights[node] == rights:
             return
         self.rights[node] = rights
         if node.kind == DIRECTORY:
             path = line.fields['path']
-            self.operations.append(SetRights(rights, None, node.number, path))
+            self.operations.append(SetDirectoryRights(rights, node.number, path))
         else:
-            self.add_change(SetRights(rights, node.number))
+            self.add_change(SetFileRights(rights, node.number))
 
     def op_say(self, line: Line) -> None:
         self.operations.append(Acknowledgement())
@@ -281,8 +294,9 @@ def page_end(length: int) -> int:
 
 
 def parse_trace(data: bytes) -> Reading:
-    """The trace that these bytes are. ReadingFault with its first fault: no UTF-8, a fault of a
-    line, no header, or, after all lines are read, more than MICRO_OPERATIONS micro-operations."""
+    """The trace whose file has these bytes. ReadingFault with its first fault: no UTF-8, a fault of
+    a line, no line at all, or, after all lines are read, more than MICRO_OPERATIONS
+    micro-operations. Lines of blanks are skipped, but counted."""
     try:
         text = data.decode('utf-8')
     except UnicodeDecodeError as error:
