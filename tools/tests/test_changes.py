@@ -48,7 +48,7 @@ class Trees:
         return len(self.plan.states)
 
     def tree(self, number: int) -> Entries:
-        tree = self.plan.trees.tree(self.plan.states[number][1])
+        tree = self.plan.trees.tree(self.plan.states[number].place_set)
         return {path[1:]: entry for path, entry in entries_of(tree).items()}
 
 

@@ -50,7 +50,7 @@ def plan_text(text, picks=True):
     plain = make_plan(reading := parse_trace(text.encode()))
     families = (lost_sets(plain), file_sets(plain)) if picks else ()
     sets = [one for family in families for one in different_places(family)]
-    return ''.join(json_listing(make_plan(reading, True, sets)))
+    return ''.join(json_listing(make_plan(reading, has_holes=True, picks=sets)))
 
 
 def findings_of(text, cause):
@@ -91,9 +91,9 @@ class Plans(unittest.TestCase):
                 continue  # Its last line has a fault.
             plan = read_plan(listed)
             third = text.replace('"trace":1', '"trace":3,"profile":"blocks","block":4096', 1)
-            wanted = make_plan(parse_trace(third.encode()), True)
+            wanted = make_plan(parse_trace(third.encode()), has_holes=True)
             found = [(plan.state_text(one), plan.kept[one.number]) for one in plan.states]
-            self.assertEqual(found, wanted.states)
+            self.assertEqual(found, [(one.text, one.place_set) for one in wanted.states])
             fewer += len(plan.states) < len(plan.listed)
         self.assertGreater(fewer, 50)
 
@@ -105,7 +105,7 @@ class Plans(unittest.TestCase):
             except Exception:
                 continue
             plan = read_plan(listed)
-            wanted = make_plan(parse_trace(text.encode()), True).states
+            wanted = make_plan(parse_trace(text.encode()), has_holes=True).states
             self.assertEqual(
                 [plan.kept[one.number] for one in plan.listed][: len(wanted)],
                 [places for _, places in wanted],

@@ -32,7 +32,9 @@ def row(name):
 
 
 def listed(text, picks=(), **options):
-    return ''.join(plain_listing(make_plan(parse_trace(text.encode()), True, picks), **options))
+    return ''.join(
+        plain_listing(make_plan(parse_trace(text.encode()), has_holes=True, picks=picks), **options)
+    )
 
 
 def fault_of(text):
@@ -55,12 +57,12 @@ class Rows(unittest.TestCase):
             '"trace":3,"profile":"blocks","block":4096', '"trace":1'
         )
         self.assertEqual(len(make_plan(parse_trace(text.encode()), has_holes=True).states), 25)
-        plan = make_plan(parse_trace(text.encode()), True)
+        plan = make_plan(parse_trace(text.encode()), has_holes=True)
         lacking = [
-            name
-            for name, places in plan.states
+            one.text
+            for one in plan.states
             for say in (3, 6)
-            if not places >> say & 1 and places >> (say + 1)
+            if not one.place_set >> say & 1 and one.place_set >> (say + 1)
         ]
         self.assertEqual(len(set(lacking)), 4)
 
@@ -76,8 +78,8 @@ class Rows(unittest.TestCase):
 
     def test_two_paths_of_a_file_are_two_files_of_a_state(self):
         def contents(name, number):
-            plan = make_plan(parse_trace(row(name).encode()), True)
-            tree = plan.trees.tree(plan.states[number][1])
+            plan = make_plan(parse_trace(row(name).encode()), has_holes=True)
+            tree = plan.trees.tree(plan.states[number].place_set)
             return {path: item.content for path, item in tree.items() if path != '/'}
 
         self.assertEqual(contents('row46.trace', 4), {'/t': b'm', '/m': b'm'})
@@ -148,7 +150,7 @@ class Digests(unittest.TestCase):
         )
         for text in [hidden, alike, *(RandomTrace(3, seed).text() for seed in range(60))]:
             try:
-                plan = make_plan(parse_trace(text.encode()), True)
+                plan = make_plan(parse_trace(text.encode()), has_holes=True)
             except ReadingFault:
                 continue
             trees = [

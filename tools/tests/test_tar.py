@@ -88,7 +88,7 @@ class Wanted:
 
     def entries(self, number):
         """(kind, mode, owner, group, bytes) by path, the root's among them."""
-        tree = self.plan.trees.tree(self.plan.states[number][1])
+        tree = self.plan.trees.tree(self.plan.states[number].place_set)
         return {
             path: (
                 {'dir': 'd', 'file': '-', 'symlink': 'l'}[item.kind],

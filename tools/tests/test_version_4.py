@@ -234,7 +234,7 @@ class OnADirectory(InFolder):
             wanted = {
                 path: (kind, mode if kind != 'symlink' else '777', data)
                 for path, (kind, _, _, mode, data) in shown_tree(
-                    plan.trees, plan.states[-1][1]
+                    plan.trees, plan.states[-1].place_set
                 ).items()
             }
             self.assertEqual(dict(found_below(top)), wanted)

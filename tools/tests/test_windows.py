@@ -76,7 +76,7 @@ class Reader:
         if '--picks' in options:
             with open(options['--picks'], 'rb') as file:
                 picks = read_picks(file.read())
-        return make_plan(reading, '--holes' in options, picks)
+        return make_plan(reading, has_holes='--holes' in options, picks=picks)
 
     def output_of(self, words, _environment=None):
         """What the program would print."""
@@ -93,7 +93,7 @@ class Reader:
     def tree_with_root(self, words, _environment=None):
         options = read_options(['tar', *words])
         plan = self.plan(options)
-        tree = plan.trees.tree(plan.states[int(options['--state'])][1])
+        tree = plan.trees.tree(plan.states[int(options['--state'])].place_set)
         return entries_of(tree)
 
 
@@ -141,7 +141,9 @@ class Tried(InWindows):
     def test_states_are_those_of_the_session_and_all_that_lie_within_a_window(self):
         windows = 0
         for name, text in self.sessions():
-            whole = read_plan(''.join(json_listing(make_plan(parse_trace(text.encode()), True))))
+            whole = read_plan(
+                ''.join(json_listing(make_plan(parse_trace(text.encode()), has_holes=True)))
+            )
             with self.subTest(name):
                 _, results = self.windows(text, 5, quick=True)
                 windows += len(results)
@@ -180,7 +182,9 @@ class Tried(InWindows):
 
     def test_picks_are_allowed_sets_of_the_session(self):
         for name, text in self.sessions():
-            whole = read_plan(''.join(json_listing(make_plan(parse_trace(text.encode()), True))))
+            whole = read_plan(
+                ''.join(json_listing(make_plan(parse_trace(text.encode()), has_holes=True)))
+            )
             with self.subTest(name):
                 for one in self.windows(text, 7)[1]:
                     lead = (1 << one.plan.first_place) - 1
@@ -336,7 +340,7 @@ class Limits(InWindows):
     def test_a_window_has_no_more_states_than_a_plan_takes(self):
         text = HEADER + ''.join(creat(f'/{number}') for number in range(200))
         with self.assertRaisesRegex(ReadingFault, 'plan too large'):
-            make_plan(parse_trace(text.encode()), True)
+            make_plan(parse_trace(text.encode()), has_holes=True)
         _, (window, *_) = self.windows(text, limits.MICRO_OPERATIONS, quick=True)
         self.assertLessEqual(len(window.plan.listed), limits.STATES)
         self.assertGreater(len(window.plan.operations), 170)

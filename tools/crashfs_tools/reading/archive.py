@@ -15,12 +15,13 @@ KINDS = {'dir': tarfile.DIRTYPE, 'file': tarfile.REGTYPE, 'symlink': tarfile.SYM
 
 
 class ArchiveWriter:
-    """Writes an archive of states of a plan to a stream, which stays open. Use it in a `with`, at
-    whose end the archive is ended and what is buffered is written. The numbers of states must be
-    those of the plan. If is_sparse is set, large files with many zeros are written as extents. All
-    methods that write raise an OSError of the stream."""
+    """Writes an archive of states of a plan to a stream, which stays open. The end of a `with` ends
+    the archive. If is_sparse is set, large files with many zeros are written as extents. What
+    writes raises an OSError of the stream, and IndexError if the plan has no state with the number.
+    """
 
     def __init__(self, plan: StateList, stream: BinaryIO, *, is_sparse: bool = False) -> None:
+        """Writes nothing yet."""
         self.plan = plan
         self.is_sparse = is_sparse
         self.archive = tarfile.open(fileobj=stream, mode='w|', format=tarfile.PAX_FORMAT)
@@ -29,23 +30,22 @@ class ArchiveWriter:
         return self
 
     def __exit__(self, *_: object) -> None:
-        """Ends the archive by two blocks of zeros, also after an error, which isn't caught: an
-        archive that lacks states may look whole then. The padding that fills a tape's record, which
-        tarfile itself would add, is left out."""
+        """Ends the archive by two blocks of zeros, and writes what tarfile has buffered, also after
+        an error in the `with`, which is raised: an archive that lacks states may then look whole.
+        The padding that tarfile itself would add, up to a tape's record, is left out."""
         stream = self.archive.fileobj
         assert stream is not None
         stream.write(bytes(2 * tarfile.BLOCKSIZE))
         stream.close()
 
     def tree_of_state(self, number: int) -> Dict[str, Item]:
-        """The tree of the state with this number: what is at each path."""
-        _, place_set = self.plan.states[number]
-        return self.plan.trees.tree(place_set)
+        """What is at each path of the state with this number, as States.tree() returns it."""
+        return self.plan.trees.tree(self.plan.states[number].place_set)
 
     def write_state(self, number: int) -> None:
         """Writes the tree of one state. The root's name is `./`; the other names are the paths
         without their first slash."""
-        self.write_tree(number, './')
+        self.write_tree(number, '')
 
     def write_states(self, numbers: List[int]) -> None:
         """Writes the trees of states, in this order, each below a directory that has the state's
@@ -61,32 +61,38 @@ class ArchiveWriter:
         for number in numbers:
             tree = self.tree_of_state(number)
             self.write_missing(number, first_tree, tree)
-            for path in paths_in_order(tree):
-                if first_tree.get(path) != tree[path]:
-                    self.write_item(f'{number}{path}', tree[path])
+            self.write_differing(number, first_tree, tree)
 
     def write_missing(
         self, number: int, first_tree: Dict[str, Item], tree: Dict[str, Item]
     ) -> None:
-        """Writes the file `N.missing` of state N, whose tree is `tree`: the names of the paths that
-        only first_tree has, each ended by a NUL."""
+        """Writes the file `N.missing` of write_changes() for the state of this number, whose tree
+        is `tree`; first_tree is that of state 0."""
         paths = [path for path in paths_in_order(first_tree) if path not in tree]
         names = ''.join(missing_name(path, first_tree[path]) + '\0' for path in paths).encode()
         info = tarfile.TarInfo(f'{number}.missing')
         info.size = len(names)
         self.archive.addfile(info, BytesIO(names))
 
-    def write_tree(self, number: int, root_name: str) -> None:
-        """Writes the tree of a state. The root's name ends in a slash; the other names begin with
-        it, unless it is `./`, which they leave out."""
-        tree = self.tree_of_state(number)
-        prefix = '' if root_name == './' else root_name
+    def write_differing(
+        self, number: int, first_tree: Dict[str, Item], tree: Dict[str, Item]
+    ) -> None:
+        """Writes, below `N/`, what is at each path of `tree`, that of the state of this number, if
+        first_tree has nothing or something else there. Bytes and rights are compared."""
         for path in paths_in_order(tree):
-            self.write_item(root_name if path == '/' else prefix + path[1:], tree[path])
+            if first_tree.get(path) != tree[path]:
+                self.write_item(f'{number}{path}', tree[path])
+
+    def write_tree(self, number: int, prefix: str) -> None:
+        """Writes the tree of a state. Each name is the prefix and a path without its first slash;
+        if that is empty, as for the root without a prefix, it is `./`."""
+        tree = self.tree_of_state(number)
+        for path in paths_in_order(tree):
+            self.write_item(prefix + path[1:] or './', tree[path])
 
     def write_item(self, name: str, item: Item) -> None:
-        """Writes one file, directory or symbolic link, with its owner, group and mode. Slashes at
-        the end of its name are dropped: tarfile adds one to the name of a directory."""
+        """Writes one file, directory or symbolic link, with its owner, group and mode; its time is
+        0. Slashes at the end of `name` are dropped: tarfile adds one for a directory."""
         info = tarfile.TarInfo(name.rstrip('/'))
         info.type = KINDS[item.kind]
         (info.uname, info.gname, mode), data = item.rights, item.data
@@ -103,9 +109,9 @@ class ArchiveWriter:
             self.archive.addfile(info, ExtentReader(data, [(0, data.length)]))
 
     def write_sparse(self, info: tarfile.TarInfo, data: Data) -> None:
-        """Writes a file as extents, in the PAX format 1.0 of GNU tar: a map of the extents, then
-        their bytes. It changes `info`, which then has the name, the size and the fields of this
-        format."""
+        """Writes a file as extents, in GNU tar's format 1.0 for sparse files: a map of the extents,
+        then their bytes. `info` is changed: its name, its size and its PAX fields are then those of
+        this format."""
         extents = data_extents(data)
         map_bytes = extent_map(extents, data.length)
         directory, slash, name = info.name.rpartition('/')
@@ -124,7 +130,8 @@ class ArchiveWriter:
 
 
 class ExtentReader(BytesIO):
-    """A stream for tarfile to read: first `head`, then the bytes of a file in each extent."""
+    """A stream for tarfile to read: first `head`, then the bytes of a file in each extent. The
+    extents must be within the file's length. Only read() has the extents' bytes."""
 
     def __init__(self, data: Data, extents: List[Extent], head: bytes = b'') -> None:
         super().__init__(head)

@@ -18,10 +18,7 @@ def read_object(line: str) -> Dict[str, Any]:
     """The keys and values of a line; of two equal keys the last one counts. LineFault for what the
     program doesn't read: no JSON, no object, a number that overflows, values nested deeper than
     DEPTH levels, half of a surrogate pair."""
-    try:
-        value = load_json(line)
-    except (ValueError, RecursionError) as error:
-        raise syntax_fault(f'no JSON: {error}') from error
+    value = load_json(line)
     if not isinstance(value, dict):
         raise syntax_fault('no JSON object')
     if line.count('[') + line.count('{') > DEPTH and has_more_levels(value, DEPTH):
@@ -33,16 +30,18 @@ def read_object(line: str) -> Dict[str, Any]:
 
 def load_json(text: str) -> Any:
     """The value of a JSON text, with numbers as parse_integer() and parse_float() read them.
-    ValueError if it is no JSON, RecursionError if Python can't read values nested so deep."""
-    return json.loads(
-        text, parse_int=parse_integer, parse_float=parse_float, parse_constant=refuse_constant
-    )
+    LineFault if it is no JSON, or is nested so deep that Python can't read it."""
+    try:
+        return json.loads(
+            text, parse_int=parse_integer, parse_float=parse_float, parse_constant=refuse_constant
+        )
+    except (ValueError, RecursionError) as error:
+        raise syntax_fault(f'no JSON: {error}') from error
 
 
 def parse_integer(text: str) -> float:
-    """The number that the digits of an integer mean. With a minus sign, or with more digits than
-    any number of a trace has, it is a float, which no key accepts; ValueError if that is
-    infinite."""
+    """The number that an integer's text means. If it has a minus sign, or more digits than any
+    number of a trace, a float, which no key accepts. ValueError if the float is infinite."""
     return int(text) if text[0] != '-' and len(text) <= DIGITS else parse_float(text)
 
 
@@ -60,8 +59,8 @@ def refuse_constant(text: str) -> None:
 
 
 def has_more_levels(value: Any, levels: int) -> bool:
-    """Whether a value has more than so many levels of objects and arrays: a text or a number has
-    none, and an empty array has 1."""
+    """Whether a value has more than so many levels of objects and arrays. A text or a number has
+    none; an empty array has one."""
     level_values = [value]
     for _ in range(levels):
         level_values = [inner for outer in level_values for inner in inner_values(outer)]
@@ -69,14 +68,14 @@ def has_more_levels(value: Any, levels: int) -> bool:
 
 
 def inner_values(value: Any) -> List[Any]:
-    """The values of an object or an array; none if a value is neither."""
+    """The values of an object or an array, without its keys; none if `value` is neither."""
     if isinstance(value, dict):
         return list(value.values())
     return value if isinstance(value, list) else []
 
 
 def refuse_half_surrogates(value: Any) -> None:
-    """LineFault for a value that has a text, or a key, with half of a surrogate pair."""
+    """LineFault if a value has a text, or a key, with half of a surrogate pair, at any level."""
     try:
         json.dumps(value, ensure_ascii=False).encode('utf-8')
     except UnicodeEncodeError as error:
@@ -93,9 +92,10 @@ def read_array(line: bytes) -> List[Any]:
     """The values of a line that is a JSON array; LineFault if it isn't one, or not UTF-8. What the
     values are isn't checked."""
     try:
-        value = load_json(line.decode('utf-8'))
-    except (ValueError, RecursionError) as error:
-        raise syntax_fault(f'no JSON: {error}') from error
+        text = line.decode('utf-8')
+    except UnicodeDecodeError as error:
+        raise syntax_fault('no UTF-8') from error
+    value = load_json(text)
     if not isinstance(value, list):
         raise syntax_fault('no JSON array')
     return value

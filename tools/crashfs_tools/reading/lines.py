@@ -64,13 +64,13 @@ class Line:
     fields: Fields
 
     def paths(self) -> Iterator[str]:
-        """The paths that the line has, in the order of PATHS; none for a header, a sync or a
-        say."""
+        """The paths that the line has, in the order of PATHS. A header, a sync and a say have
+        none."""
         return (self.fields[key] for key in PATHS if key in self.fields)
 
     @property
     def rights(self) -> Tuple[str, str, str]:
-        """The owner, the group and the mode of a line that has all three."""
+        """The owner, the group and the mode. KeyError if the line lacks one of them."""
         return self.fields['owner'], self.fields['group'], self.fields['mode']
 
     @property
@@ -88,7 +88,8 @@ class Line:
 
     @property
     def length(self) -> int:
-        """The length of a start file: that of its bytes or, if it is in parts, its `length`."""
+        """The length of a start file: its `length` if it is in parts, else how many bytes it
+        has."""
         return int(self.fields['length']) if 'parts' in self.fields else len(self.data)
 
 
@@ -101,16 +102,17 @@ def bytes_of(fields: Fields) -> bytes:
 
 
 class LineReader:
-    """Reads the lines of a trace one after the other, the header first. Each is checked by itself:
-    whether it fits the tree isn't checked here. `version` is the header's, 0 before it."""
+    """Reads the lines of a trace one after the other, the header first. Each line is checked by
+    itself: whether it fits the tree isn't checked here. `version` is the header's, or 0 before the
+    header; has_operation is set once an operation was read."""
 
     def __init__(self) -> None:
         self.version = 0
         self.has_operation = False
 
     def read_line(self, number: int, text: str) -> Line:
-        """The line with this number, from its text. LineFault for the first fault that it has by
-        itself. Lines must be read in their order, without empty ones, and none after a fault."""
+        """The line with this number, from its text. LineFault for the first fault that the line has
+        by itself. Read the lines in their order, without empty ones, and none after a fault."""
         fields = read_object(text)
         keys = [key for key in ('trace', 'start', 'op') if key in fields]
         if len(keys) != 1:
@@ -122,12 +124,13 @@ class LineReader:
             self.check_header(line)
         else:
             self.check_word(line)
-        check_names(line)
+        check_paths(line)
+        check_owners(line)
         return line
 
     def check_header(self, line: Line) -> None:
-        """Sets the version to that of a header. LineFault if the version is unknown, or if a key, a
-        value or the profile isn't one of that version."""
+        """Sets `version` to that of a header. LineFault if the version is unknown, or has no such
+        profile; and as check_keys()."""
         version = line.fields['trace']
         if not is_trace_number(version) or version not in HEADERS:
             raise syntax_fault(f'version {version} is not known (1, 2, 3, 4)')
@@ -138,9 +141,9 @@ class LineReader:
             raise syntax_fault(f'profile "{profile}" is not known in version {version}')
 
     def check_word(self, line: Line) -> None:
-        """Sets the word of a start line or an operation, and has_operation: no start line may come
-        after an operation. LineFault if one does, if the word is no text, or if the version has no
-        such line (UnknownOp); and as check_keys()."""
+        """Sets the word of a start line or an operation, and has_operation for an operation.
+        LineFault for a start line after an operation, for a word that is no text or that the
+        version lacks (UnknownOp); and as check_keys()."""
         if line.key == 'start' and self.has_operation:
             raise syntax_fault('a start line after an operation')
         self.has_operation = line.key == 'op'
@@ -154,18 +157,13 @@ class LineReader:
         self.check_keys(line, keys)
 
     def check_keys(self, line: Line, keys: Tuple[str, ...]) -> None:
-        """LineFault if a line lacks one of `keys`, has another key, or has a value that its key may
-        not have. Since version 3 a line may have a `note` too. Instead of `bytes` it may have what
-        keys_of_bytes() returns."""
-        expected_keys, own_keys = {line.key, *keys}, set(line.fields)
-        if self.version >= 3:
-            expected_keys |= own_keys & {'note'}
-        if 'bytes' in expected_keys and 'bytes' not in own_keys:
-            expected_keys = expected_keys - {'bytes'} | self.keys_of_bytes(line)
-        for key in sorted(own_keys - expected_keys):
-            raise syntax_fault(f'unknown key "{key}"')
-        for key in sorted(expected_keys - own_keys):
-            raise syntax_fault(f'no key "{key}"')
+        """LineFault if a line lacks one of expected_keys(), has another key, or has a value that
+        its key may not have."""
+        expected_keys, own_keys = self.expected_keys(line, keys), line.fields.keys()
+        if own_keys - expected_keys:
+            raise syntax_fault(f'unknown key "{min(own_keys - expected_keys)}"')
+        if expected_keys - own_keys:
+            raise syntax_fault(f'no key "{min(expected_keys - own_keys)}"')
         for key in sorted(expected_keys - {line.key}):
             check_value(key, line.fields[key])
         if 'parts' in expected_keys:
@@ -173,10 +171,19 @@ class LineReader:
         if line.word == 'symlink':
             check_target(line.fields['target'])
 
+    def expected_keys(self, line: Line, keys: Tuple[str, ...]) -> Set[str]:
+        """The keys that a line must have: the one that says what it is, `keys`, and since version 3
+        its `note`, if it has one. If it lacks `bytes`, keys_of_bytes() instead of this key."""
+        expected_keys = {line.key, *keys}
+        if self.version >= 3:
+            expected_keys |= line.fields.keys() & {'note'}
+        if 'bytes' in expected_keys and 'bytes' not in line.fields:
+            expected_keys = expected_keys - {'bytes'} | self.keys_of_bytes(line)
+        return expected_keys
+
     def keys_of_bytes(self, line: Line) -> Set[str]:
-        """The keys by which a line that lacks `bytes` has its bytes: `text`, or in a start file
-        `length` and `parts`. If it has neither, or its version doesn't allow them, `bytes`, which
-        is then reported as missing."""
+        """The keys by which a line that lacks `bytes` gives its bytes: `text`, or in a start file
+        `length` and `parts`. `bytes` if it has none of them, or its version doesn't allow them."""
         if self.version >= 4 and line.key == 'start' and 'parts' in line.fields:
             return {'length', 'parts'}
         return {'text' if self.version >= 3 and 'text' in line.fields else 'bytes'}
@@ -184,7 +191,7 @@ class LineReader:
 
 def check_value(key: str, value: Any) -> None:
     """LineFault for a value that its key may not have. A key that isn't named here may have any
-    text. What is in `parts` is checked by check_parts()."""
+    text. What the objects of `parts` have is checked by check_parts(), not here."""
     if key in ('offset', 'length', 'block', 'at'):
         if not is_trace_number(value) or key == 'block' and value not in BLOCK_SIZES:
             raise syntax_fault(f'{key} {value} is no number that it may have')
@@ -204,57 +211,69 @@ def check_value(key: str, value: Any) -> None:
 
 
 def check_parts(line: Line) -> None:
-    """LineFault unless the parts of a start file are in ascending order, don't overlap, aren't
-    empty, and end at its length at the latest. Each has `at`, one of `bytes` and `text`, and
-    nothing else."""
+    """LineFault unless each part of a start file is as check_part() wants it, and all parts are as
+    check_part_order() wants them."""
     for part in line.fields['parts']:
-        if set(part) not in ({'at', 'bytes'}, {'at', 'text'}):
-            raise syntax_fault('a part has at, and bytes or text, and nothing else')
-        for key, value in part.items():
-            check_value(key, value)
+        check_part(part)
+    check_part_order(line.parts, line.length)
+
+
+def check_part(part: Fields) -> None:
+    """LineFault unless a part of a start file has `at`, one of `bytes` and `text`, and nothing
+    else, with values that these keys may have."""
+    if set(part) not in ({'at', 'bytes'}, {'at', 'text'}):
+        raise syntax_fault('a part has at, and bytes or text, and nothing else')
+    for key, value in part.items():
+        check_value(key, value)
+
+
+def check_part_order(parts: List[Tuple[int, bytes]], length: int) -> None:
+    """LineFault unless the parts of a file of this length, each after its offset, are ascending,
+    don't overlap, aren't empty, and end at the length at the latest."""
     end = 0
-    for begin, data in line.parts:
+    for begin, data in parts:
         if not data:
             raise syntax_fault(f'the part at {begin} is empty')
         if begin < end:
             why = f'the part at {begin} begins before {end}, where the one before it ends'
             raise syntax_fault(why)
         end = begin + len(data)
-    if end > line.length:
-        raise syntax_fault(f'a part ends at {end}, past the length {line.length}')
+    if end > length:
+        raise syntax_fault(f'a part ends at {end}, past the length {length}')
 
 
 def check_target(target: str) -> None:
     """LineFault for a symbolic link's target that is empty, longer than TARGET_BYTES, or has a
     NUL."""
-    if not 1 <= len(target.encode('utf-8')) <= TARGET_BYTES or '\0' in target:
+    if not is_name_text(target, TARGET_BYTES):
         raise syntax_fault(f'a target is 1 to {TARGET_BYTES} bytes without NUL')
 
 
-def check_names(line: Line) -> None:
-    """LineFault (BadName) for a path, an owner or a group that no file can have. The path `/` is
-    accepted only in an fsync, a chmod and a chown."""
+def check_paths(line: Line) -> None:
+    """LineFault (BadName) for a path that no file can have. The path `/` is accepted only in an
+    fsync, a chmod and a chown."""
     for path in line.paths():
         if path == '/' and line.word in TAKE_ROOT:
             continue
         if not path.startswith('/') or not all(map(is_file_name, path[1:].split('/'))):
             raise LineFault('BadName', f'the path "{path}"')
-    for key in ('owner', 'group'):
+
+
+def check_owners(line: Line) -> None:
+    """LineFault (BadName) for an owner or a group that isn't 1 to USER_BYTES bytes without NUL. A
+    line that lacks them has no such fault."""
+    for key in OWNERS:
         name = line.fields.get(key)
-        if name is not None and not is_user_name(name):
+        if name is not None and not is_name_text(name, USER_BYTES):
             raise LineFault('BadName', f'the {key} "{name}"')
 
 
-def is_user_name(name: str) -> bool:
-    """Whether a text may be an owner or a group: 1 to USER_BYTES bytes without NUL."""
-    return 1 <= len(name.encode('utf-8')) <= USER_BYTES and '\0' not in name
+def is_name_text(text: str, most_bytes: int) -> bool:
+    """Whether a text has 1 to `most_bytes` bytes in UTF-8, none of them NUL."""
+    return 1 <= len(text.encode('utf-8')) <= most_bytes and '\0' not in text
 
 
 def is_file_name(name: str) -> bool:
     """Whether a text, which has no slash, may be one name of a path: 1 to NAME_BYTES bytes without
     NUL, but not `.` or `..`."""
-    return (
-        1 <= len(name.encode('utf-8')) <= NAME_BYTES
-        and '\0' not in name
-        and name not in ('.', '..')
-    )
+    return is_name_text(name, NAME_BYTES) and name not in ('.', '..')

@@ -3,6 +3,7 @@
 from __future__ import annotations
 
 import json
+from itertools import chain, repeat
 from typing import Any, Dict, Iterator
 
 from .micro import MicroOperation
@@ -20,12 +21,15 @@ def plain_listing(
     number of the first state that has an equal tree, which may be its own."""
     for place, operation in enumerate(plan.reading.operations):
         yield f'op {place} {operation.text}{origin_text(operation) if has_lines else ""}\n'
-    first_states: Dict[Digest, int] = {}
-    for number, (text, place_set) in enumerate(plan.states):
-        same_text = ''
-        if has_same:
-            same_text = f' same {first_states.setdefault(plan.trees.digest(place_set), number)}'
-        yield f'state {number} {text} says {plan.trees.count_says(place_set)}{same_text}\n'
+    yield from plain_state_lines(plan, has_same=has_same)
+
+
+def plain_state_lines(plan: StateList, *, has_same: bool) -> Iterator[str]:
+    """The lines of plain_listing() for the states."""
+    same_texts = map(' same {}'.format, first_equal_states(plan)) if has_same else repeat('')
+    for number, (state, same_text) in enumerate(zip(plan.states, same_texts)):
+        says = plan.trees.count_says(state.place_set)
+        yield f'state {number} {state.text} says {says}{same_text}\n'
 
 
 def origin_text(operation: MicroOperation) -> str:
@@ -35,42 +39,44 @@ def origin_text(operation: MicroOperation) -> str:
     return f' line {operation.line_number} {path}'.rstrip()
 
 
+def first_equal_states(plan: StateList) -> Iterator[int]:
+    """For each state of a plan the number of the first state that has an equal tree, which may be
+    its own. How many lines are acknowledged doesn't count."""
+    first_states: Dict[Digest, int] = {}
+    for number, state in enumerate(plan.states):
+        yield first_states.setdefault(plan.trees.digest(state.place_set), number)
+
+
 def json_listing(plan: StateList) -> Iterator[str]:
     """The lines that `list --json` prints of a plan: one for each micro-operation, then one for
-    each state, with the profiles that allow it. What a micro-operation needs includes itself."""
+    each state."""
+    return map(json_line, chain(operation_objects(plan), state_objects(plan)))
+
+
+def operation_objects(plan: StateList) -> Iterator[Dict[str, Any]]:
+    """The fields of each micro-operation in `list --json`. What it needs includes itself."""
     for place, operation in enumerate(plan.reading.operations):
-        yield json_line(
-            {
-                'op': place,
-                'kind': operation.text.split(' ')[0],
-                **operation.fields(),
-                'line': operation.line_number,
-                'needs': list(places_of(plan.order.needs[place] | 1 << place)),
-            }
-        )
-    first_states: Dict[Digest, int] = {}
+        yield {
+            'op': place,
+            'kind': operation.kind,
+            **operation.fields(),
+            'line': operation.line_number,
+            'needs': list(places_of(plan.order.needs[place] | 1 << place)),
+        }
+
+
+def state_objects(plan: StateList) -> Iterator[Dict[str, Any]]:
+    """The fields of each state in `list --json`, with the profiles that allow its set, and the
+    first state that has an equal tree."""
     profiles = Profiles(plan.reading)
-    for number, (text, place_set) in enumerate(plan.states):
-        yield json_line(
-            {
-                'state': number,
-                **state_fields(text),
-                'says': plan.trees.count_says(place_set),
-                'same': first_states.setdefault(plan.trees.digest(place_set), number),
-                'profiles': profiles.names_allowing(place_set),
-            }
-        )
-
-
-def state_fields(text: str) -> Dict[str, Any]:
-    """The fields of JSON that say which set a state is, from its text in a StateList: `prefix END`,
-    `hole MISSING END`, or `pick PLACES`, which is `pick -` for the empty set."""
-    kind, *numbers = text.split(' ')
-    if kind == 'pick':
-        places = [] if numbers == ['-'] else list(map(int, numbers[0].split(',')))
-        return {'kind': kind, 'places': places}
-    names = ('end',) if kind == 'prefix' else ('missing', 'end')
-    return {'kind': kind, **dict(zip(names, map(int, numbers)))}
+    for number, (state, first_number) in enumerate(zip(plan.states, first_equal_states(plan))):
+        yield {
+            'state': number,
+            **state.fields,
+            'says': plan.trees.count_says(state.place_set),
+            'same': first_number,
+            'profiles': profiles.names_allowing(state.place_set),
+        }
 
 
 def json_line(fields: Dict[str, Any]) -> str:

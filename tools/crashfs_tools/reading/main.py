@@ -33,10 +33,10 @@ HELP = (
 
 
 def main(words: List[str]) -> int:
-    """Runs a command, such as `list`, and returns its exit status, which is the program's: 1 if the
-    input has a fault, or if the reader of standard output is gone; 2 for wrong options. A fault or
-    a wrong option is printed on standard error, before any output. Other errors of standard output
-    are raised."""
+    """Runs a command, such as `list`, with its options, and returns the exit status that the
+    program has: 1 if the input has a fault, or if nobody reads standard output any more; 2 for
+    wrong options. A fault or a wrong option is printed on standard error, before any output. Any
+    other OSError of standard output is raised."""
     try:
         options = read_options(words)
         print_output(words[0], options)
@@ -57,10 +57,10 @@ def main(words: List[str]) -> int:
 
 
 def read_options(words: List[str]) -> Options:
-    """The options of a command, each with its value, or True if it takes none. A missing value is
-    an empty text; of an option that is given twice the last value counts. UsageFault for an unknown
-    command or option; without --help also if --trace is missing, and for `picks` as
-    refuse_options()."""
+    """The options of a command, each with its value, or True if it takes none. If the last option
+    lacks its value, that is an empty text; if an option is given twice, the last value counts.
+    UsageFault for an unknown command or option; without --help also if --trace is missing, and for
+    `picks` as refuse_options()."""
     if not words or words[0] not in FLAGS:
         raise UsageFault(f"unrecognized subcommand '{words[0] if words else ''}'")
     options: Options = {}
@@ -82,9 +82,9 @@ def read_options(words: List[str]) -> Options:
 
 
 def print_output(command: str, options: Options) -> None:
-    """Prints what a command asks for. ReadingFault if an input file has a fault, if there are too
-    many states or sets, or if there is no such state or profile. UsageFault as state_numbers().
-    OSError of standard output."""
+    """Prints what a command prints for these options. ReadingFault if an input file has a fault, if
+    there are too many states or sets, or if there is no such state or profile. UsageFault as
+    state_numbers(). An OSError of standard output is raised."""
     if '--help' in options:
         print(HELP)
         return
@@ -105,7 +105,7 @@ def print_output(command: str, options: Options) -> None:
 
 
 def read_file(path: str) -> bytes:
-    """The bytes of a file; a ReadingFault that names it if it can't be read."""
+    """The bytes of a file. ReadingFault, with the path, if the file can't be read."""
     try:
         with open(path, 'rb') as file:
             return file.read()
@@ -115,7 +115,7 @@ def read_file(path: str) -> bytes:
 
 def write_archive(plan: StateList, options: Options) -> None:
     """Writes the archive that the options of `tar` ask for to standard output. Errors as
-    state_numbers(), before anything is written, and OSError of standard output."""
+    state_numbers(), before anything is written. An OSError of standard output is raised."""
     # `list` begins faster without tarfile.
     from .archive import ArchiveWriter
 
@@ -130,9 +130,9 @@ def write_archive(plan: StateList, options: Options) -> None:
 
 
 def state_numbers(plan: StateList, options: Options) -> List[int]:
-    """The numbers of the states that --state or, without that, --states names, in the list's order;
-    one may come twice. ReadingFault if the plan has no such state. UsageFault if the text is no
-    number or list, also if neither option is given."""
+    """The numbers of the states that --state or, without that, --states names, in the order of its
+    list; a number may come twice. ReadingFault if the plan has no such state. UsageFault if the
+    text is no number or list, or if neither option is given."""
     if '--state' in options:
         text = str(options['--state'])
         if not is_number_text(text):
@@ -149,13 +149,16 @@ def state_numbers(plan: StateList, options: Options) -> List[int]:
 def parse_ranges(text: str) -> List[range]:
     """The ranges of a list of numbers and ranges, such as `0,4-7`, in its order; a number is a
     range of one. UsageFault if the text is no such list, or if a range ends before it begins."""
-    ranges: List[range] = []
-    for range_text in text.split(','):
-        first, dash, last = range_text.partition('-')
-        if not is_number_text(first) or not is_number_text(last if dash else first):
-            raise UsageFault(f"invalid value '{text}' for '--states <LIST>'")
-        numbers = range(int(first), int(last or first) + 1)
-        if not numbers:
-            raise UsageFault(f"invalid value '{text}' for '--states <LIST>'")
-        ranges.append(numbers)
+    ranges = [parse_range(range_text) for range_text in text.split(',')]
+    if not all(ranges):
+        raise UsageFault(f"invalid value '{text}' for '--states <LIST>'")
     return ranges
+
+
+def parse_range(text: str) -> range:
+    """The numbers of `4-7`, or of the single number `4`. An empty range if the text is neither, or
+    if it ends before it begins."""
+    first, dash, last = text.partition('-')
+    if not is_number_text(first) or not is_number_text(last if dash else first):
+        return range(0)
+    return range(int(first), int(last or first) + 1)

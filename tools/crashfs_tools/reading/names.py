@@ -78,7 +78,8 @@ class NameTree:
         return node.number
 
     def path_of_entry(self, entry: Entry) -> str:
-        """The path that an entry has in the tree as it is now; its directory must be there."""
+        """The path that an entry has in the tree as it is now, whether it holds something or not.
+        Its directory must be there."""
         directory, name = entry
         is_root = directory == ROOT
         directory_path = '' if is_root else self.path_of_entry(self.directories[directory])
@@ -92,8 +93,8 @@ class NameTree:
     # What lines do
 
     def add_file(self, path: str, size: int, kind: str = FILE) -> Inode:
-        """Adds a file of this size, or a symbolic link, at a free path, and returns it. It has the
-        next number."""
+        """Adds a file of this size, or a symbolic link, at a free path, and returns its inode, with
+        the next number."""
         self.sizes.append(size)
         self.entries.append([])
         node = Inode(kind, len(self.sizes) - 1)
@@ -101,8 +102,8 @@ class NameTree:
         return node
 
     def add_directory(self, path: str) -> Inode:
-        """Adds an empty directory at a free path, and returns it. It has the next number; but up to
-        version 3 one that is made again at an entry has its old number."""
+        """Adds an empty directory at a free path, and returns its inode, with the next number. Up
+        to version 3 a directory that is made again at an entry gets its old number again."""
         entry = self.entry_at(path)
         number = len(self.directories) + 1
         if self.version < 4:
@@ -114,8 +115,8 @@ class NameTree:
         return node
 
     def add_path(self, path: str, node: Inode) -> None:
-        """Gives a file or directory a free path. This counts as a record, also after the path is
-        gone."""
+        """Gives a file or directory a free path. This is counted in `records`, also after the path
+        is gone."""
         self.records += 1
         entry = self.entry_at(path)
         self.children[entry[0]][entry[1]] = node
@@ -132,10 +133,10 @@ class NameTree:
         return node
 
     def move(self, old_path: str, new_path: str) -> None:
-        """Moves what is at a path to another one, which isn't one of the same file; what is there
-        is replaced, a directory only if it is empty. In the order of a file's paths by age, the new
-        path has the place of the old one. In version 4 a move into another directory counts as a
-        record."""
+        """Moves what is at a path to another path, which must not be one of the same file. What is
+        there is replaced; a directory there must be empty. In the order of a file's paths by age
+        the new path follows as the old one did. In version 4 a move into another directory counts
+        as a record."""
         source, target = self.entry_at(old_path), self.entry_at(new_path)
         if self.inode_at(new_path) is not None:
             self.remove_path(new_path)
@@ -157,7 +158,7 @@ class NameTree:
 
     def refuse_unfit_line(self, line: Line) -> None:
         """LineFault with the first fault of a line in the tree as it is: a path is missing, taken
-        or of another kind, or a limit is passed. It changes nothing. A header always fits."""
+        or of another kind, or a limit is passed. The tree isn't changed. A header always fits."""
         if line.key == 'trace':
             return
         if line.word in ('creat', 'mkdir', 'dir', 'file', 'symlink'):
@@ -187,8 +188,8 @@ class NameTree:
         return node
 
     def require_kind(self, path: str, kinds: Tuple[str, ...]) -> None:
-        """LineFault unless something of one of these kinds is at a path: Missing, or NotFile for
-        another kind."""
+        """LineFault unless something of one of these kinds is at a path: Missing if nothing is,
+        NotFile for another kind."""
         node = self.require_inode(path)
         if node.kind not in kinds:
             raise LineFault('NotFile', f'{path} is {KIND_TEXTS[node.kind]}')
@@ -203,15 +204,16 @@ class NameTree:
             raise LineFault('NotDir', f'{parent_path(path)} is {KIND_TEXTS[directory.kind]}')
 
     def require_free(self, path: str) -> None:
-        """LineFault unless something can be made at a path: as require_parent(), else Exists if
-        something is there."""
+        """LineFault unless something can be made at a path: as require_parent(), or Exists if
+        something is there already."""
         self.require_parent(path)
         if self.inode_at(path) is not None:
             raise LineFault('Exists', f'{path} is there already')
 
     def refuse_rename(self, old_path: str, new_path: str) -> None:
-        """LineFault with the first fault of a rename, if it has one. One onto itself, or onto a
-        path of the same file, has none. Up to version 3 no directory can be renamed."""
+        """LineFault with the first fault of a rename, if it has one: Missing, NotFile, NoParent,
+        NotDir, BadName or NotEmpty. Up to version 3 no directory can be renamed. A rename between
+        two paths of one file, or onto the same path, has no fault."""
         node = self.require_inode(old_path)
         if node.kind == DIRECTORY and self.version < 4:
             raise LineFault('NotFile', f'{old_path} is a directory')
@@ -227,7 +229,8 @@ class NameTree:
             raise LineFault('NotFile', f'{new_path} is a directory')
 
     def refuse_rmdir(self, path: str) -> None:
-        """LineFault unless an empty directory is at a path: Missing, NotDir, or NotEmpty."""
+        """LineFault unless an empty directory is at a path: Missing if nothing is, NotDir for
+        another kind, NotEmpty."""
         node = self.require_inode(path)
         if node.kind != DIRECTORY:
             raise LineFault('NotDir', f'{path} is {KIND_TEXTS[node.kind]}')
@@ -235,9 +238,9 @@ class NameTree:
             raise LineFault('NotEmpty', f'{path} has entries')
 
     def refuse_too_large(self, line: Line) -> None:
-        """LineFault (TooLarge) if a path of a line has too many names or a say too many bytes, or
-        if the line would make too many records or a file that is too large. All else of the line
-        must fit."""
+        """LineFault (TooLarge) if a path of a line has too many names, or a say too many bytes, or
+        if the line makes a record too many or a file that is too large. What else a line needs must
+        be checked before."""
         if any(path.count('/') > PATH_NAMES for path in line.paths()):
             raise LineFault('TooLarge', f'a path of more than {PATH_NAMES} names')
         if self.records >= RECORDS and (line.word in MAKES_RECORD or self.is_counted_rename(line)):
@@ -249,8 +252,8 @@ class NameTree:
             raise LineFault('TooLarge', f'a file of more than {most_bytes} bytes')
 
     def is_counted_rename(self, line: Line) -> bool:
-        """Whether a line is a rename of version 4 into another directory, which counts as a record.
-        One between two paths of one file does nothing, and doesn't count."""
+        """Whether a line is a rename that counts as a record: in version 4, into another directory,
+        and not between two paths of one file, which does nothing."""
         if self.version < 4 or line.word != 'rename':
             return False
         old_path, new_path = line.fields['from'], line.fields['to']

@@ -7,7 +7,7 @@ from itertools import islice
 from typing import Dict, Iterator, List, Union
 
 from .classes import SetClasses
-from .every import count_sets, drawn_sets, every_set
+from .every import MOST_MEMBERS, count_sets, drawn_sets, every_set
 from .faults import ReadingFault
 from .lines import PROFILES
 from .order import Order, order_under
@@ -18,6 +18,7 @@ from .trace import Reading
 DEFAULT_MOST = 1_000_000
 LARGEST = {'--most': 16_777_216, '--sample': 16_384, '--seed': 2**64 - 1}
 LEAST = {'--most': 1, '--sample': 1, '--seed': 0}
+OPTIONS_OF_EVERY = ('--different', '--most', '--count', '--profile')
 
 Options = Dict[str, Union[str, bool]]
 
@@ -33,25 +34,24 @@ def refuse_options(options: Options) -> None:
     kinds += ['--lost'] if {'--lost', '--files'} & options.keys() else []
     if len(kinds) != 1:
         raise UsageFault('one of --every, --sample, --lost and --files is needed')
-    for option in ('--different', '--most', '--count', '--profile'):
-        if option in options and '--every' not in options:
-            raise UsageFault(f'{option} goes with --every')
-    for option in ('--different', '--most', '--profile'):
-        if option in options and '--count' in options:
-            raise UsageFault(f"{option} doesn't go with --count")
+    of_every = [option for option in OPTIONS_OF_EVERY if option in options]
+    if of_every and '--every' not in options:
+        raise UsageFault(f'{of_every[0]} goes with --every')
+    not_with_count = [option for option in of_every if option != '--count']
+    if '--count' in options and not_with_count:
+        raise UsageFault(f"{not_with_count[0]} doesn't go with --count")
     if ('--seed' in options) != ('--sample' in options):
         raise UsageFault('--sample and --seed go together')
     if options.get('--profile', PROFILES[0]) not in PROFILES:
         raise UsageFault(f"invalid value '{options['--profile']}' for '--profile <F>'")
     for option in LARGEST:
-        option_number(options, option)
+        if option in options:
+            option_number(options, option)
 
 
 def option_number(options: Options, option: str) -> int:
-    """The number that an option has, or DEFAULT_MOST if it isn't given. UsageFault if it is no
-    number, or not in the option's range, LEAST to LARGEST."""
-    if option not in options:
-        return DEFAULT_MOST
+    """The number that a given option has. UsageFault if it is no number, or not in the option's
+    range, LEAST to LARGEST. KeyError if the option isn't given."""
     text = str(options[option])
     if not is_number_text(text) or not LEAST[option] <= int(text) <= LARGEST[option]:
         raise UsageFault(f"invalid value '{text}' for '{option} <N>'")
@@ -59,8 +59,8 @@ def option_number(options: Options, option: str) -> int:
 
 
 def is_number_text(text: str) -> bool:
-    """Whether a text is a number that eight bytes hold: digits only, at most 20 with the zeros in
-    front."""
+    """Whether a text is a number that eight bytes hold: digits only, at most 20 of them, also with
+    zeros in front."""
     return text.isascii() and text.isdecimal() and len(text) <= 20 and int(text) < 2**64
 
 
@@ -76,16 +76,15 @@ def picks_lines(reading: Reading, options: Options) -> Iterator[str]:
 
 
 def count_text(count: int) -> str:
-    """A number of sets as `picks --count` prints it. If eight bytes can't hold it, it is `more
-    than` and the largest number that they hold."""
-    largest = 2**64 - 1
-    return str(count) if count <= largest else f'more than {largest}'
+    """A number of sets as `picks --count` prints it: above MOST_MEMBERS, `more than` and this
+    number."""
+    return str(count) if count <= MOST_MEMBERS else f'more than {MOST_MEMBERS}'
 
 
 def picked_sets(reading: Reading, options: Options) -> Iterator[List[int]]:
     """The places of each set that the options ask for, in the order in which they are printed; a
-    set of both families comes twice. ReadingFault as sets_of_every() and drawn_sets() raise it: the
-    latter only when the first set is taken."""
+    set of both families comes twice. ReadingFault as sets_of_every() and, only when the first set
+    is asked for, as drawn_sets()."""
     if '--every' in options:
         return sets_of_every(reading, options)
     if '--sample' in options:
@@ -107,7 +106,7 @@ def sets_of_every(reading: Reading, options: Options) -> Iterator[List[int]]:
     order = Order(reading) if profile is None else order_under(reading, str(profile))
     has_different = '--different' in options
     all_sets = SetClasses(reading, order).different_sets() if has_different else every_set(order)
-    most = option_number(options, '--most')
+    most = option_number(options, '--most') if '--most' in options else DEFAULT_MOST
     sets = list(islice(all_sets, most + 1))
     if len(sets) > most:
         raise ReadingFault(f'more than {most} sets')

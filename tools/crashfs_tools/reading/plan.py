@@ -3,7 +3,7 @@
 from __future__ import annotations
 
 from itertools import chain
-from typing import Iterable, Iterator, List, Sequence, Tuple
+from typing import Any, Dict, Iterable, Iterator, List, NamedTuple, Sequence
 
 from .faults import LineFault, ReadingFault
 from .json_lines import is_trace_number, read_array
@@ -16,35 +16,63 @@ STATES = 16_384
 LARGEST_PLACE = 2**32 - 1
 
 
+class PlannedState(NamedTuple):
+    """A state of a plan: the fields by which `list --json` names its set, the kind first, and the
+    set."""
+
+    fields: Dict[str, Any]
+    place_set: int
+
+    @property
+    def text(self) -> str:
+        """The fields as `list` prints them, such as `prefix 3`, `hole 1 3` or `pick 0,2`; `pick -`
+        for the empty set."""
+        kind, *numbers = self.fields.values()
+        if kind == 'pick':
+            numbers = [','.join(map(str, self.fields['places'])) or '-']
+        return ' '.join([kind, *map(str, numbers)])
+
+
 class StateList:
-    """The states of a plan, by their numbers: of each the text that `list` prints of it, and its
-    set. At first it has none. `order` and `trees` are those of the trace, under its own profile."""
+    """The states of a plan, by their numbers; at first none. `order` and `trees` are those of the
+    trace, under its own profile."""
 
     def __init__(self, reading: Reading) -> None:
         self.reading = reading
         self.order = Order(reading)
         self.trees = States(reading)
-        self.states: List[Tuple[str, int]] = []
+        self.states: List[PlannedState] = []
 
-    def add_state(self, text: str, place_set: int) -> None:
-        """Adds a state by its text and its set, even if the plan has this set already. ReadingFault
-        if the plan is full; then it stays as it was."""
+    def add_state(self, fields: Dict[str, Any], place_set: int) -> None:
+        """Adds a state by its fields, see PlannedState, and its set, even if the plan has this set
+        already. ReadingFault if the plan is full; then it stays as it was."""
         if len(self.states) >= STATES:
             raise ReadingFault('plan too large')
-        self.states.append((text, place_set))
+        self.states.append(PlannedState(fields, place_set))
+
+    def add_prefixes(self) -> None:
+        """Adds each prefix, from the empty one to the whole trace. ReadingFault as add_state()."""
+        for end in range(self.order.count + 1):
+            self.add_state({'kind': 'prefix', 'end': end}, (1 << end) - 1)
 
     def add_holes(self) -> None:
         """Adds each prefix without one micro-operation and all that need it, unless the prefix's
-        last one is lost with it. ReadingFault if the plan is full: those before it stay added."""
-        for end in range(self.order.count + 1):
-            for lost in range(end - 1):
-                hole = self.order.set_without((1 << end) - 1, 1 << lost)
-                if hole >> (end - 1):
-                    self.add_state(f'hole {lost} {end}', hole)
+        last one is lost with it. ReadingFault if the plan is full; the states added before stay."""
+        ends = range(self.order.count + 1)
+        for lost, end in ((lost, end) for end in ends for lost in range(end - 1)):
+            place_set = self.order.set_without((1 << end) - 1, 1 << lost)
+            if place_set >> (end - 1):
+                self.add_state({'kind': 'hole', 'missing': lost, 'end': end}, place_set)
+
+    def add_pick(self, places: Iterable[int]) -> None:
+        """Adds the set of these places as a pick. Whether it is allowed isn't checked here.
+        ReadingFault as add_state()."""
+        members = list(places)
+        self.add_state({'kind': 'pick', 'places': members}, set_of(members))
 
     def refuse_bad_pick(self, number: int, pick: Sequence[int]) -> None:
         """ReadingFault, with the pick's number, unless its places are in ascending order, are all
-        places of the trace, and are a set that a crash may leave."""
+        places of the trace, and are an allowed set."""
         is_ascending = all(place < next_place for place, next_place in zip(pick, pick[1:]))
         if not (
             is_ascending
@@ -55,45 +83,39 @@ class StateList:
 
 
 def make_plan(
-    reading: Reading, has_holes: bool = False, picks: Sequence[Sequence[int]] = ()
+    reading: Reading, *, has_holes: bool = False, picks: Sequence[Sequence[int]] = ()
 ) -> StateList:
     """A plan of the prefixes, the holes if has_holes is set, and the picks, in this order; a set
-    may come several times. ReadingFault if there are too many, or if a pick isn't in ascending
-    order or isn't allowed."""
+    may come several times. ReadingFault if there are too many states, or else if a pick isn't in
+    ascending order or isn't allowed."""
     plan = StateList(reading)
-    for count in range(plan.order.count + 1):
-        plan.add_state(f'prefix {count}', (1 << count) - 1)
+    plan.add_prefixes()
     if has_holes:
         plan.add_holes()
     if len(plan.states) + len(picks) > STATES:
         raise ReadingFault('plan too large')
     for number, pick in enumerate(picks):
         plan.refuse_bad_pick(number, pick)
-        plan.add_state(pick_text(pick), set_of(pick))
+        plan.add_pick(pick)
     return plan
 
 
-def pick_text(places: Iterable[int]) -> str:
-    """A pick as `list` prints it: its places, or `-` if it has none."""
-    return f'pick {",".join(map(str, places)) or "-"}'
-
-
 def add_families(plan: StateList, *, has_lost: bool, has_files: bool) -> None:
-    """Adds the sets of the families --lost and --files to a plan, as picks, in this order. Each is
-    added once, and only if the plan lacks it. ReadingFault if the plan is full: those before it
-    stay added."""
+    """Adds the sets of the families --lost and --files to a plan, as picks, in this order. Each set
+    is added once, and only if the plan lacks it. ReadingFault if the plan is full; the sets added
+    before stay."""
     families = [lost_sets(plan)] if has_lost else []
     families += [file_sets(plan)] if has_files else []
-    planned_sets = {place_set for _, place_set in plan.states}
+    planned_sets = {state.place_set for state in plan.states}
     for place_set in dict.fromkeys(chain.from_iterable(families)):
         if place_set not in planned_sets:
-            plan.add_state(pick_text(places_of(place_set)), place_set)
+            plan.add_pick(places_of(place_set))
 
 
 def read_picks(data: bytes) -> List[List[int]]:
-    """The places of each set of a picks file; empty lines are skipped, but counted in a fault's
-    number. ReadingFault for a line that is no array of numbers up to LARGEST_PLACE, in UTF-8.
-    Whether the sets are allowed isn't checked here."""
+    """The places of each set of a picks file, given by its bytes. ReadingFault, with the line's
+    number, for a line that is no array of numbers up to LARGEST_PLACE, in UTF-8. Empty lines are
+    skipped, but counted. Whether the sets are allowed isn't checked here."""
     picks = []
     for number, line in enumerate(data.split(b'\n'), 1):
         if not line:
@@ -117,18 +139,18 @@ def lost_sets(plan: StateList) -> Iterator[int]:
 def file_sets(plan: StateList) -> Iterator[int]:
     """The family --files: each prefix without those changes of one file that no sync before its
     last micro-operation covers, and without all that need them. A set may come several times."""
-    order, trees = plan.order, plan.trees
-    for count in range(1, order.count + 1):
+    order, changes = plan.order, plan.trees.change_places
+    for end in range(1, order.count + 1):
+        prefix = (1 << end) - 1
         # A sync after the prefix's last micro-operation hasn't ended yet.
-        not_synced = (1 << count) - 1 & ~order.synced_sets[count - 1]
-        for file_number in sorted(trees.change_places):
-            lost = not_synced & trees.change_places[file_number]
-            if lost:
-                yield order.set_without((1 << count) - 1, lost)
+        not_synced = prefix & ~order.synced_sets[end - 1]
+        lost_of_files = (not_synced & changes[file_number] for file_number in sorted(changes))
+        yield from (order.set_without(prefix, lost) for lost in lost_of_files if lost)
 
 
 def different_places(sets: Iterator[int]) -> Iterator[List[int]]:
-    """The places of each set, as a stream; a set that came before is left out."""
+    """The places of each set, ascending; a set that came before is left out. Each set is taken only
+    when the next one is asked for."""
     seen_sets = set()
     for place_set in sets:
         if place_set not in seen_sets:
