@@ -20,26 +20,26 @@ class Refused(Exception):
 
 def text_field(text: str) -> bytes:
     """A text as a message of 9P has it: its length in two bytes, then its bytes in UTF-8.
-    struct.error if there are more than 65,535 bytes."""
+    struct.error if it has more than 65,535 bytes."""
     data = text.encode()
     return struct.pack('<H', len(data)) + data
 
 
 def message(kind: int, fields: bytes, tag: int = 1) -> bytes:
-    """The bytes of a message of 9P: its size, kind and tag, then its fields. By default it has the
-    tag of all requests but the first."""
+    """The bytes of a message of 9P: its size, kind and tag, then its fields. All requests but the
+    first have the tag 1: see Client."""
     return struct.pack('<IBH', len(fields) + 7, kind, tag) + fields
 
 
 class Client:
-    """A connection to a server, with the one tag that all requests have. Each call waits for the
-    replies to what it sends. After an OSError the connection can't be used any more; after Refused
-    it can."""
+    """A connection to a server. All requests but the first have one tag, so each call waits for
+    the replies to all that it sends. After an OSError the connection can't be used
+    any more; after Refused it can. The caller must call close()."""
 
     def __init__(self, address: str) -> None:
         """Connects to HOST:PORT, and agrees on VERSION with the server. OSError if nobody listens
-        there. Refused if the server answers with another version or an Rerror; the connection is
-        closed then."""
+        there, or if the connection ends; Refused if the server answers with another version or an
+        Rerror. After an error the connection is closed."""
         host, port = address.rsplit(':', 1)
         self.stream = socket.create_connection((host, int(port)))
         self.replies = self.stream.makefile('rb')
@@ -53,8 +53,8 @@ class Client:
             raise
 
     def wait_for_reply(self) -> bytes:
-        """Waits for the next reply, and returns its fields, whatever its kind and tag. Refused if
-        it is an Rerror, OSError if the connection has ended, also if that is within the reply."""
+        """Waits for the next reply, and returns its fields, whatever its kind and tag are. Refused
+        if it is an Rerror, OSError if the connection ends before the whole reply has come."""
         size, kind, _ = struct.unpack('<IBH', self.read_whole(7))
         fields = self.read_whole(size - 7)
         if kind == RERROR:
@@ -70,15 +70,15 @@ class Client:
         return data
 
     def ask(self, request: bytes) -> bytes:
-        """Sends a request, waits for its reply, and returns the reply's fields. Refused if that is
-        an Rerror, OSError if the connection ends."""
+        """Sends a request, waits for its reply, and returns the reply's fields. Refused if the
+        reply is an Rerror, OSError if the connection ends."""
         self.stream.sendall(request)
         return self.wait_for_reply()
 
     def ask_all(self, requests: List[bytes]) -> int:
-        """Sends all requests before it waits for their replies, and returns how many were granted:
-        an Rerror raises nothing here. The requests must fit the buffers of both ends, since the
-        server may wait for its replies to be read. OSError if the connection ends."""
+        """Sends all requests before it waits for their replies, and returns how many were granted,
+        as an Rerror raises nothing here. The requests must fit the buffers of both ends, since the
+        server may wait until its replies are read. OSError if the connection ends."""
         self.stream.sendall(b''.join(requests))
         granted_count = 0
         for _ in requests:

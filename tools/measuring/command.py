@@ -42,8 +42,9 @@ NEEDED = {
 
 
 def parse_words(words: List[str]) -> argparse.Namespace:
-    """The options of the words after `measure`, unless the first is `disks` or `stores`; wrong ones
-    end the program with status 2. Only main() checks that the names are of benchmarks."""
+    """The options that the words after `measure` give, of which the first is neither `disks` nor
+    `stores`. Wrong ones end the program with status 2. Only main() checks that the names are of
+    benchmarks."""
     parser = argparse.ArgumentParser(
         prog='measure', description=__doc__, formatter_class=argparse.RawDescriptionHelpFormatter
     )
@@ -60,9 +61,9 @@ def parse_words(words: List[str]) -> argparse.Namespace:
 
 
 def measure_benchmark(programs: Programs, name: str, tally: Tally) -> None:
-    """Prints the rows of the benchmark of this name, or which programs that it needs aren't built.
-    Its failures are in the tally. OSError if the program of a benchmark that isn't in MEASURED
-    can't be started."""
+    """Measures a benchmark, given by its name, and prints its rows, or which programs that it needs
+    aren't built. Rows and failures are counted in the tally. OSError if the program of a benchmark
+    that isn't in MEASURED can't be started."""
     needed = NEEDED.get(name, [name])
     not_built = [program for program in needed if programs.path_if_built(program) is None]
     if not_built:
@@ -78,8 +79,8 @@ def measure_benchmark(programs: Programs, name: str, tally: Tally) -> None:
 def main(arguments: Optional[List[str]] = None) -> int:
     """Runs `measure` with these words, or with those of its command line if they are None. Returns
     the status: 1 if a row is past its bound or a program failed; 2 if a name is unknown, and
-    nothing is measured then. After `disks` or `stores` it is that of these commands. OSError if
-    there is no crates.txt, and as measure_benchmark()."""
+    nothing is measured then; after `disks` or `stores` what their main() returns. OSError if there
+    is no crates.txt, and as measure_benchmark()."""
     words = sys.argv[1:] if arguments is None else arguments
     if words[:1] == ['disks']:
         return disks.main(words[1:])

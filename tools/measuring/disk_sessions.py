@@ -3,10 +3,11 @@
 from __future__ import annotations
 
 import re
-from dataclasses import asdict, dataclass, field
+from dataclasses import asdict, dataclass, field, replace
 from typing import Dict, Iterator, List, Set, Tuple
 
 from crashfs_tools.checker.findings.read_trees import entries_of
+from crashfs_tools.checker.states.steps import trace_text
 from crashfs_tools.common.trace import Trace
 from crashfs_tools.disks.crashing import CrashMaker
 from crashfs_tools.disks.disk import Disk, digest_of, different_disks
@@ -17,6 +18,8 @@ from crashfs_tools.reading.classes import SetClasses
 from crashfs_tools.reading.lines import PROFILES
 from crashfs_tools.reading.order import order_under, profile_names
 from crashfs_tools.reading.states import States
+
+from .random_sessions import draw_session
 
 # The profile that each file system is compared with.
 PROFILE_OF = {'ext4': 'journal', 'xfs': 'journal', 'btrfs': 'blocks'}
@@ -52,15 +55,10 @@ class SessionResult:
         return asdict(self)
 
 
-def trace_text(trace: Trace) -> str:
-    """The text of a trace's file."""
-    return ''.join(f'{line}\n' for line in trace.lines())
-
-
 def allowed_trees(reading: Reading, profile: str) -> Set[TreeAndCount]:
-    """Each tree that a profile allows a crash to leave, by its digest, with the number of lines
-    that are acknowledged then. The second reading goes through all different states, so sessions
-    must be short. ReadingFault if the trace's version doesn't have the profile."""
+    """Each tree that a profile allows a crash to leave, by its digest, with how many lines are
+    acknowledged then. All different states are computed, so the session must be short. ReadingFault
+    if the trace's version doesn't have the profile."""
     states, trees = States(reading), set()
     for place_set in SetClasses(reading, order_under(reading, profile)).different_sets():
         tree = entries_of(states.tree(place_set))
@@ -69,32 +67,32 @@ def allowed_trees(reading: Reading, profile: str) -> Set[TreeAndCount]:
 
 
 def session_result(filesystem: str, seed: int, trace: Trace, disks: List[Disk]) -> SessionResult:
-    """The result of a session on the file system of this name, from the different disks that it
-    left there. A profile allows a disk if it allows the disk's tree with one of the numbers of
-    acknowledged lines that the disk may have. KeyError if PROFILE_OF has no such name."""
+    """The result of a session on the file system of this name, from the different disks that its
+    crashes left there. `operations` isn't set here. A profile allows a disk as is_allowed_disk()
+    says. KeyError if PROFILE_OF has no such name."""
     reading = parse_trace(trace_text(trace).encode())
     allowed = {profile: allowed_trees(reading, profile) for profile in profile_names(reading)}
     crash_count = sum(len(disk.crashes) for disk in disks)
     result = SessionResult(filesystem, seed, crash_count, len(disks))
     result.states = len(allowed['blocks'])
     for profile, trees in allowed.items():
-        outside = [disk for disk in disks if not is_disk_among(disk, trees)]
+        outside = [disk for disk in disks if not is_allowed_disk(disk, trees)]
         result.allowed[profile] = len(disks) - len(outside)
         if profile == PROFILE_OF[filesystem]:
             result.outside = [disk_text(disk) for disk in outside]
     return result
 
 
-def is_disk_among(disk: Disk, trees: Set[TreeAndCount]) -> bool:
-    """Whether a disk's tree is one of `trees`, with one of the numbers of acknowledged lines that
-    the disk may have."""
+def is_allowed_disk(disk: Disk, trees: Set[TreeAndCount]) -> bool:
+    """Whether allowed_trees(), here `trees`, have a disk's tree with one of the numbers of
+    acknowledged lines that the disk may have."""
     return any((disk.digest, count) in trees for count in disk.line_counts)
 
 
 def disk_text(disk: Disk) -> str:
-    """The first crash that left a disk, and each path on it but the root, with its content. The
-    crash is given by the line of the last operation before it, or `the start` if there is none, and
-    by its kind of flush."""
+    """The first crash that left a disk, and each path on the disk but the root, with its content.
+    The crash is given by the line of the last operation before it, or by `the start` if there is no
+    such operation, and by its kind of flush."""
     crash = disk.crashes[0]
     paths = ', '.join(f'{path} {entry_text(disk, path)}' for path in disk.tree if path != '/')
     line = f'line {crash.moment.line}' if crash.moment.operation_count else 'the start'
@@ -115,17 +113,17 @@ def entry_text(disk: Disk, path: str) -> str:
 
 class SessionMaker:
     """Makes sessions on one file system, with its images in a folder, and compares their disks. It
-    is used in a worker process: see become_worker()."""
+    must be used in a worker process: see become_worker()."""
 
     def __init__(self, filesystem: FileSystem, folder: str) -> None:
         self.filesystem = filesystem
         self.folder = folder
 
-    def compare_session(self, seed: int, trace: Trace) -> SessionResult:
-        """Crashes a session at each of its moments by all kinds of flushes, and compares the disks
-        with the allowed sets. The seed is the one from which the trace was drawn: the result only
-        names it. Refused if an image can't be made or mounted; the images are removed in any
-        case."""
+    def compare_session(self, seed: int, operation_count: int) -> SessionResult:
+        """Draws the session of this seed, crashes it at each of its moments by all kinds of
+        flushes, and compares the disks with the allowed sets. Refused if an image can't be made or
+        mounted; the images are removed in any case."""
+        trace = draw_session(seed, operation_count)
         maker = CrashMaker(self.filesystem, trace, self.folder)
         try:
             disks = different_disks(
@@ -135,20 +133,27 @@ class SessionMaker:
             )
         finally:
             maker.remove_images()
-        return session_result(self.filesystem.name, seed, trace, disks)
+        result = session_result(self.filesystem.name, seed, trace, disks)
+        return replace(result, operations=operation_count)
 
 
 def table_lines(results: List[SessionResult]) -> Iterator[str]:
     """The lines of a table of sums in Markdown: a row for each file system that has results, in the
-    order of PROFILE_OF. The last columns have how many of the different disks each profile allows.
-    KeyError if a result lacks one of PROFILES."""
-    columns = ['File system', 'Sessions', 'Disks', 'Different', *(f'by `{it}`' for it in PROFILES)]
+    order of PROFILE_OF. KeyError if a result lacks one of PROFILES."""
+    profile_columns = [f'by `{profile}`' for profile in PROFILES]
+    columns = ['File system', 'Sessions', 'Disks', 'Different', *profile_columns]
     yield f'| {" | ".join(columns)} |'
     yield f'|{"---|" * len(columns)}'
     for filesystem in PROFILE_OF:
         sessions = [result for result in results if result.filesystem == filesystem]
         if sessions:
-            counts = [len(sessions), sum(session.disks for session in sessions)]
-            counts.append(sum(session.different for session in sessions))
-            counts += [sum(session.allowed[it] for session in sessions) for it in PROFILES]
-            yield f'| {filesystem} | {" | ".join(f"{count:,}" for count in counts)} |'
+            yield f'| {filesystem} | {" | ".join(f"{it:,}" for it in session_sums(sessions))} |'
+
+
+def session_sums(sessions: List[SessionResult]) -> Iterator[int]:
+    """How many sessions there are, how many disks they left, how many of these differ, and for each
+    of PROFILES how many of the different disks it allows. KeyError as table_lines()."""
+    yield len(sessions)
+    yield sum(session.disks for session in sessions)
+    yield sum(session.different for session in sessions)
+    yield from (sum(session.allowed[profile] for session in sessions) for profile in PROFILES)

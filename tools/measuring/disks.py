@@ -14,26 +14,19 @@ import json
 import os
 import platform
 import sys
-from dataclasses import replace
 from functools import partial
 from pathlib import Path
 from typing import Iterator, List, Optional, Tuple
 
 from crashfs_tools.checker.command_line import parse_positive
+from crashfs_tools.checker.states.steps import trace_text
 from crashfs_tools.common.command import Refused
 from crashfs_tools.common.guard import Guard
 from crashfs_tools.disks.filesystems import missing_requirement, filesystems_by_names
 from crashfs_tools.disks.pool import become_worker
 from crashfs_tools.disks.workers import DiskWorkers
 
-from .disk_sessions import (
-    OPERATIONS,
-    PROFILE_OF,
-    SessionMaker,
-    SessionResult,
-    table_lines,
-    trace_text,
-)
+from .disk_sessions import OPERATIONS, PROFILE_OF, SessionMaker, SessionResult, table_lines
 from .random_sessions import draw_session
 
 MEMORY = '/dev/shm'
@@ -44,8 +37,8 @@ Task = Tuple[str, int]
 
 
 def parse_words(words: List[str]) -> argparse.Namespace:
-    """The options of the words after `measure disks`; wrong ones, and counts below 1, end the
-    program with status 2. Only refusal_text() checks that the file systems are known."""
+    """The options that the words after `measure disks` give. Wrong ones, and counts below 1, end
+    the program with status 2. Only refusal_text() checks that the file systems are known."""
     parser = argparse.ArgumentParser(
         prog='measure disks',
         description=__doc__,
@@ -71,21 +64,22 @@ def parse_words(words: List[str]) -> argparse.Namespace:
 
 
 class Measurement:
-    """The sessions that are asked for, and the file of results, to which each new one is added. So
-    a run that was stopped is continued by the same command line."""
+    """The sessions that are asked for, and the file of results, to which each new result is added.
+    So the same command line continues a measurement that was stopped."""
 
     def __init__(self, options: argparse.Namespace) -> None:
-        """Makes the folder DIR if it isn't there; reads no results yet. OSError if it can't be
-        made, or is a file."""
+        """Makes the folder DIR if it isn't there; reads no results yet. OSError if the folder can't
+        be made, or is a file."""
         self.options = options
         self.filesystems = options.on.split(',')
         self.results_path = options.dir / RESULTS
         options.dir.mkdir(parents=True, exist_ok=True)
 
     def read_results(self) -> List[SessionResult]:
-        """The results in the file of the sessions that are asked for, in the file's order; none if
-        there is no file. Sessions with another number of operations are left out. ValueError if a
-        line isn't whole, as after a run that was killed; TypeError if one has other fields."""
+        """The results of the sessions that are asked for, in the order of the file; none if there
+        is no file. Sessions with another number of operations are left out. ValueError if a line
+        isn't whole, as after the command was killed; TypeError if a line has other fields; OSError
+        if the file can't be read."""
         tasks, path = set(self.tasks()), self.results_path
         lines = path.read_text('utf-8').splitlines() if path.exists() else []
         return [
@@ -109,19 +103,18 @@ class Measurement:
 
     def make_sessions(self, folder: str) -> None:
         """Makes the sessions of tasks_left(), several at once, saves each result as it comes, and
-        shows on standard error how many are made. Images are made in the folder. Errors as
-        DiskWorkers.results(), and Refused if an image can't be made or mounted; the results that
-        were saved stay."""
+        shows on standard error how many are made. Images are made in the folder. Refused if an
+        image can't be made or mounted; errors as DiskWorkers.results() and save_result(). The
+        results that were saved stay."""
         tasks = self.tasks_left()
         makers = {
             it.name: SessionMaker(it, folder) for it in filesystems_by_names(self.filesystems)
         }
 
         def make_session(task: Task) -> SessionResult:
+            """The result of a task, in a worker process."""
             name, seed = task
-            count = self.options.operations
-            result = makers[name].compare_session(seed, draw_session(seed, count))
-            return replace(result, operations=count)
+            return makers[name].compare_session(seed, self.options.operations)
 
         begin_worker = partial(become_worker, os.getpid())
         with DiskWorkers(self.options.jobs, begin_worker, make_session) as workers:
@@ -131,9 +124,10 @@ class Measurement:
         print(file=sys.stderr)
 
     def save_result(self, result: SessionResult) -> None:
-        """Adds a result to the file. If it has a disk outside the file system's profile, it also
-        writes the session's trace to DIR, as FILESYSTEM-SEED-OPERATIONS.trace, over one that is
-        there. OSError if either can't be written: the file may have a part of the line."""
+        """Adds a result to the file. If the result has a disk outside the file system's profile,
+        the session's trace is also written to DIR, as FILESYSTEM-SEED-OPERATIONS.trace, over an
+        older one. OSError if one of the two can't be written: the file of results may then have a
+        part of the line."""
         with self.results_path.open('a', encoding='utf-8') as file:
             file.write(json.dumps(result.fields()) + '\n')
         if result.outside:
@@ -143,12 +137,20 @@ class Measurement:
 
 
 def refusal_text(filesystems: List[str]) -> Optional[str]:
-    """Why the file systems of these names can't be measured here; None if they can. One that
-    crashfs-check knows but PROFILE_OF doesn't have can't be, either."""
+    """Why the file systems of these names can't be measured here; None if they can. Each must be in
+    PROFILE_OF, even if crashfs-check knows it."""
     unknown = [name for name in filesystems if name not in PROFILE_OF]
     if unknown:
         return f'{unknown[0]} is none of {", ".join(PROFILE_OF)}'
     return missing_requirement(filesystems_by_names(filesystems))
+
+
+def outside_texts(results: List[SessionResult]) -> Iterator[str]:
+    """A text for each disk that its file system's profile doesn't allow, after an empty line."""
+    for result in results:
+        session = f'{result.filesystem}, session {result.seed}'
+        profile = PROFILE_OF[result.filesystem]
+        yield from (f'\noutside {profile}: {session}, {text}' for text in result.outside)
 
 
 def main(words: List[str]) -> int:
@@ -156,23 +158,20 @@ def main(words: List[str]) -> int:
     file system's profile; 2 if the sessions can't be made here, and no table is printed then. The
     file systems must be usable even if the file has all results. Errors of Measurement are raised,
     except Refused."""
-    run = Measurement(parse_words(words))
-    refusal = refusal_text(run.filesystems)
+    measurement = Measurement(parse_words(words))
+    refusal = refusal_text(measurement.filesystems)
     if refusal is not None:
         print(f'measure disks: {refusal}', file=sys.stderr)
         return 2
-    if run.tasks_left():
+    if measurement.tasks_left():
         with Guard('measure-disks', MEMORY if os.path.isdir(MEMORY) else None) as guard:
             try:
-                run.make_sessions(guard.directory)
+                measurement.make_sessions(guard.directory)
             except Refused as refused:
                 print(f'measure disks: {refused}', file=sys.stderr)
                 return 2
-    results = run.read_results()
-    print(f'Kernel {platform.release()}, {run.options.operations} operations a session\n')
-    print('\n'.join(table_lines(results)))
-    for result in results:
-        for text in result.outside:
-            profile = PROFILE_OF[result.filesystem]
-            print(f'\noutside {profile}: {result.filesystem}, session {result.seed}, {text}')
+    results = measurement.read_results()
+    operation_count = measurement.options.operations
+    print(f'Kernel {platform.release()}, {operation_count} operations a session\n')
+    print('\n'.join([*table_lines(results), *outside_texts(results)]))
     return 1 if any(result.outside for result in results) else 0

@@ -26,15 +26,15 @@ IDLE_BYTES = 200_000
 
 
 def open_clients(address: str, count: int, opened: ExitStack) -> List[Client]:
-    """Opens so many connections, each of which `opened` closes at its end, also if a later one
-    can't be opened. Errors as in Client."""
+    """Opens so many connections and adds them to `opened`, which closes them at its end, also if a
+    later one can't be opened. Errors as Client()."""
     return [opened.enter_context(closing(Client(address))) for _ in range(count)]
 
 
 def fill_with_connections(address: str, connections: int, opened: ExitStack) -> int:
     """Opens so many connections, which `opened` closes, attaches all of them to the same run, and
-    leaves them idle. Returns how many there are. Refused if the server refuses an attach, OSError
-    if it ends a connection."""
+    leaves them idle. Returns how many there are. Refused if the server refuses a connection or an
+    attach, OSError if a connection can't be made or ends."""
     for client in open_clients(address, connections, opened):
         client.attach(0, '0/x')
     return connections
@@ -51,9 +51,9 @@ def fill_with_runs(address: str, runs: int, connections: int, opened: ExitStack)
 
 def fill_with_writes(address: str, enough: int, opened: ExitStack) -> int:
     """Writes blocks to a file of a run, by a connection that `opened` closes, until the server
-    refuses one, since its journal is full, or has granted `enough`. Returns how many it granted: up
-    to BATCH - 1 more, as they are sent in batches. Refused if the server refuses the attach, the
-    open or the first write, OSError if it ends the connection."""
+    refuses a write, since the run's journal is full, or has granted `enough`. Returns how many
+    writes it granted: up to BATCH - 1 more than enough, since they are sent in batches. Refused if
+    no write is granted, and errors as fill_with_connections()."""
     (client,) = open_clients(address, 1, opened)
     client.attach(0, '0/x')
     client.open(0, 1, 'f')
@@ -72,9 +72,9 @@ def fill_with_writes(address: str, enough: int, opened: ExitStack) -> int:
 def measure_new_server(
     programs: Programs, fill: Callable[[str, ExitStack], int], connections: int
 ) -> Tuple[int, int]:
-    """Starts a server that takes so many connections, calls `fill` with its address, and kills it.
-    Returns as measure_growth(). OSError if the server doesn't listen; errors of `fill` are
-    raised."""
+    """Starts a server that takes so many connections, calls `fill` with its address, kills it, and
+    returns what measure_growth() returned. OSError if the server doesn't listen; errors of `fill`
+    are raised."""
     address = free_address()
     with running_server(serve_words(programs, address, connections)) as server:
         return measure_growth(server, lambda opened: fill(address, opened))
@@ -84,9 +84,9 @@ def measure_growth(
     server: subprocess.Popen[str], fill: Callable[[ExitStack], int]
 ) -> Tuple[int, int]:
     """By how many bytes a server grows while `fill` fills it, and the count that `fill` returns.
-    The growth is below 0 if the system takes pages away meanwhile. The connections that `fill` adds
-    to its stack are closed after that, also if it raises an error. OSError if the server has
-    ended."""
+    The growth is below 0 if the system takes more pages away meanwhile. What `fill` adds to the
+    stack that it gets is closed at the end, also if it raises an error, which is raised. OSError if
+    the server has ended."""
     bytes_before = resident_bytes(server)
     with ExitStack() as opened:
         count = fill(opened)
@@ -95,8 +95,8 @@ def measure_growth(
 
 
 def add_connection_rows(programs: Programs, tally: Tally) -> None:
-    """Measures and prints the rows of idle connections: the memory of all together, and of each,
-    which has a bound. Refused or OSError if the server fails."""
+    """Measures and prints the rows of idle connections: the memory of all together, and that of
+    each, which has a bound. Refused or OSError if the server fails; no row is printed then."""
     growth, count = measure_new_server(
         programs,
         lambda address, opened: fill_with_connections(address, CONNECTIONS, opened),
@@ -108,7 +108,7 @@ def add_connection_rows(programs: Programs, tally: Tally) -> None:
 
 def add_run_rows(programs: Programs, tally: Tally) -> None:
     """Measures and prints the rows of as many runs as a server allows: the memory of all together,
-    and of each. They have no bound. Refused or OSError if the server fails."""
+    and that of each. They have no bound. Refused or OSError as add_connection_rows()."""
     growth, count = measure_new_server(
         programs,
         lambda address, opened: fill_with_runs(address, RUNS, CONNECTIONS, opened),
@@ -121,7 +121,7 @@ def add_run_rows(programs: Programs, tally: Tally) -> None:
 
 def add_journal_rows(programs: Programs, tally: Tally) -> None:
     """Measures and prints the rows of a full journal: its memory, and that of each write without
-    the bytes that it writes. They have no bound. Refused or OSError if the server fails."""
+    the bytes that it writes. They have no bound. Refused or OSError as add_connection_rows()."""
     growth, count = measure_new_server(
         programs, lambda address, opened: fill_with_writes(address, WRITES, opened), 1
     )
@@ -130,8 +130,8 @@ def add_journal_rows(programs: Programs, tally: Tally) -> None:
 
 
 def add_memory_rows(programs: Programs, tally: Tally) -> None:
-    """Measures and prints all rows of memory. If a server fails, that is a failure of the tally,
-    and the next rows are measured. The program `crashfs` must be built."""
+    """Measures and prints all rows of memory, each kind on a new server. If a server fails, that is
+    a failure of the tally, and the next rows are measured. The program `crashfs` must be built."""
     for add_rows in (add_connection_rows, add_run_rows, add_journal_rows):
         try:
             add_rows(programs, tally)

@@ -7,32 +7,32 @@ import re
 import subprocess
 from dataclasses import dataclass, field
 from pathlib import Path
-from typing import List, Optional, Sequence
+from typing import Any, List, NamedTuple, Optional, Sequence
 
 VERDICT = re.compile(r', (within|past) \(at (?:most|least) ')
 
 
 @dataclass
 class Programs:
-    """The programs of the repository at `top`."""
+    """The programs of the repository at `top`. Each call looks for them again."""
 
     top: Path
 
     def path_if_built(self, name: str) -> Optional[Path]:
-        """The path of a crate's program; None if it isn't built. The program may be older than its
-        sources."""
+        """The path of a crate's program; None if it isn't built, or may not be executed. The
+        program may be older than its sources."""
         program = self.top / 'crates' / name / 'out' / name
         return program if os.access(program, os.X_OK) else None
 
     def benchmark_names(self) -> List[str]:
-        """The names of the benchmark programs, built or not, in the order of crates.txt: crates
-        that end in `_bench` and are no library. OSError if there is no crates.txt."""
+        """The names of the benchmark programs, built or not, in the order of crates.txt: those of
+        crates that end in `_bench` and are no library. OSError if there is no crates.txt."""
         lines = (self.top / 'crates.txt').read_text().splitlines()
         crates = [words[0] for words in (line.partition(':')[0].split() for line in lines) if words]
         return [name for name in crates if name.endswith('_bench') and self.is_program(name)]
 
     def is_program(self, name: str) -> bool:
-        """Whether a crate is a program, and no library."""
+        """Whether a crate is a program, and no library; false if there is no such crate."""
         return (self.top / 'crates' / name / 'src' / 'main.rt').exists()
 
 
@@ -49,26 +49,26 @@ class Tally:
     benchmark: str = ''
 
     def begin_benchmark(self, name: str) -> None:
-        """Prints the head of a benchmark. The rows and failures that are added next are this
-        benchmark's."""
+        """Prints the head of a benchmark. Rows and failures that are added after this call, until
+        the next one, are this benchmark's."""
         self.benchmark = name
         print(f'== {name}', flush=True)
 
     def add_not_built(self, name: str, programs: Sequence[str]) -> None:
-        """Prints that a benchmark can't be run since these programs aren't built. The status
-        doesn't depend on it."""
+        """Prints that a benchmark can't be measured since these programs aren't built. This doesn't
+        change the status that print_summary() returns."""
         self.not_built.append(name)
         print(f'== {name}: not built: {", ".join(programs)}', flush=True)
 
     def add_failure(self, why: str) -> None:
-        """Prints that the benchmark whose rows are printed now has failed, and why: the status of
-        print_summary() is 1 then. A benchmark that fails twice is named twice there."""
+        """Prints that the present benchmark has failed, and why. print_summary() then returns 1,
+        and names a benchmark once for each of its failures."""
         self.failed.append(self.benchmark)
         print(f'{self.benchmark} failed: {why}', flush=True)
 
     def add_line(self, line: str) -> None:
-        """Prints a line. If it says that its figure is within or past a bound, it is counted as
-        such a row; other lines aren't counted."""
+        """Prints a line. If it is a row that says `within` or `past` of its bound, in the form of
+        the programs, it is counted as such; other lines aren't counted."""
         print(line, flush=True)
         verdict = VERDICT.search(line)
         if verdict and verdict[1] == 'past':
@@ -79,8 +79,8 @@ class Tally:
     def add_figure(
         self, label: str, figure: float, unit: str, most: Optional[float] = None
     ) -> None:
-        """Prints a figure with its unit in the form of the programs' rows. With a bound `most` it
-        also says whether the figure is within, and the row is counted."""
+        """Prints a row in the form of the programs: a figure with its unit. With a bound `most` the
+        row also says whether the figure is within it, and is counted."""
         verdict = ''
         if most is not None:
             verdict = f', {"within" if figure <= most else "past"} (at most {most:g})'
@@ -88,7 +88,7 @@ class Tally:
 
     def run_program(self, words: List[str], processors: Optional[Sequence[int]] = None) -> None:
         """Runs a program on these processors, or on all, to its end, however long it takes, and
-        adds each line that it prints. A status that isn't 0 is a failure. Errors as
+        adds each line that it prints. A status that isn't 0 is added as a failure. Errors as
         start_program()."""
         child = start_program(words, processors)
         assert child.stdout is not None
@@ -100,9 +100,9 @@ class Tally:
             self.add_failure(f'status {status}')
 
     def print_summary(self) -> int:
-        """Prints the rows that are past their bounds, and a line with all counts; returns the
-        command's status: 1 if a row is past its bound or a benchmark failed, else 0. What isn't
-        built doesn't count."""
+        """Prints the rows that are past their bounds, and a line with all counts. Returns the
+        command's status: 1 if a row is past its bound or a benchmark failed, else 0, also if
+        programs aren't built."""
         for row in self.past_rows:
             print(f'past: {row}')
         not_built = f'; not built: {", ".join(self.not_built)}' if self.not_built else ''
@@ -115,9 +115,9 @@ def start_program(
     words: List[str], processors: Optional[Sequence[int]] = None
 ) -> subprocess.Popen[str]:
     """Starts a program on these processors, or on all if none are named. Its standard output is a
-    pipe, its standard input is empty, and standard error is this process's. OSError if it can't be
-    started, SubprocessError if it may not use these processors. The caller closes the pipe and
-    waits for the program."""
+    pipe, its standard input is empty, and standard error is this process's. The caller must close
+    the pipe and wait for the program. OSError if it can't be started, SubprocessError if it may not
+    use these processors."""
 
     def set_processors() -> None:
         if processors:
@@ -130,3 +130,19 @@ def start_program(
         text=True,
         preexec_fn=set_processors,
     )
+
+
+class Usage(NamedTuple):
+    """What a program and its children used: seconds of processor time, and the most bytes of memory
+    that one of them had."""
+
+    processor_seconds: float
+    memory_bytes: int
+
+
+def wait_for_usage(child: subprocess.Popen[Any]) -> Usage:
+    """Waits for a program that was started, however long it takes, and returns what it used. Its
+    returncode is set then. ChildProcessError if somebody has waited for it before."""
+    _, status, usage = os.wait4(child.pid, 0)
+    child.returncode = os.waitstatus_to_exitcode(status)
+    return Usage(usage.ru_utime + usage.ru_stime, usage.ru_maxrss * 1024)

@@ -19,6 +19,7 @@ from crashfs_tools.common.trace import (
     Rmdir,
     Say,
     Start,
+    StartLine,
     StartSymlink,
     Symlink,
     Sync,
@@ -56,9 +57,9 @@ SYNCS = (Fsync, Fdatasync, FsyncRange, Sync)
 
 
 def draw_session(seed: int, operation_count: int) -> Trace:
-    """The session of a seed, with so many operations, 0 or more. After each sync a line is
-    acknowledged, and one at the end; these lines aren't counted. A seed gives the same session each
-    time: results and pages name sessions by it."""
+    """The session of a seed, with so many operations, 0 or more. After each sync, and at the end, a
+    line is acknowledged; these lines aren't counted. A seed always gives the same session: results
+    and pages name sessions by their seeds."""
     session = DrawnSession(seed)
     session.draw_operations(operation_count)
     return session.trace
@@ -67,45 +68,55 @@ def draw_session(seed: int, operation_count: int) -> Trace:
 class DrawnSession:
     """A session that is drawn: its start tree at first, then operation by operation. `tree` is what
     the operations so far leave. Each method that draws uses up random numbers, so the order of
-    calls decides what a seed gives."""
+    calls decides which session a seed gives."""
 
     def __init__(self, seed: int) -> None:
-        """Draws the start tree: /d and /e, perhaps /d/f and the link /e/c, and two files."""
+        """Draws the start tree."""
         self.random = random.Random(seed)
-        self.trace = Trace(Header(*ROOT, DIRECTORY_MODE), version=4)
-        for path in ('/d', '/e', *(['/d/f'] if self.is_drawn(one_in=3) else [])):
-            self.trace.start.append(Start(path, *ROOT, DIRECTORY_MODE, None))
-        for path in self.random.sample(['/a', '/b', '/d/a', '/d/b', '/e/a'], 2):
-            data = self.random.choice([b'old', b'x' * 5000])
-            self.trace.start.append(Start(path, *ROOT, FILE_MODE, data))
-        if self.is_drawn(one_in=3):
-            self.trace.start.append(StartSymlink('/e/c', *ROOT, 'a'))
+        self.trace = Trace(Header(*ROOT, DIRECTORY_MODE), self.draw_start(), version=4)
         self.tree = tree_without_start(self.trace)
         for line in self.trace.start:
             self.tree.add_start(line)
 
+    def draw_start(self) -> List[StartLine]:
+        """Draws the lines of the start tree: /d and /e, perhaps /d/f, two files, and perhaps the
+        symbolic link /e/c. `tree` isn't needed yet."""
+        directories = ['/d', '/e', *(['/d/f'] if self.is_drawn(one_in=3) else [])]
+        start: List[StartLine] = [Start(it, *ROOT, DIRECTORY_MODE, None) for it in directories]
+        for path in self.random.sample(['/a', '/b', '/d/a', '/d/b', '/e/a'], 2):
+            data = self.random.choice([b'old', b'x' * 5000])
+            start.append(Start(path, *ROOT, FILE_MODE, data))
+        if self.is_drawn(one_in=3):
+            start.append(StartSymlink('/e/c', *ROOT, 'a'))
+        return start
+
     def is_drawn(self, one_in: int) -> bool:
-        """Draws whether something is done, which is true once in so many times."""
+        """Draws whether to do something: true in one of so many draws, on average."""
         return self.random.randrange(one_in) == 0
 
     def draw_operations(self, count: int) -> None:
-        """Adds so many drawn operations, 0 or more, to the trace, with acknowledged lines as
-        draw_session() says. A draw that the tree doesn't allow, or that only renames a file to
-        another name of its own, is dropped and drawn again."""
+        """Adds so many useful operations, 0 or more, to the trace, with acknowledged lines as
+        draw_session() says. Call it once: it adds the session's last line."""
         for _ in range(count):
-            operation = None
-            while operation is None or not self.is_useful(operation):
-                kind = self.random.choices(list(KINDS), list(KINDS.values()))[0]
-                operation = getattr(self, f'draw_{kind}')()
+            operation = self.draw_useful_operation()
             self.tree.apply(operation)
             self.trace.operations.append(operation)
             if isinstance(operation, SYNCS):
                 self.trace.operations.append(Say(f'{len(self.trace.operations)}'))
         self.trace.operations.append(Say('end'))
 
+    def draw_useful_operation(self) -> Operation:
+        """Draws operations of all kinds, as often as KINDS says, until one is useful. The tree
+        stays as it is."""
+        operation: Optional[Operation] = None
+        while operation is None or not self.is_useful(operation):
+            kind = self.random.choices(list(KINDS), list(KINDS.values()))[0]
+            operation = getattr(self, f'draw_{kind}')()
+        return operation
+
     def is_useful(self, operation: Operation) -> bool:
-        """Whether the tree allows an operation, and it is no rename to another name of the same
-        file, which changes nothing."""
+        """Whether the tree allows an operation, and the operation is no rename between two names of
+        one file, which changes nothing."""
         if self.tree.fault(operation):
             return False
         if not isinstance(operation, Rename):
@@ -116,8 +127,8 @@ class DrawnSession:
     # Paths and sizes of the tree
 
     def paths_of(self, kind: str) -> List[str]:
-        """The paths of all entries of a kind, which is `dir`, `file` or `link`. The root isn't
-        among them."""
+        """The paths of all entries of a kind: `dir`, `file`, or `link` for symbolic links. The root
+        isn't among them."""
         return [
             path
             for path, entry in self.tree.entries.items()
@@ -132,14 +143,13 @@ class DrawnSession:
         return self.random.choice(paths) if paths else None
 
     def draw_new_path(self, names: str) -> str:
-        """Draws a path for a new entry: one of these names, in the root or another directory.
-        Something may have the path already."""
+        """Draws a path for a new entry: one of the letters of `names`, in the root or another
+        directory. Something may be at the path already."""
         directory = self.random.choice(['', *self.paths_of('dir')])
         return f'{directory}/{self.random.choice(names)}'
 
     def file_size(self, path: str) -> int:
-        """How many bytes the file at a path has. There must be a file, which is never sparse
-        here."""
+        """How many bytes the file at a path has. A file must be there; no file is sparse here."""
         data = self.tree.entries[path].data
         assert data is not None and not isinstance(data, SparseBytes)
         return len(data)

@@ -14,17 +14,17 @@ from .programs import Programs, start_program
 
 
 def processor_halves() -> Tuple[List[int], List[int]]:
-    """The processors for servers, then those for clients: each have half of those that this process
-    may use. Of an odd number the clients have one more; a single one is for both."""
+    """The processors for servers, then those for clients: half each of those that this process may
+    use. Of an odd number the clients have one more; a single processor is for both."""
     processors = sorted(os.sched_getaffinity(0))
     half = len(processors) // 2
     return processors[:half] or processors, processors[half:]
 
 
 def free_address() -> str:
-    """HOST:PORT on this machine, at which nobody listens. The next 253 calls, and processes whose
-    ids have other low 16 bits, use other hosts of 127.0.0.0/8: so nobody else takes the port before
-    a server does."""
+    """HOST:PORT on this machine, at which nobody listens. The host is one of 127.0.0.0/8 that the
+    next 253 calls, and processes whose ids have other low 16 bits, don't use: so nobody else takes
+    the port before a server does. OSError if no port is free."""
     process_id = os.getpid()
     host = f'127.{next(_HOSTS)}.{process_id >> 8 & 255}.{process_id & 255}'
     with socket.socket() as listener:
@@ -40,8 +40,7 @@ def running_server(words: List[str]) -> Iterator[subprocess.Popen[str]]:
     """A server, given by its command line, which runs on the processors for servers until the
     `with` ends, and is killed then. The `with` begins when the server has printed the line
     `listening ..`, however long that takes. OSError if the server can't be started, or ends or
-    prints another line first. What it prints later isn't read: the server waits once the pipe is
-    full."""
+    prints another line first. What it prints later isn't read: if the pipe is full, it waits."""
     server = start_program(words, processor_halves()[0])
     assert server.stdout is not None
     try:
@@ -79,8 +78,8 @@ def serve_words(programs: Programs, address: str, connections: int) -> List[str]
 
 
 def resident_bytes(server: subprocess.Popen[str]) -> int:
-    """How many bytes a server has in memory: VmRSS of proc(5). 0 if it has ended; OSError if it was
-    also waited for."""
+    """How many bytes a server has in memory: VmRSS of proc(5). 0 if the server has ended; OSError
+    if somebody has waited for it, too."""
     for line in Path(f'/proc/{server.pid}/status').read_text().splitlines():
         if line.startswith('VmRSS:'):
             return int(line.split()[1]) * 1024

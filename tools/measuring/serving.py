@@ -2,7 +2,8 @@
 
 from __future__ import annotations
 
-from contextlib import ExitStack
+from contextlib import ExitStack, contextmanager
+from typing import Iterator, List
 
 from .programs import Programs, Tally
 from .servers import free_address, processor_halves, running_server, serve_words
@@ -13,20 +14,30 @@ SETTINGS = [(8, 'own'), (8, 'one'), (64, 'own')]
 KEEPING = ['forgets', 'blocks', 'large']
 
 
+@contextmanager
+def running_servers(programs: Programs, addresses: List[str], clients: int) -> Iterator[None]:
+    """`crashfs serve` at the first of four addresses, and the bare servers of KEEPING at the
+    others, for so many clients each. They run until the `with` ends, and are killed then. OSError
+    as running_server()."""
+    bench = str(programs.path_if_built('serve_bench'))
+    with ExitStack() as servers:
+        servers.enter_context(running_server(serve_words(programs, addresses[0], clients)))
+        for keeping, address in zip(KEEPING, addresses[1:]):
+            servers.enter_context(running_server([bench, address, str(clients), keeping]))
+        yield
+
+
 def add_serving_rows(programs: Programs, tally: Tally) -> None:
     """Starts all four servers for each setting, and prints the rows that `serve_bench` prints of
     them. If a server doesn't listen, or a program can't be started, that is a failure of the tally,
-    and the next setting is measured. Both programs must be built."""
+    and the next setting is measured. `crashfs` and `serve_bench` must be built."""
+    bench = str(programs.path_if_built('serve_bench'))
     for clients, runs in SETTINGS:
         runs_text = 'each on a run of its own' if runs == 'own' else 'all on one run'
         tally.add_line(f'-- {clients} clients, {runs_text}')
-        bench = str(programs.path_if_built('serve_bench'))
         addresses = [free_address() for _ in range(len(KEEPING) + 1)]
         try:
-            with ExitStack() as servers:
-                servers.enter_context(running_server(serve_words(programs, addresses[0], clients)))
-                for keeping, address in zip(KEEPING, addresses[1:]):
-                    servers.enter_context(running_server([bench, address, str(clients), keeping]))
+            with running_servers(programs, addresses, clients):
                 tally.run_program([bench, *addresses, str(clients), runs], processor_halves()[1])
         except OSError as error:
             tally.add_failure(str(error))

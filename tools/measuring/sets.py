@@ -5,13 +5,12 @@ operations is an allowed set, so n files have 2^n."""
 
 from __future__ import annotations
 
-import os
 import subprocess
 import tempfile
 from pathlib import Path
 from typing import List, NamedTuple, Tuple
 
-from .programs import Programs, Tally
+from .programs import Programs, Tally, Usage, wait_for_usage
 
 HEADER = '{"trace":3,"profile":"blocks","block":4096,"owner":"cat","group":"staff","mode":"775"}'
 SAY = '{"op":"say","text":"stored"}'
@@ -19,9 +18,9 @@ CREAT = '{"op":"creat","path":"/f%d","owner":"cat","group":"staff","mode":"644"}
 
 
 class Row(NamedTuple):
-    """A start of `picks` that is measured, and the bounds of its figures. The first figure is its
-    processor time divided by `divisor`; the second is its memory divided by `divisor`, with what
-    the program takes in any case."""
+    """A command of `picks` that is measured, and the bounds of its figures. The first figure is its
+    processor time divided by `divisor`. The second is its memory divided by `divisor`: also the
+    memory that the program needs for any trace is counted."""
 
     label: str
     # How many acknowledged lines its trace has, and then how many new files.
@@ -89,51 +88,48 @@ ROWS = (
 )
 
 
-class Use(NamedTuple):
-    """What a start of the program used: processor seconds, and the most bytes of memory."""
-
-    processor_seconds: float
-    memory_bytes: int
-
-
-def trace_text(says: int, files: int) -> str:
+def independent_files_trace(says: int, files: int) -> str:
     """The text of a trace with so many acknowledged lines, and then so many new files in the
     root."""
     return '\n'.join([HEADER, *[SAY] * says, *(CREAT % number for number in range(files))]) + '\n'
 
 
-def measure_use(words: List[str], lines: int, folder: str) -> Use:
-    """Runs a command to its end, however long it takes, with its standard output in a file of the
-    folder, and returns what it used. OSError if it can't be started, if its status isn't 0, or if
-    it doesn't print so many lines."""
-    output_path = Path(folder) / 'printed'
+def measure_usage(words: List[str], lines: int, output_path: Path) -> Usage:
+    """Runs a command to its end, however long it takes, and returns what it used. Its standard
+    output replaces the file at output_path, and stays there. OSError if the command can't be
+    started, if its status isn't 0, or if it doesn't print so many lines."""
     with open(output_path, 'wb') as output:
         with subprocess.Popen(words, stdin=subprocess.DEVNULL, stdout=output) as child:
-            _, status, usage = os.wait4(child.pid, 0)
-            child.returncode = os.waitstatus_to_exitcode(status)
+            usage = wait_for_usage(child)
     with open(output_path, 'rb') as output:
         line_count = sum(1 for _ in output)
     if child.returncode != 0 or line_count != lines:
         raise OSError(f'{words[0]} printed {line_count} lines with status {child.returncode}')
-    return Use(usage.ru_utime + usage.ru_stime, usage.ru_maxrss * 1024)
+    return usage
 
 
 def add_set_rows(programs: Programs, tally: Tally, rows: Tuple[Row, ...] = ROWS) -> None:
-    """Measures and prints the rows of sets. A start that fails is a failure of the tally, and its
-    row isn't printed. The program `crashfs` must be built."""
+    """Measures and prints the rows of sets. If a command of `picks` fails, that is a failure of the
+    tally, and its row isn't printed. The program `crashfs` must be built."""
     program = str(programs.path_if_built('crashfs'))
     with tempfile.TemporaryDirectory() as folder:
         trace = Path(folder) / 'sets.trace'
         for row in rows:
-            trace.write_text(trace_text(row.says, row.files))
+            trace.write_text(independent_files_trace(row.says, row.files))
             words = [program, 'picks', '--trace', str(trace), *row.options]
             try:
-                use = measure_use(words, row.lines, folder)
+                usage = measure_usage(words, row.lines, trace.with_name('printed'))
             except OSError as error:
                 tally.add_failure(str(error))
-                continue
-            time_figure = use.processor_seconds / row.unit_seconds / row.divisor
-            tally.add_figure(row.label, time_figure, row.unit, row.most)
-            if row.most_bytes:
-                memory_figure = use.memory_bytes / row.divisor
-                tally.add_figure(f'{row.label}: memory', memory_figure, 'bytes', row.most_bytes)
+            else:
+                add_figures(row, usage, tally)
+
+
+def add_figures(row: Row, usage: Usage, tally: Tally) -> None:
+    """Prints the first figure of a row, and the second if it has one, from what its command
+    used."""
+    time_figure = usage.processor_seconds / row.unit_seconds / row.divisor
+    tally.add_figure(row.label, time_figure, row.unit, row.most)
+    if row.most_bytes:
+        memory_figure = usage.memory_bytes / row.divisor
+        tally.add_figure(f'{row.label}: memory', memory_figure, 'bytes', row.most_bytes)

@@ -14,7 +14,7 @@ import time
 from pathlib import Path
 from typing import Dict, List, NamedTuple, Optional
 
-from .programs import Programs, Tally
+from .programs import Programs, Tally, wait_for_usage
 
 SOURCE = Path(__file__).with_name('states.c')
 CHECK = Path(__file__).parents[1] / 'crashfs-check'
@@ -29,7 +29,7 @@ MOST, MOST_MILLISECONDS, RUNS = 1.5, 1.0, 3
 
 class Times(NamedTuple):
     """The times of a command that tried states: how many states there were and how many it tried,
-    the processor time of it and its children, and the time that passed."""
+    the processor time of the command and its children, and the time that passed."""
 
     state_count: int
     tried_count: int
@@ -37,29 +37,29 @@ class Times(NamedTuple):
     wall_seconds: float
 
 
-def measure_times(
-    words: List[str], tried_count: int = 0, environment: Optional[Dict[str, str]] = None
-) -> Times:
-    """Runs a command that tries states, and returns its times. It prints how many states there are
-    and how many it tried; if it prints neither, both are `tried_count`. Waits without limit.
-    OSError if it can't be started, if its status isn't 0, or if it prints no numbers and
-    `tried_count` is 0."""
+class TimedCommand(NamedTuple):
+    """A command that has ended: what it printed on standard output, the processor time of it and
+    its children, and the time that passed."""
+
+    printed: str
+    processor_seconds: float
+    wall_seconds: float
+
+
+def time_command(words: List[str], environment: Optional[Dict[str, str]] = None) -> TimedCommand:
+    """Runs a command to its end, however long it takes, in this environment, or in that of this
+    process if it is None. OSError if the command can't be started, or if its status isn't 0."""
     began = time.monotonic()
     with subprocess.Popen(
         words, stdout=subprocess.PIPE, stdin=subprocess.DEVNULL, text=True, env=environment
     ) as child:
         assert child.stdout is not None
         printed = child.stdout.read()
-        _, status, usage = os.wait4(child.pid, 0)
-        child.returncode = os.waitstatus_to_exitcode(status)
+        usage = wait_for_usage(child)
     wall_seconds = time.monotonic() - began
-    printed_counts = TRIED.search(printed)
-    if child.returncode != 0 or not (tried_count or printed_counts):
+    if child.returncode != 0:
         raise OSError(f'{words[0]} ended with status {child.returncode}: {printed[-200:]}')
-    counts = [tried_count, tried_count]
-    if printed_counts:
-        counts = [int(count.replace(',', '')) for count in printed_counts.groups()]
-    return Times(counts[0], counts[1], usage.ru_utime + usage.ru_stime, wall_seconds)
+    return TimedCommand(printed, usage.processor_seconds, wall_seconds)
 
 
 class Checks:
@@ -77,12 +77,17 @@ class Checks:
     def measure_check(self, *options: str) -> Times:
         """The times of one check with these options. It tries prefixes and holes (`--families`), or
         only prefixes if `--prefixes` is among the options, so that figures can be compared with
-        those of earlier versions. OSError if a state fails, or the check does."""
+        those of earlier versions. OSError if the check fails, or finds a state that fails."""
         # -S leaves out what this machine's Python loads by itself.
         program = [sys.executable, '-S', str(CHECK), '--crashfs', self.program]
         families = [] if '--prefixes' in options else ['--families']
         words = [*program, *families, *options, str(TRACE), '--', '/bin/true']
-        return measure_times(words, environment=self.environment)
+        command = time_command(words, self.environment)
+        counts = TRIED.search(command.printed)
+        if counts is None:
+            raise OSError(f'{words[0]} ended with status 0: {command.printed[-200:]}')
+        state_count, tried_count = (int(count.replace(',', '')) for count in counts.groups())
+        return Times(state_count, tried_count, command.processor_seconds, command.wall_seconds)
 
     def least_times(self, *options: str) -> Times:
         """The least processor time and the least wall time of RUNS checks with these options: they
@@ -96,34 +101,64 @@ class Checks:
 
 
 def measure_c_program(folder: str, state_count: int) -> Times:
-    """The times of the C program for so many states. It is compiled in the folder, and works there.
-    CalledProcessError if it can't be compiled, OSError if there is no cc, or if the program
-    fails."""
+    """The times of the C program for so many states, all of which it tries. It is compiled in the
+    folder, and works there. CalledProcessError if it can't be compiled, OSError if there is no cc,
+    or if the program fails."""
     program = os.path.join(folder, 'states')
     subprocess.run(['cc', '-O2', '-o', program, str(SOURCE)], check=True)
-    return measure_times([program, folder, str(state_count), '/bin/true', *SIZES], state_count)
+    command = time_command([program, folder, str(state_count), '/bin/true', *SIZES])
+    return Times(state_count, state_count, command.processor_seconds, command.wall_seconds)
+
+
+class AllTimes(NamedTuple):
+    """The times of a check by all processors, of a short one that tries only prefixes, of a check
+    by one job, and of the C program."""
+
+    check: Times
+    short_check: Times
+    one_job_check: Times
+    c_program: Times
+
+
+def measure_all_times(programs: Programs) -> AllTimes:
+    """Measures everything that the rows of states need, in a folder that is removed at the end.
+    OSError or CalledProcessError if a program is missing or fails."""
+    with tempfile.TemporaryDirectory() as folder:
+        checks = Checks(programs, folder)
+        check, short_check = checks.least_times(), checks.least_times('--prefixes')
+        one_job_check = checks.measure_check('--jobs', '1')
+        c_program = measure_c_program(folder, check.tried_count)
+        return AllTimes(check, short_check, one_job_check, c_program)
 
 
 def add_state_rows(programs: Programs, tally: Tally) -> None:
     """Measures and prints the rows of states. If a program is missing or fails, that is a failure
-    of the tally, and no row is printed. A state's time is that by which a check of more states
-    takes longer, so that a check's beginning and end aren't counted."""
+    of the tally, and no row is printed."""
     if shutil.which('cc') is None:
         tally.add_failure('there is no cc')
         return
     try:
-        with tempfile.TemporaryDirectory() as folder:
-            checks = Checks(programs, folder)
-            check, short_check = checks.least_times(), checks.least_times('--prefixes')
-            one_job_check = checks.measure_check('--jobs', '1')
-            c_program = measure_c_program(folder, check.tried_count)
+        times = measure_all_times(programs)
     except (OSError, subprocess.CalledProcessError) as error:
         tally.add_failure(str(error))
         return
-    tally.add_line(rate_line(check, len(os.sched_getaffinity(0))))
-    tally.add_line(rate_line(one_job_check, 1))
-    c_program_rate = c_program.tried_count / c_program.wall_seconds
+    add_rate_lines(times, tally)
+    add_time_rows(times, tally)
+
+
+def add_rate_lines(times: AllTimes, tally: Tally) -> None:
+    """Prints how many states both checks and the C program tried in a second."""
+    tally.add_line(rate_line(times.check, len(os.sched_getaffinity(0))))
+    tally.add_line(rate_line(times.one_job_check, 1))
+    c_program_rate = times.c_program.tried_count / times.c_program.wall_seconds
     tally.add_line(f'the C program by one: {c_program_rate:.0f} a second')
+
+
+def add_time_rows(times: AllTimes, tally: Tally) -> None:
+    """Prints how long a state takes, with the rows that have bounds. A state's processor time is
+    that by which a check of more states takes longer, so that a check's beginning and end aren't
+    counted."""
+    check, short_check, _, c_program = times
     more_seconds = check.processor_seconds - short_check.processor_seconds
     state_seconds = more_seconds / (check.tried_count - short_check.tried_count)
     c_program_seconds = c_program.processor_seconds / c_program.tried_count

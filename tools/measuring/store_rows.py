@@ -32,18 +32,18 @@ class ResultsFile:
         self.path = path
 
     def read_rows(self) -> List[Row]:
-        """The rows of the file, in its order; an empty list if there is no file. ValueError if it
-        is no JSON, OSError if it can't be read."""
+        """The rows of the file, in its order; none if there is no file. ValueError if the file is
+        no JSON, OSError if it can't be read."""
         if not self.path.exists():
             return []
         rows: List[Row] = json.loads(self.path.read_text('utf-8'))
         return rows
 
     def put_row(self, row: Row) -> None:
-        """Puts a row into the file, in the place of the one with its key. Rows are in the order of
-        stores.json; those that it doesn't have are kept, and come last. The file is written in
-        place: an error meanwhile may leave a part of it. A row that another process puts at the
-        same time may be lost. Errors as read_rows(), before anything is written."""
+        """Puts a row into the file, instead of a row with its key. Rows are in the order of
+        stores.json; rows of other sessions are kept, and come last. Errors as read_rows() and
+        session_keys(), before anything is written; an OSError of the write may leave a part of the
+        file. A row that another process puts at the same time may be lost."""
         rows = {old_row['key']: old_row for old_row in self.read_rows()}
         rows[row['key']] = row
         key_order = {key: number for number, key in enumerate(session_keys())}
@@ -52,18 +52,23 @@ class ResultsFile:
         self.path.write_text(f'[\n{lines}\n]\n', 'utf-8')
 
 
+def read_stores() -> List[Dict[str, Any]]:
+    """The objects of stores.json, one for each store. OSError if there is no such file."""
+    stores: List[Dict[str, Any]] = json.loads((STORES / 'stores.json').read_text('utf-8'))
+    return stores
+
+
 def session_keys() -> List[str]:
-    """The keys FOLDER/SESSION of all sessions of stores.json, in its order. OSError if there is no
-    such file."""
-    stores = json.loads((STORES / 'stores.json').read_text('utf-8'))
-    return [f'{store["folder"]}/{name}' for store in stores for name in store['sessions']]
+    """The keys FOLDER/SESSION of all sessions of stores.json, in its order. OSError as
+    read_stores()."""
+    return [f'{store["folder"]}/{name}' for store in read_stores() for name in store['sessions']]
 
 
 def row_of_check(store: Dict[str, Any], key: str, json_path: str, report: str) -> Row:
-    """The row of a session, except its version: from the store's object of stores.json, the file
-    that the check wrote for --json, and the text of its report. States that fail are counted, not
-    the sets that leave them; states without an answer count only as tried. ValueError if the report
-    is empty, Refused as read_json(), KeyError if the store has no session with this key."""
+    """The row of a session, with an empty version: from the store's object of stores.json, the file
+    that the check wrote for --json, and the text of its report. Failing states are counted, not the
+    sets that leave them; states without an answer count only as tried. ValueError if the report is
+    empty, Refused as read_json(), KeyError if the store has no session with this key."""
     first_line, *lines = [line for line in report.splitlines() if not line.startswith('unproved: ')]
     windows = read_json(json_path).windows
     outcomes = [outcome for window in windows for outcome in window.outcomes.values()]
@@ -81,30 +86,30 @@ def row_of_check(store: Dict[str, Any], key: str, json_path: str, report: str) -
 
 
 def set_count(windows: List[Results]) -> Optional[int]:
-    """How many sets the rules allow, from the results of all windows of a check. None if they were
-    not counted, or too many, or if there are several windows: their sets can't be added."""
+    """How many sets the rules allow, from the results of all windows of a check. None if the sets
+    were not counted, or were too many to count, or if there are several windows: the counts of
+    windows can't be added."""
     all_states = windows[0].plan.all_states if len(windows) == 1 else None
     return all_states.sets if all_states else None
 
 
 def failing_by_profile(windows: List[Results]) -> Dict[str, int]:
-    """How many failing states each profile of the trace allows, by its name; 0 for one that allows
-    none. A state counts for each profile that allows it; of equal states only the one that was
-    tried counts."""
-    counts: Counts[str] = Counter()
-    for window in windows:
-        counts.update({name: 0 for name in window.plan.profiles.names})
-        for state in window.plan.states:
-            outcome = window.outcomes.get(state.number)
-            if outcome is not None and outcome.result == BAD:
-                counts.update(window.plan.profile_names_of(state))
+    """How many failing states each profile of the trace allows, by its name; 0 for a profile that
+    allows none. A state counts for each profile that allows it; of equal states only the one that
+    was tried counts."""
+    names = (name for window in windows for name in window.plan.profiles.names)
+    counts: Counts[str] = Counter(dict.fromkeys(names, 0))
+    for window, state in ((window, state) for window in windows for state in window.plan.states):
+        outcome = window.outcomes.get(state.number)
+        if outcome is not None and outcome.result == BAD:
+            counts.update(window.plan.profile_names_of(state))
     return dict(counts)
 
 
 def disk_counts(report: Dict[str, Any]) -> Dict[str, Any]:
     """What a check's report in JSON says of disks, by file system: how many different trees crashes
     left (trees), in how many of these the recovery fails (failing), and how many of the failing
-    ones no crash state has (outside). Empty if the check was made without --disks."""
+    trees no crash state has (outside). Empty if the check was made without --disks."""
     disks = report.get('disks')
     if not disks:
         return {}

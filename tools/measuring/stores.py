@@ -20,7 +20,7 @@ from typing import Any, Dict, List, NamedTuple
 
 from crashfs_tools.common.signals import Stopped, raise_on_stop_signals
 
-from .store_rows import STORES, TOP, ResultsFile, disk_counts, row_of_check
+from .store_rows import STORES, TOP, ResultsFile, disk_counts, read_stores, row_of_check
 
 TOOLS = TOP / 'tools'
 # Sessions of at most so many operations are made again on disks.
@@ -57,16 +57,16 @@ class Session(NamedTuple):
         return self.path / f'{self.name}.trace'
 
     def missing_packages(self) -> List[str]:
-        """The Debian packages that its scripts need and that aren't installed: that of the store,
-        and those in `needs`. OSError if there is no dpkg-query."""
+        """The Debian packages that aren't installed, of those that the session's scripts need: the
+        store's package, and those in its `needs`. OSError if there is no dpkg-query."""
         needed = (self.store['package'], *self.store.get('needs', []))
         return [package for package in needed if not installed_version(package)]
 
 
 def parse_words(words: List[str]) -> argparse.Namespace:
-    """The options of the words after `measure stores`; wrong ones, and a name that no session and
-    no folder has, end the program with status 2. What is only passed on to checks isn't looked at.
-    OSError if there is no stores.json."""
+    """The options that the words after `measure stores` give. Wrong ones, and a name that no
+    session and no folder has, end the program with status 2. The values of --disks and --time-limit
+    are only passed to checks, which may refuse them. OSError if there is no stores.json."""
     parser = argparse.ArgumentParser(
         prog='measure stores',
         description=__doc__,
@@ -86,11 +86,12 @@ def parse_words(words: List[str]) -> argparse.Namespace:
 
 def find_sessions(names: List[str]) -> List[Session]:
     """The sessions of stores.json whose folder or key is among the names, in the order of the file;
-    all if there are no names. A name that no session has is ignored. OSError if there is no such
-    file."""
-    stores = json.loads((STORES / 'stores.json').read_text('utf-8'))
+    all sessions if there are no names. A name that no session has is ignored. OSError as
+    read_stores()."""
     sessions = [
-        Session(store['folder'], name, store) for store in stores for name in store['sessions']
+        Session(store['folder'], name, store)
+        for store in read_stores()
+        for name in store['sessions']
     ]
     if not names:
         return sessions
@@ -99,8 +100,8 @@ def find_sessions(names: List[str]) -> List[Session]:
 
 def installed_version(package: str) -> str:
     """The version of a Debian package, without what Debian adds: `1.23` for `1:1.23-4` or
-    `1.23+dfsg1-4`. If it is installed for several architectures, the first version that dpkg-query
-    prints. Empty if it isn't installed; OSError if there is no dpkg-query."""
+    `1.23+dfsg1-4`. If the package is installed for several architectures, the first version that
+    dpkg-query prints. Empty if it isn't installed; OSError if there is no dpkg-query."""
     words = ['dpkg-query', '-W', '-f', '${Status} ${Version}\n', package]
     process = subprocess.run(words, stdout=subprocess.PIPE, stderr=subprocess.DEVNULL, check=False)
     for line in process.stdout.decode().splitlines():
@@ -111,8 +112,9 @@ def installed_version(package: str) -> str:
 
 
 class SessionCheck:
-    """Checks a session once, with the options of parse_words(). `folder` must be empty at first:
-    the session's trace and report are made there, and stay. Nothing is done before make_row()."""
+    """Checks a session once, with the options of parse_words(). make_row() does it all: the
+    session's trace and report are made in `folder`, which must be empty at first, and stay there.
+    """
 
     def __init__(self, session: Session, options: argparse.Namespace, folder: Path) -> None:
         self.session = session
@@ -121,10 +123,10 @@ class SessionCheck:
         self.json = folder / 'report.json'
 
     def make_row(self) -> Dict[str, Any]:
-        """Makes the session's trace, checks it, and returns its row, with the version of its
-        package. Waits for the scripts without limit, and ignores their status. NoResult if a
-        package is missing, or if there is no trace or no report. OSError if dpkg-query or a script
-        isn't there; errors as row_of_check()."""
+        """Makes the session's trace, checks it, and returns the session's row, with the version of
+        the store's package. Waits for the scripts without limit, and ignores their status. NoResult
+        if a package is missing, or if no trace or no report is made. OSError if dpkg-query or a
+        script isn't there; errors as row_of_check()."""
         missing = self.session.missing_packages()
         if missing:
             raise NoResult(f'not installed: {", ".join(missing)}')
@@ -140,9 +142,9 @@ class SessionCheck:
         return {**row, 'version': installed_version(self.session.store['package'])}
 
     def make_trace(self) -> None:
-        """Puts the trace into the folder: a copy of the committed one, or, if there is none or
-        --record is given, one that record.sh makes, however long that takes. NoResult if record.sh
-        makes none, OSError if it can't be started."""
+        """Puts the session's trace into the folder: a copy of the committed trace, or, if there is
+        none or --record is given, what record.sh makes, however long that takes. NoResult if
+        record.sh makes no trace, OSError if it can't be started."""
         if self.session.trace.exists() and not self.options.record:
             self.trace.write_bytes(self.session.trace.read_bytes())
             return
@@ -152,8 +154,8 @@ class SessionCheck:
 
     def run_check(self, *options: str) -> str:
         """Checks the session with these options and those of all checks, and returns the text of
-        the report. The file of --json is replaced. NoResult if the check wrote no such file,
-        whatever its status is. OSError if crashfs-check can't be started."""
+        the report. The file of --json is replaced. NoResult if the check wrote no such file; its
+        status doesn't matter. OSError if crashfs-check can't be started. The trace must be made."""
         words = [str(TOOLS / 'crashfs-check'), '--jobs', str(self.options.jobs), *MORE_OPTIONS]
         words += ['--json', str(self.json), '--timeout', '60', *options, str(self.trace), '--']
         self.json.unlink(missing_ok=True)
@@ -163,34 +165,36 @@ class SessionCheck:
         return report
 
     def limit_options(self) -> List[str]:
-        """The option of a check with a time limit, with its value; empty if no limit is given."""
+        """The option of crashfs-check for a time limit, with its value; empty if --time-limit isn't
+        given."""
         return ['--time-limit', self.options.time_limit] if self.options.time_limit else []
 
     def disk_options(self) -> List[str]:
-        """The option of a check on disks, with its value; empty if none are given, or if the
-        session is too long to be made again for each crash. OSError as has_few_operations()."""
+        """The option of crashfs-check for disks, with its value; empty if --disks isn't given, or
+        if the session is too long to be made again for each crash. OSError as has_few_operations().
+        """
         may_try_disks = self.options.disks and self.has_few_operations()
         return ['--disks', self.options.disks] if may_try_disks else []
 
     def has_few_operations(self) -> bool:
         """Whether the trace has MOST_OPERATIONS operations at most; acknowledged lines count as
-        operations. OSError if make_trace() wasn't called."""
+        operations. OSError if make_trace() hasn't made the trace."""
         text = self.trace.read_bytes()
         return text.count(b'\n{"op":') <= MOST_OPERATIONS
 
 
 def run_command(words: List[str]) -> str:
     """Runs a command to its end, however long it takes, and returns what it printed on standard
-    output. Its status doesn't matter, since callers look for the files that it makes. OSError if it
-    can't be started."""
+    output. Its status is ignored: callers look for the files that it makes. OSError if it can't be
+    started."""
     process = subprocess.run(words, stdin=subprocess.DEVNULL, stdout=subprocess.PIPE, check=False)
     return process.stdout.decode('utf-8', 'replace')
 
 
 def save_row(session: Session, options: argparse.Namespace) -> bool:
-    """Makes the row of a session, puts it into docs/results.json, and prints the first line of its
-    report; returns whether there is a row. If there is none (NoResult), it prints why. Then the
-    file keeps the session's earlier row, as it does after any other error, which is raised."""
+    """Makes the row of a session, puts it into docs/results.json, prints the first line of its
+    report, and returns true; or, if there is no row (NoResult), prints why and returns false. Then,
+    and after any other error, which is raised, the file keeps the session's earlier row."""
     try:
         with tempfile.TemporaryDirectory(prefix='measure-stores-') as folder:
             row = SessionCheck(session, options, Path(folder)).make_row()

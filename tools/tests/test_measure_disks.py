@@ -12,6 +12,7 @@ from pathlib import Path
 from typing import List
 
 from crashfs_tools.checker.findings.read_trees import entries_of
+from crashfs_tools.checker.states.steps import trace_text
 from crashfs_tools.common.entry import Entries
 from crashfs_tools.common.trace import KINDS, Chmod, Chown, Trace
 from crashfs_tools.disks.disk import Crash, Disk, digest_of
@@ -28,7 +29,6 @@ from measuring.disk_sessions import (
     SessionResult,
     session_result,
     table_lines,
-    trace_text,
 )
 from measuring.disks import Measurement, parse_words
 from measuring.random_sessions import draw_session
