@@ -165,6 +165,17 @@ class Copies(InFolder):
             mapped.make_last_copy(2)
         self.assertEqual(mapped.file_copies.copies[0].bytes_by_number, {0: b'old'})
 
+    def test_a_copy_that_fails_leaves_the_newest_bytes(self):
+        mapped = MappedFiles(self.folder, lambda path: False)
+        for line_number, name in enumerate(('a', 'b')):
+            path = self.write(name, name)
+            mapped.hold_open(os.open(path, os.O_RDONLY), line_number)
+        os.close(mapped.descriptors[1])
+        with self.assertRaises(OSError):
+            mapped.copy_changed_files(2, 1, is_alone=True)
+        os.close(mapped.descriptors[0])
+        self.assertEqual((mapped.newest_bytes, mapped.file_copies.copies), ({}, []))
+
     def test_a_copy_that_fails_is_raised_at_the_end_and_command_continues(self):
         mapped = mock.Mock()
         mapped.copy_changed_files.side_effect = OSError(5, 'Input/output error', 'f')
