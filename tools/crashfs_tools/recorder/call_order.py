@@ -86,8 +86,8 @@ def calls_in_order(calls: List[Call]) -> List[Tuple[int, Call]]:
     for sync in calls:
         if sync.name in FILE_SYNCS or sync.name in WHOLE_SYNCS:
             order_sync_and_changes(sync, changes.changes_during(sync), moments)
-    ordered = sorted(calls, key=lambda call: moments[id(call)])
-    return [(moments[id(call)][0], call) for call in ordered]
+    ordered_calls = sorted(calls, key=lambda call: moments[id(call)])
+    return [(moments[id(call)][0], call) for call in ordered_calls]
 
 
 def is_change(call: Call) -> bool:
@@ -152,17 +152,23 @@ def synced_path(sync: Call) -> Optional[str]:
 
 
 def changed_paths(change: Call) -> Optional[Set[str]]:
-    """The paths of the files whose syncs cover a change: that of a descriptor's file, or those of
-    each name and its directory. Symbolic links in them aren't followed. None if not all paths are
-    known; empty if the change is of no file, as a write to a pipe. LogError if a path isn't as
-    strace writes it."""
+    """The paths of the files whose syncs cover a change: that of a descriptor's file, or those that
+    paths_in_arguments() returns. None if not all paths are known; empty if the change is of no
+    file, as a write to a pipe. LogError if a path isn't as strace writes it."""
     if change.name in DESCRIPTOR_CHANGES:
         path = change.descriptor(TARGET_INDEXES.get(change.name, 0)).path
         return set() if path is None else {path}
-    paths: Set[str] = set()
-    base: Optional[str] = None
     # After its path, a setxattr has strings that are no paths.
     words = change.arguments[:1] if change.name in LIST_CHANGES else change.arguments
+    return paths_in_arguments(words)
+
+
+def paths_in_arguments(words: List[str]) -> Optional[Set[str]]:
+    """The path in each string argument, and that of its directory; symbolic links aren't followed.
+    A relative path begins at the path that strace shows for a descriptor before it. None if strace
+    shows no such path, or cut the string. LogError if a path isn't as strace writes it."""
+    paths: Set[str] = set()
+    base: Optional[str] = None
     for word in words:
         shown_path = arguments.parse_descriptor(word).path
         if shown_path is not None:
