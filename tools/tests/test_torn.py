@@ -3,7 +3,7 @@
 import unittest
 
 from crashfs_tools.checker.findings.advice import torn_advice
-from crashfs_tools.checker.findings.torn import kept_part
+from crashfs_tools.checker.findings.torn import kept_part_text
 from crashfs_tools.checker.states.read_plan import read_plan
 from crashfs_tools.common.trace_lines import TraceLine
 
@@ -29,12 +29,13 @@ class KeptPart(unittest.TestCase):
             ([0, 2, 3, 4, 5], 'its bytes, not its length'),
         ]:
             kept = sum(1 << place for place in places)
-            self.assertEqual(kept_part(plan, kept, 3), wanted)
+            self.assertEqual(kept_part_text(plan, kept, 3), wanted)
 
     def test_a_file_that_is_overwritten_keeps_old_bytes(self):
         plan = self.plan(write('/f', 'x' * 8192), write('/f', 'y' * 4096, 2048))
         self.assertEqual(
-            kept_part(plan, 0b011111, 4), 'bytes 0 to 2,047 of its 4,096, not bytes 2,048 to 4,095'
+            kept_part_text(plan, 0b011111, 4),
+            'bytes 0 to 2,047 of its 4,096, not bytes 2,048 to 4,095',
         )
 
     def test_in_version_4_a_file_may_grow_in_part(self):
@@ -52,16 +53,16 @@ class KeptPart(unittest.TestCase):
             ([3, 4], 'its length, not its bytes (zeros)'),
         ]:
             kept = sum(1 << place for place in [0, 1, 2, *places])
-            self.assertEqual(kept_part(plan, kept, 4), wanted)
+            self.assertEqual(kept_part_text(plan, kept, 4), wanted)
 
     def test_in_version_4_a_truncate_and_a_rename_have_parts(self):
         cut = line('truncate', '/f', length=100)
         plan = self.plan(write('/f', 'x' * 9000), cut, version=4)
         zeros = 'the zeros after its new end'
-        self.assertEqual(kept_part(plan, 0b0111111, 4), f'{zeros}, not its length')
-        self.assertEqual(kept_part(plan, 0b1011111, 4), f'its length, not {zeros}')
+        self.assertEqual(kept_part_text(plan, 0b0111111, 4), f'{zeros}, not its length')
+        self.assertEqual(kept_part_text(plan, 0b1011111, 4), f'its length, not {zeros}')
         plan = self.plan(line('mkdir', '/d'), rename('/f', '/d/f'), version=4)
-        self.assertEqual(kept_part(plan, 0b0111, 4), 'both names')
+        self.assertEqual(kept_part_text(plan, 0b0111, 4), 'both names')
         self.assertEqual(
             torn_advice(TraceLine(4, 'rename', '/f', '/d/f'), 'both names').lines(),
             [

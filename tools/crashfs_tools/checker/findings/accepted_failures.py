@@ -24,8 +24,8 @@ class AcceptedFailure(NamedTuple):
 
     @property
     def key(self) -> Tuple[str, str, str]:
-        """Equal for entries whose cause and operations differ only in numbers and random parts. The
-        reason and the last day don't count."""
+        """A key that is equal for entries whose causes and operations differ only in numbers and
+        random parts. The reason and the last day don't count."""
         return without_numbers(self.cause), without_numbers(self.lost), without_numbers(self.kept)
 
     @property
@@ -36,8 +36,8 @@ class AcceptedFailure(NamedTuple):
 
     @property
     def name(self) -> str:
-        """The cause as a report names the entry, with the operations in parentheses unless it has
-        none."""
+        """The name of the entry in a report: its cause, with its operations in parentheses if it
+        has any."""
         operations = ', then '.join(filter(None, (self.lost, self.kept)))
         return f'{self.cause} ({operations})' if operations else self.cause
 
@@ -53,8 +53,8 @@ class AcceptedFailures:
     @staticmethod
     def read(path: str) -> AcceptedFailures:
         """Reads the entries of a file; their last days are compared with the local date of this
-        call. Refused if the file can't be read, or isn't a JSON list of entries in UTF-8, as
-        parse_entry() has them; the list may be empty."""
+        call. The file is a JSON list in UTF-8, maybe empty, of entries that parse_entry() accepts:
+        Refused if it is another one, or can't be read."""
         try:
             with open(path, encoding='utf-8') as file:
                 values = json.load(file)
@@ -84,9 +84,10 @@ class AcceptedFailures:
 
 
 def parse_entry(path: str, place: int, value: Any) -> AcceptedFailure:
-    """The entry that a JSON value says, at a place of a file that is counted from 1. Refused if the
-    value is no object of texts, has an unknown key, lacks its `cause` or `why` or has an empty one,
-    or has an `until` that is no date. A missing `lost`, `kept` or `until` is empty."""
+    """The entry that a JSON value has. Refused, in a line with the file's path and the value's
+    place there, if the value is no object of texts, has an unknown key, lacks `cause` or `why`, or
+    has an empty one, or an `until` that is no date. A missing `lost`, `kept` or `until` counts as
+    empty."""
     name = f'--accept {path}: entry {place}'
     if not isinstance(value, dict) or not all(isinstance(text, str) for text in value.values()):
         raise Refused(f'{name} is no object of texts')
@@ -121,8 +122,8 @@ def parse_date(name: str, text: str) -> Optional[datetime.date]:
 
 
 def operation_text(line: Optional[TraceLine]) -> str:
-    """A line of the trace without its number and details, such as `rename /new to /old`; only `say`
-    for an acknowledged line. An empty text for None."""
+    """The operation of a line of the trace in words, without the line's number and details, such as
+    `rename /new to /old`; only `say` for an acknowledged line. An empty text for None."""
     if line is None:
         return ''
     target = f'to {line.target}' if line.target else ''

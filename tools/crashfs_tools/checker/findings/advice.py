@@ -74,8 +74,8 @@ class AdviceResult:
         return self.after < self.before
 
     def text(self, sync_count: int) -> str:
-        """A sentence on an advice of so many syncs, which must be helpful: how many of the group's
-        states are left, and how many others fail."""
+        """A sentence on a helpful advice of so many syncs: how many of the group's states are left,
+        and how many other states fail."""
         syncs = 'that sync' if sync_count == 1 else f'those {sync_count:,} syncs'
         line = f'tried: with {syncs} {self.states_left_text}'
         if self.states_left:

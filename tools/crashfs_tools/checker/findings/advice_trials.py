@@ -32,8 +32,8 @@ SyncPoints = FrozenSet[Tuple[int, str]]
 
 
 class SyncedCopy(NamedTuple):
-    """A copy of the trace with some syncs: its plan, and the keys of its states, which are empty if
-    not all crash states are listed."""
+    """A copy of the trace with some syncs: its plan, and the keys of its states by
+    AdviceTrials.state_key(), which are empty if not all crash states are listed."""
 
     planned: PlannedTrace
     state_keys: Set[object]
@@ -102,8 +102,8 @@ class AdviceTrials:
         )
 
     def state_key(self, kept_set: int) -> object:
-        """A key for what an allowed set leaves. Equal states have equal keys if all crash states
-        are listed; else equal sets have, since what an unlisted set leaves isn't known."""
+        """A key for what an allowed set leaves. If all crash states are listed, equal states have
+        equal keys; else only equal sets have, since what an unlisted set leaves isn't known."""
         if self.listed_sets is None:
             return kept_set
         return self.listed_sets.tree_and_says(kept_set)
@@ -134,7 +134,8 @@ class AdviceTrials:
 
     def make_copy(self, points: SyncPoints) -> SyncedCopy:
         """Writes a copy of the trace that has these syncs, as write_copy() does, and plans it.
-        Refused if the program refuses the copy."""
+        Refused if the program refuses the copy; other exceptions as in write_copy() and
+        Planner.plan()."""
         says = self.trials.planned.offsets.says
         planned = self.planner.plan(self.write_copy(points), Offsets(says=says))
         if self.listed_sets is None:
@@ -182,25 +183,26 @@ class AdviceTrials:
         )
 
     def try_states(self, planned: PlannedTrace) -> None:
-        """Tries those states of the last copy, by its plan, whose outcomes aren't known. Then
-        `outcomes` has the outcomes of the copy's sets, but for those that --fail-fast left untried.
-        After an exception, as of Trials.try_states(), it is as before."""
+        """Tries the states of the last copy, of which this is the plan, whose outcomes aren't
+        known. Afterwards `outcomes` has the outcomes of the copy's sets, but for those that
+        --fail-fast left untried. After an exception, as of Trials.try_states(), nothing is added.
+        """
         plan = planned.plan
-        outcomes = self.known_outcomes(plan)
+        by_trial = self.known_outcomes(plan)
         numbers = Results(plan).own_numbers.items()
-        new_trials = {number: trial for trial, number in numbers if trial not in outcomes}
+        new_trials = {number: trial for trial, number in numbers if trial not in by_trial}
 
         def on_outcome(number: int, outcome: Outcome) -> None:
-            outcomes[new_trials[number]] = outcome
+            by_trial[new_trials[number]] = outcome
 
         Trials(self.trials.workplace, planned).try_states([set(new_trials)], on_outcome)
         for state in plan.states:
-            if state.trial in outcomes:
-                self.outcomes.setdefault(plan.kept[state.number], outcomes[state.trial])
+            if state.trial in by_trial:
+                self.outcomes.setdefault(plan.kept[state.number], by_trial[state.trial])
 
     def known_outcomes(self, plan: Plan) -> Dict[Trial, Outcome]:
-        """The outcomes of those trials of a copy's plan of which one is known, by outcome_of_set(),
-        for a set. Of several known ones that of the last set counts."""
+        """The outcomes of those trials of a copy's plan of which outcome_of_set() knows the outcome
+        of a set. If it knows several, that of the last set counts."""
         outcomes: Dict[Trial, Outcome] = {}
         for state in plan.states:
             outcome = outcome_of_set(plan.kept[state.number], self.outcomes, self.equal_sets)

@@ -26,7 +26,7 @@ from .advice import (
 from .accepted_failures import AcceptedFailure, operation_text
 from .pairs import Loss, Pair, Pairs
 from .sync_points import LinePairs, never_synced_directory
-from .torn import kept_part
+from .torn import kept_part_text
 
 
 class Difference(NamedTuple):
@@ -84,19 +84,19 @@ class Group:
 
     @property
     def count(self) -> int:
-        """How many different states of the group were tried in its windows; 1 if the windows before
-        tried them all."""
+        """How many different states of the group were tried in its windows, at least 1: the windows
+        before may have tried them all."""
         return max(1, len(self.tried_states))
 
     @property
     def as_accepted(self) -> AcceptedFailure:
-        """The group as a file of accepted failures names it, without a reason."""
+        """The group as an entry of a file of accepted failures, with an empty reason."""
         lost, kept = operation_text(self.lost_line), operation_text(self.kept_line)
         return AcceptedFailure(self.cause, lost, kept, '')
 
     @property
     def is_reproducible(self) -> bool:
-        """Whether the example failed again, or was run only once."""
+        """Whether the example failed again in its second run, or had none."""
         return self.rerun_outcome is None or self.rerun_outcome.result != GOOD
 
     @property
@@ -122,24 +122,21 @@ class Group:
 
     @property
     def key(self) -> Tuple[object, ...]:
-        """Equal for groups that are one entry of a report. It has the cause without numbers, the
-        result, the statements of the two lines, and whether a line is torn or the failure needs no
-        loss; if the example isn't reproducible, only the cause and the result."""
-        kinds = [line.statement if line else '' for line in (self.kept_line, self.lost_line)]
+        """A key that is equal for groups that are one entry of a report. It has the cause without
+        numbers and the result; if the example is reproducible, also whether a line is torn, whether
+        the failure needs no loss, and the statements of the two lines."""
+        cause_and_result = without_numbers(self.cause), self.outcome.result
         if not self.is_reproducible:
-            return without_numbers(self.cause), self.outcome.result
-        return (
-            without_numbers(self.cause),
-            self.outcome.result,
-            self.is_torn,
-            self.has_no_loss,
-            *kinds,
-        )
+            return cause_and_result
+        lines = (self.kept_line, self.lost_line)
+        statements = [line.statement if line else '' for line in lines]
+        return (*cause_and_result, self.is_torn, self.has_no_loss, *statements)
 
     def add_group(self, other: Group) -> None:
         """Adds the states, pairs of lines and profiles of another group with the same key, which
-        isn't changed. The example stays, with all that is of it. The result of the advice becomes
-        the sum of both, None if one is None. The group is then covered only if both were."""
+        isn't changed. The example stays, with all that is of the example. The result of the advice
+        becomes the sum of both results, None if one is None. The group is then covered only if both
+        groups were."""
         self.states.extend(other.states)
         self.tried_states |= other.tried_states
         self.explained_states |= other.explained_states
@@ -162,16 +159,16 @@ class Group:
         elif self.kept_line is not None and self.is_torn:
             self.advice = torn_advice(self.kept_line, self.kept_part)
         elif self.kept_line is None or self.lost_line is None or self.has_no_loss:
-            self.advice = self.no_loss_advice()
+            self.advice = self.best_no_loss_advice()
         else:
             pairs = [*self.line_pairs, *more_pairs]
             self.advice = loss_advice(self.kept_line, self.lost_line, pairs, lines)
             self.advice.result = result
 
-    def no_loss_advice(self) -> Advice:
+    def best_no_loss_advice(self) -> Advice:
         """The advice for a failure that needs no loss. Its remedy is another order of the lines if
         fewer states fail then, else another place for the bytes if the kept line overwrites some in
-        use, else that of the function no_loss_advice()."""
+        use, else that of no_loss_advice()."""
         advice = no_loss_advice(self.kept_line, self.lost_line)
         if self.kept_line is not None and self.lost_line is not None:
             if self.swap_counts is not None and self.swap_counts.after < self.swap_counts.before:
@@ -184,9 +181,9 @@ class Group:
 
 class Findings:
     """The findings of one window. outcomes_by_state has the outcomes by the numbers of states, also
-    of those that the window before has too. Only the other states, its own, are counted and
-    grouped. losses are the smallest ones that were found, by the numbers of states. all_syncs is
-    None until the advice was tried."""
+    of those that the window before has too. Only the other states, the window's own, are counted
+    and grouped. losses are the smallest losses that were found, by the numbers of states. all_syncs
+    is None until the advice was tried."""
 
     def __init__(
         self,
@@ -229,25 +226,34 @@ class Findings:
             group.needed_lines = self.needed_lines(group)
             if group.kept_line is not None and group.is_torn:
                 kept_set = self.plan.kept[group.example.number]
-                group.kept_part = kept_part(self.plan, kept_set, group.kept_line.number)
+                line_number = group.kept_line.number
+                group.kept_part = kept_part_text(self.plan, kept_set, line_number)
             group.other_syncs = self.other_syncs(group)
         return groups
 
     def add_losses(self, losses: Dict[int, Loss]) -> None:
-        """Adds the smallest losses of some states, by their numbers. A state whose pair is a guess
-        gets one of them too if it fails alike and the loss is a part of what it lost. The groups
-        are made again, without what was added to the old ones, such as differences."""
+        """Adds the smallest losses of some states, by their numbers. Another state whose pair is a
+        guess gets the first of these losses for which has_same_loss() is true. The groups are made
+        again, without what was added to the old ones, such as differences."""
         self.losses.update(losses)
         guessed = [state for group in self.groups if group.pair.is_guess for state in group.states]
         for state in guessed:
-            kept_set, lacking = self.plan.kept[state.number], self.plan.set_lost_by(state)
-            outcome = self.outcomes_by_state[state.number]
-            for number, loss in losses.items():
-                if loss.is_part_of(kept_set, lacking):
-                    if self.pairs.is_same_failure(self.outcomes_by_state[number], outcome):
-                        self.losses.setdefault(state.number, loss)
+            numbers = (number for number in losses if self.has_same_loss(state, number))
+            number = next(numbers, None)
+            if number is not None:
+                self.losses.setdefault(state.number, losses[number])
         self.groups = self.make_groups()
         self.set_reruns()
+
+    def has_same_loss(self, state: State, number: int) -> bool:
+        """Whether a failing state also has the smallest loss of the state of a number, which must
+        be in `losses`: it lost all of that, has the operation that the pair kept, and fails as the
+        state of the number does."""
+        kept_set, lacking = self.plan.kept[state.number], self.plan.set_lost_by(state)
+        outcomes = self.outcomes_by_state
+        return self.losses[number].is_part_of(kept_set, lacking) and self.pairs.is_same_failure(
+            outcomes[number], outcomes[state.number]
+        )
 
     def set_reruns(self) -> None:
         """Sets in all groups the outcome of the example's second run, None if there was none, and
@@ -260,15 +266,17 @@ class Findings:
 
     def is_failure(self, state: State) -> bool:
         """Whether a state fails or gave no answer. False for a state without an outcome, and for
-        one with the cause of ignored_outcome, but for numbers."""
+        one whose cause is that of ignored_outcome, but for numbers."""
         outcome = self.outcomes_by_state.get(state.number, GOOD_OUTCOME)
-        if outcome.result == GOOD or self.ignored_outcome is None:
-            return outcome.result != GOOD
-        return outcome.cause_without_numbers != self.ignored_outcome.cause_without_numbers
+        ignored = self.ignored_outcome
+        is_ignored = (
+            ignored is not None and outcome.cause_without_numbers == ignored.cause_without_numbers
+        )
+        return outcome.result != GOOD and not is_ignored
 
     def example_order(self, state: State) -> Tuple[int, int]:
         """The key by which failing states are sorted, so that an example lacks the least: how many
-        micro-operations a state lacks, then its number."""
+        micro-operations a state lacks before its last one, then its number."""
         return size_of(self.plan.set_lost_by(state)), state.number
 
     def group_of_state(self, state: State) -> Group:
@@ -295,22 +303,23 @@ class Findings:
         )
 
     def is_explained(self, state: State, pair: Pair) -> bool:
-        """Whether a state lacks the operation that a pair lost, and has the one that it kept. False
-        if the pair lacks one of them."""
+        """Whether a state lacks the operation that a pair lost, and has the one that the pair kept.
+        False if the pair lost none or kept none."""
         kept_set = self.plan.kept[state.number]
-        lacks = pair.lost is not None and not kept_set >> pair.lost & 1
-        return lacks and pair.kept is not None and bool(kept_set >> pair.kept & 1)
+        has_lost = pair.lost is None or bool(kept_set >> pair.lost & 1)
+        has_kept = pair.kept is not None and bool(kept_set >> pair.kept & 1)
+        return has_kept and not has_lost
 
     def tried_states(self, state: State) -> FrozenSet[Tuple[int, ...]]:
-        """The number of the state that was tried for this one, as the only member of a set; empty
-        if the window before tried it. It is a tuple, since entries of second crashes put the number
-        of the first crash's state before it."""
+        """The number of the state that is tried for a state, as the only member of a set; an empty
+        set if the window before tried it. The number is in a tuple, since entries of second crashes
+        put the number of the first crash's state before it."""
         number = self.results.tried_numbers[state.trial]
         return frozenset() if number in self.results.numbers_before else frozenset([(number,)])
 
     def line_at(self, place: Optional[int]) -> Optional[TraceLine]:
-        """The line of the micro-operation at a place; if the report doesn't have that line, the
-        micro-operation in the form of a line. None for no place."""
+        """The line of the micro-operation at a place; if the report lacks that line, one with the
+        micro-operation's kind as its word. None if the place is None."""
         if place is None:
             return None
         operation = self.plan.operations[place]
@@ -325,9 +334,9 @@ class Findings:
         return sorted({self.plan.operations[place].line for place in places_of(lacking)})
 
     def needed_lines(self, group: Group) -> List[int]:
-        """The ascending numbers of the lines that must be lost too for the example to fail,
-        although they don't need the lost operation. Empty if no smallest loss was found for the
-        example."""
+        """The ascending numbers of further lines that must be lost for a group's example to fail,
+        although they don't need the lost operation. Empty if no smallest loss of the example is
+        known."""
         loss, lost_place = self.losses.get(group.example.number), group.pair.lost
         if loss is None or lost_place is None:
             return []
@@ -345,15 +354,11 @@ class Findings:
         needs no loss."""
         if group.kept_line is None or group.lost_line is None or group.has_no_loss:
             return []
-        names = [path for path in (group.lost_line.path, group.lost_line.target) if path]
-        paths = {*names, *map(parent_of, names)}
-        return [
-            self.head.lines[number]
-            for number in range(group.lost_line.number, group.kept_line.number)
-            if number in self.head.lines
-            and self.head.lines[number].word in SYNCS
-            and self.head.lines[number].path in paths
-        ]
+        own_paths = [path for path in (group.lost_line.path, group.lost_line.target) if path]
+        paths = {*own_paths, *map(parent_of, own_paths)}
+        numbers = range(group.lost_line.number, group.kept_line.number)
+        lines = [self.head.lines[number] for number in numbers if number in self.head.lines]
+        return [line for line in lines if line.word in SYNCS and line.path in paths]
 
 
 def set_all_advice(groups: List[Group], lines: Dict[int, TraceLine]) -> None:

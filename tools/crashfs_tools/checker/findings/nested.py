@@ -40,29 +40,26 @@ SLOWER = 10
 
 
 class RecoveryRecorder:
-    """Records COMMAND in a state by crashfs-record, in a trace without the lines that COMMAND
-    prints: they acknowledge nothing."""
+    """Records COMMAND in a state by crashfs-record, in a trace without acknowledged lines: what
+    COMMAND prints acknowledges nothing."""
 
     def __init__(self, trials: Trials) -> None:
         self.trials = trials
         self.guard = trials.guard
 
     def record_recovery(self, state: State) -> Trials:
-        """Records COMMAND in the tree of a state; returns the trials of the states that a crash
-        during it leaves, by the second reading if the program doesn't take the trace's version.
-        Refused if COMMAND can't be recorded, or its trace is too long for one plan; ProgramFault if
-        the program doesn't give the tree. The trace stays until the guard ends: a second recording
-        of one state is a FileExistsError."""
+        """Records COMMAND in the tree of a state; returns the trials of the states that a crash of
+        it leaves, by the second reading if the program doesn't take the trace's version. Refused if
+        COMMAND can't be recorded, or its trace is too long for one plan; ProgramFault if the
+        program doesn't give the tree. The folder of the trace stays until the guard ends, also
+        after an exception: a second recording of one state is a FileExistsError."""
         folder = os.path.join(self.guard.directory, f'recovery-{state.number}')
         os.mkdir(folder)
         ((_, directory),) = self.trials.archive_layout(folder).states({state.number})
         trace = os.path.join(folder, f'recovery-{state.number}.trace')
         self.run_recorder(state, directory, trace)
         remove_tree(directory)
-        with open(trace, **TEXT) as file:
-            text = without_says(file.read())
-        with open(trace, 'w', **TEXT) as file:
-            file.write(text)
+        text = remove_says(trace)
         program = self.trials.program.program_for_version(trace_version(text))
         planner = Planner(self.trials.options, program, self.guard)
         planned = planner.plan(trace, Offsets(says=state.says))
@@ -70,21 +67,11 @@ class RecoveryRecorder:
 
     def run_recorder(self, state: State, directory: str, trace: str) -> None:
         """Records COMMAND, by a process of the recorder, in a directory that has a state's tree,
-        and writes the trace to a file. COMMAND may fail; what it prints is dropped. The recorder is
-        killed after SLOWER times as long as COMMAND may take. Refused then, and if no trace is
-        written; OSError if the recorder can't be started."""
+        and writes the trace to a file. COMMAND may fail; what it prints is dropped. The recorder
+        may take SLOWER times as long as COMMAND. Refused if it takes longer, and is killed, or if
+        it writes no trace; OSError if it can't be started."""
         checker = self.trials.new_checker()
-        words = [
-            sys.executable,
-            '-S',
-            '-c',
-            RECORD,
-            '--no-say',
-            directory,
-            trace,
-            '--',
-            *checker.recovery.words,
-        ]
+        recorder_words = [sys.executable, '-S', '-c', RECORD, '--no-say', directory, trace, '--']
         environment = {
             **checker.environment,
             'CRASHFS_STATE': str(state.number),
@@ -93,7 +80,7 @@ class RecoveryRecorder:
         with open(checker.acknowledged_lines.write_file(state.says), 'rb') as acknowledged:
             try:
                 ran = subprocess.run(
-                    words,
+                    [*recorder_words, *checker.recovery.words],
                     stdin=acknowledged,
                     stdout=subprocess.DEVNULL,
                     stderr=subprocess.PIPE,
@@ -118,8 +105,9 @@ class SecondCrashTrials:
 
     def try_recoveries(self, trials: Trials, findings: Findings) -> Iterator[Recovery]:
         """Chooses states of a window, records the recovery of each, and yields what second crashes
-        of it leave. A recovery that can't be recorded, or is too long, has its fault instead, and
-        counts too. A fault while its states are tried is raised, also Refused."""
+        of that recovery leave. A recovery that can't be recorded, or is too long, is yielded with
+        its fault. Each lowers recoveries_left by one. Other exceptions as in record_recovery() and
+        try_recovery()."""
         for state in self.choose_states(findings):
             self.recoveries_left -= 1
             try:
@@ -130,10 +118,11 @@ class SecondCrashTrials:
             yield self.try_recovery(recovery, state, findings.outcomes_by_state[state.number])
 
     def try_recovery(self, trials: Trials, state: State, first_outcome: Outcome) -> Recovery:
-        """Tries the states of a state's recovery, and runs the examples of their groups again. If
-        the state itself wasn't good, as first_outcome says, failures with the same cause but for
-        numbers are left out. Only states that were tried are counted: fewer than all after a
-        failure with --fail-fast, or if all would take too long."""
+        """Tries the states of a recovery from a state, with the recovery's trials, and runs the
+        examples of their groups again. If the first state wasn't good, as first_outcome says,
+        failures with the same cause but for numbers are left out. Only tried states are counted:
+        not all are after a failure with --fail-fast, or if that would take too long. Exceptions as
+        in Trials.try_all()."""
         results = Results(trials.plan)
         trials.try_all(results)
         with open(trials.planned.trace, **TEXT) as file:
@@ -152,35 +141,41 @@ class SecondCrashTrials:
         )
 
     def choose_states(self, findings: Findings) -> List[State]:
-        """Up to recoveries_left of the states that were tried in a window, whatever their outcomes.
-        First, one by one, the state with the most features that aren't in seen_features, which gets
-        them; of several the one with the most acknowledged lines, then the first. When no state has
-        new features, more are taken evenly from the others."""
-        others = [findings.plan.state(number) for number in sorted(findings.results.outcomes)]
-        wanted = self.recoveries_left
+        """Up to recoveries_left of the states that were tried in a window, whatever their outcomes:
+        first those of choose_by_features(), then some taken evenly from the others."""
+        tried = [findings.plan.state(number) for number in sorted(findings.results.outcomes)]
+        chosen = self.choose_by_features(findings, tried)
+        others = [state for state in tried if state not in chosen]
+        left_count = self.recoveries_left - len(chosen)
+        if left_count > 0 and others:
+            chosen += others[:: -(-len(others) // left_count)]
+        return chosen
+
+    def choose_by_features(self, findings: Findings, states: List[State]) -> List[State]:
+        """Up to recoveries_left of some states: one by one the state with the most features that
+        aren't in seen_features, to which they are added; of several the one with the most
+        acknowledged lines, then the first. Ends when no state has new features."""
         chosen: List[State] = []
 
         def rank(state: State) -> Tuple[int, int, int]:
+            """More new features, then more lines, then a lower number rank higher."""
             new_features = self.features_of(findings, state) - self.seen_features
             return len(new_features), state.says, -state.number
 
-        while others and len(chosen) < wanted:
-            best = max(others, key=rank)
-            if not self.features_of(findings, best) - self.seen_features:
+        while states and len(chosen) < self.recoveries_left:
+            best = max(states, key=rank)
+            new_features = self.features_of(findings, best) - self.seen_features
+            if not new_features:
                 break
-            self.seen_features |= self.features_of(findings, best)
-            others.remove(best)
+            self.seen_features |= new_features
             chosen.append(best)
-        more = wanted - len(chosen)
-        if more > 0 and others:
-            chosen += others[:: max(1, -(-len(others) // more))][:more]
         return chosen
 
     @staticmethod
     def features_of(findings: Findings, state: State) -> Set[Tuple[str, str]]:
-        """Two features of a tried state, each after its name: its cause, and the kind and path of
-        its last micro-operation, both without numbers. The cause of a good state is an empty text,
-        and so is the second feature of a state without micro-operations."""
+        """Two features of a tried state, each after its name: the cause, and the kind and path of
+        the state's last micro-operation, both without numbers. The cause of a good state is an
+        empty text, and so is the second feature of a state without micro-operations."""
         kept_set = findings.plan.kept[state.number]
         last = findings.plan.operations[kept_set.bit_length() - 1] if kept_set else None
         operation = f'{last.kind} {without_numbers(last.path)}' if last else ''
@@ -188,17 +183,28 @@ class SecondCrashTrials:
         return {('cause', cause), ('last', operation)}
 
 
+def remove_says(trace: str) -> str:
+    """Removes the acknowledged lines from a trace's file, in place, and returns the new text of the
+    trace. OSError if the file can't be read or written."""
+    with open(trace, **TEXT) as file:
+        text = without_says(file.read())
+    with open(trace, 'w', **TEXT) as file:
+        file.write(text)
+    return text
+
+
 def recorder_fault(status: int, printed: str) -> str:
     """Why the recorder wrote no trace: the text after its name in the last line of `printed`, its
-    standard error. If that line has no text, or isn't the recorder's, how it ended, by its status
-    as Popen has it. Never an empty text."""
+    standard error. If that line has no text, or isn't the recorder's, the text is how the recorder
+    ended, by its status as Popen has it. Never an empty text."""
     name, _, text = last_line(printed).partition(': ')
     return text if name == RECORDER and text else f'{RECORDER} {ending_text(status)}'
 
 
 def crash_place(findings: Findings, group: Group) -> str:
     """Where the second crash of a group's example was, as text: at the line of the example's last
-    micro-operation, or before any change. The findings must be of the recovery's own trace."""
+    micro-operation, or before the recovery changed anything. The findings must be of the recovery's
+    own trace."""
     kept_set = findings.plan.kept[group.example.number]
     if not kept_set:
         return 'before its recovery changed anything'

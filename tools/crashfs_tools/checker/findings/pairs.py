@@ -33,7 +33,7 @@ from crashfs_tools.checker.states.plan import Plan, State
 
 class Pair(NamedTuple):
     """The places of two micro-operations: kept is None if nothing was kept, lost is None if nothing
-    was lost. is_guess says that a smaller loss may make the state fail."""
+    was lost. is_guess says that a smaller loss than the state's may make it fail."""
 
     kept: Optional[int]
     lost: Optional[int]
@@ -47,8 +47,8 @@ class Loss(NamedTuple):
     lacking: int
 
     def is_part_of(self, kept_set: int, lost_set: int) -> bool:
-        """Whether a state that has kept_set, and lost lost_set, lost all of this loss and has the
-        operation that it kept. False if the pair kept nothing."""
+        """Whether a state that has kept_set, and lost lost_set, lost all that this loss lacks, and
+        has the operation that the pair kept. False if the pair kept nothing."""
         has_kept = self.pair.kept is not None and bool(kept_set >> self.pair.kept & 1)
         return has_kept and self.lacking & ~lost_set == 0
 
@@ -70,12 +70,13 @@ class Pairs:
 
     prefixes are the numbers of all prefixes by their lengths, and holes those of the holes by the
     place that they lack and their length; those that aren't tried, since no crash leaves them or
-    only under another profile, are among them. equal_prefixes are the lengths of prefixes by what
-    they are tried by: of equal ones the shortest. causes counts the states that aren't good by
-    their whole causes, except for numbers."""
+    only under another profile, are among them. equal_prefixes has the length of the shortest prefix
+    of each trial. causes counts the states that aren't good by their whole causes, except for
+    numbers."""
 
     def __init__(self, plan: Plan, outcomes: Dict[int, Outcome]) -> None:
-        """Counts the causes now: `outcomes` mustn't get others later."""
+        """`outcomes` are those of the states, by their numbers. Causes are counted now: it mustn't
+        get others later."""
         self.plan = plan
         self.outcomes = outcomes
         prefixes = [state for state in plan.listed if state.family == 'prefix']
@@ -106,6 +107,7 @@ class Pairs:
         outcome."""
 
         def compare(number: int) -> Comparison:
+            """Compares the outcome of the state of a number with `outcome`."""
             other = self.outcomes.get(number)
             if other is None:
                 return Comparison.NOT_TRIED
@@ -118,7 +120,7 @@ class Pairs:
         """Whether a state with the outcome `other` fails as a state with `outcome` does, by rule 7.
         False if one of them is good, or only one gave an answer. The words before the colons are
         compared only if no other state has the whole cause of `outcome`."""
-        if not other.result == outcome.result != GOOD:
+        if outcome.result == GOOD or other.result != outcome.result:
             return False
         cause = outcome.cause_without_numbers
         if self.causes[cause] > 1:
@@ -128,22 +130,34 @@ class Pairs:
     def prefix_pair(self, length: int, compare: Compare) -> Pair:
         """The pair of the prefix of a length by rule 1. A prefix that wasn't tried is taken to fail
         alike."""
-        shortest = longest = length
-        while shortest > 0 and compare(self.prefixes[shortest - 1]) is not Comparison.OTHER:
-            shortest -= 1
         whole = len(self.plan.operations)
-        while longest < whole and compare(self.prefixes[longest + 1]) is not Comparison.OTHER:
-            longest += 1
+        shortest = self.last_failing_length(range(length, -1, -1), compare)
+        longest = self.last_failing_length(range(length, whole + 1), compare)
         kept = shortest - 1 if shortest > 0 else None
         return Pair(kept, longest if longest < whole else None)
 
+    def last_failing_length(self, lengths: range, compare: Compare) -> int:
+        """The last of some lengths before the first one whose prefix was tried and doesn't fail
+        alike. The prefix of the first length must fail alike, and isn't compared."""
+        last = lengths[0]
+        for length in lengths[1:]:
+            if compare(self.prefixes[length]) is Comparison.OTHER:
+                break
+            last = length
+        return last
+
     def hole_pair(self, state: State, compare: Compare) -> Pair:
-        """The pair of a hole by rules 3 to 5. In rule 5 a shorter hole that wasn't tried, or that
-        the plan doesn't list, is passed over."""
+        """The pair of a hole by rules 3 to 5."""
         hole_place, length = state.numbers
         if is_failing_alike(self.prefixes[length], compare):
             return self.prefix_pair(length, compare)
         lost = self.last_lost_place(hole_place, length, compare)
+        return Pair(self.shortest_failing_hole(lost, length, compare) - 1, lost)
+
+    def shortest_failing_hole(self, lost: int, length: int, compare: Compare) -> int:
+        """The length of the shortest hole that counts by rule 5, of those that lack the operation
+        at the place `lost`; this length if no shorter one does. A shorter hole that wasn't tried,
+        or that the plan doesn't list, is passed over."""
         shortest = length
         for shorter in range(length - 1, lost + 1, -1):
             hole = self.holes.get((lost, shorter))
@@ -152,11 +166,11 @@ class Pairs:
                 break
             if compared is Comparison.FAILS_ALIKE:
                 shortest = shorter
-        return Pair(shortest - 1, lost)
+        return shortest
 
     def last_lost_place(self, hole_place: int, length: int, compare: Compare) -> int:
-        """The place that a hole of this length lost, by rule 4: the last one that needs hole_place
-        and whose own hole of this length fails alike; hole_place if there is none."""
+        """The place that a hole of this length lost, by rule 4: the last place that needs
+        hole_place and whose own hole of this length fails alike; hole_place if there is none."""
         for later in range(length - 2, hole_place, -1):
             hole = self.holes.get((later, length))
             if self.plan.needs.is_needed(hole_place, by=later) and is_failing_alike(hole, compare):
@@ -164,8 +178,8 @@ class Pairs:
         return hole_place
 
     def pick_pair(self, state: State, compare: Compare) -> Pair:
-        """The pair of a pick by rule 6. If no hole gives it, it is a guess, unless the pick has
-        nothing or lacks nothing."""
+        """The pair of a pick by rule 6. If no hole gives the pair, it is a guess, unless the pick
+        has nothing or lacks nothing."""
         kept_set, lacking = self.plan.kept[state.number], self.plan.set_lost_by(state)
         for place in places_of(lacking):
             hole = self.holes.get((place, kept_set.bit_length()))
@@ -176,6 +190,6 @@ class Pairs:
 
 
 def is_failing_alike(number: Optional[int], compare: Compare) -> bool:
-    """Whether a state fails alike, by its number. False for None, which means that there is no such
+    """Whether the state of a number was tried and fails alike. False for None, the number of no
     state."""
     return number is not None and compare(number) is Comparison.FAILS_ALIKE

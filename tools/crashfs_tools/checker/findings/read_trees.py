@@ -13,20 +13,22 @@ WHOLE_BYTES = 1 << 20
 
 
 def entries_of(tree: Dict[str, Item]) -> Entries:
-    """A tree of the second reading as the tools' own type has it, with the same paths: the root is
-    in both."""
+    """A tree of the second reading as entries of the tools' own type, by the same paths: both have
+    the root."""
     return {path: entry_of(item) for path, item in tree.items()}
 
 
 def entry_of(item: Item) -> Entry:
-    """An item of the second reading as the tools' own type has it: a directory, a symbolic link, or
-    a file with its bytes, of which one of more than WHOLE_BYTES is kept without its zeros."""
+    """A new entry for an item of the second reading: a directory, a symbolic link, or a file with
+    its bytes. A file of more than WHOLE_BYTES is kept without its zeros."""
     (owner, group, mode), data = item.rights, item.data
-    if data is None:
-        return Entry(owner, group, int(mode, 8), None)
-    if item.kind == 'symlink':
-        return Entry(owner, group, int(mode, 8), None, data.all_bytes().decode('utf-8'))
-    if data.length <= WHOLE_BYTES:
-        return Entry(owner, group, int(mode, 8), bytearray(data.all_bytes()))
-    blocks = ((number * data.block_size, block) for number, block in data.blocks.items())
-    return Entry(owner, group, int(mode, 8), SparseBytes(data.length, blocks))
+    entry = Entry(owner, group, int(mode, 8), None)
+    if data is not None:
+        if item.kind == 'symlink':
+            entry.link = data.all_bytes().decode('utf-8')
+        elif data.length <= WHOLE_BYTES:
+            entry.data = bytearray(data.all_bytes())
+        else:
+            blocks = ((number * data.block_size, block) for number, block in data.blocks.items())
+            entry.data = SparseBytes(data.length, blocks)
+    return entry

@@ -18,7 +18,7 @@ ENTRIES = 20
 def rerun_example(trials: Trials, example: State) -> Outcome:
     """Tries a failing state again, until it is good or was tried ATTEMPTS times in all, since
     COMMAND may fail in some runs only; the cache may have the outcomes. Returns the last outcome:
-    if it is good, the failure isn't reproducible."""
+    if it is good, the failure isn't reproducible. Exceptions as in Trials.try_state()."""
     for attempt in range(1, ATTEMPTS):
         outcome = trials.try_state(example, attempt)
         if outcome.result == GOOD:
@@ -28,9 +28,9 @@ def rerun_example(trials: Trials, example: State) -> Outcome:
 
 def rerun_examples(trials: Trials, findings: Findings, seconds: float = float('inf')) -> None:
     """Runs the examples of the first ENTRIES groups again, one at a time, except those that were
-    run again before; begins none after so many seconds. The results get each outcome as it comes,
-    the groups get all at the end, and their rerun_seconds. If an example is good then, the states
-    of its group are dropped from the cache."""
+    run again before; begins none after so many seconds. Results and rerun_seconds are set at once,
+    the groups' outcomes and advice at the end: not after an exception of Trials.try_state(). If an
+    example is good now, the states of its group are dropped from the cache."""
     deadline = time.monotonic() + seconds
     results = findings.results
     for group in findings.groups[:ENTRIES]:

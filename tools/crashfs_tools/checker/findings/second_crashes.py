@@ -3,7 +3,7 @@
 from __future__ import annotations
 
 from dataclasses import dataclass, field, replace
-from typing import Dict, Iterable, List, NamedTuple, Tuple
+from typing import Dict, Iterable, Iterator, List, NamedTuple, Tuple
 
 from .groups import Group
 
@@ -13,7 +13,7 @@ class Recovery:
     """The recovery of the state of a number: how many different states of a second crash were
     tried, how many of them fail or gave no answer, and their groups. crash_places says where the
     second crash was, by the number of a group's example. fault says why the recovery wasn't tried,
-    or is empty; unproved says whether the second reading computed its states."""
+    or is empty; unproved says whether the second reading computed the states."""
 
     state: int
     tried_count: int = 0
@@ -33,17 +33,22 @@ class SecondCrash(NamedTuple):
 
 def second_crash_entries(recoveries: Iterable[Recovery]) -> List[Tuple[Group, SecondCrash]]:
     """Copies of the groups of all recoveries, in their order, each with the two crashes of its
-    example. Of groups with the same key only the first is an entry, which gets the states of the
-    others; nothing else of those is reported. The rows of tried_states begin with the number of the
-    first crash's state. A copy shares the advice of its group."""
+    example. Of groups with the same key only the first is an entry. It gets the states of the
+    others, of which nothing else is reported. Copies are as copies_of_groups() makes them."""
     entries: Dict[Tuple[object, ...], Tuple[Group, SecondCrash]] = {}
     for recovery in recoveries:
-        for group in recovery.groups:
-            second_crash = SecondCrash(recovery.state, recovery.crash_places[group.example.number])
-            tried = frozenset((recovery.state, *row) for row in group.tried_states)
-            copy = replace(group, states=list(group.states), tried_states=tried)
-            first, _ = entries.setdefault(group.key, (copy, second_crash))
+        for copy in copies_of_groups(recovery):
+            second_crash = SecondCrash(recovery.state, recovery.crash_places[copy.example.number])
+            first, _ = entries.setdefault(copy.key, (copy, second_crash))
             if first is not copy:
                 first.states.extend(copy.states)
                 first.tried_states |= copy.tried_states
     return list(entries.values())
+
+
+def copies_of_groups(recovery: Recovery) -> Iterator[Group]:
+    """A copy of each group of a recovery. The rows of its tried_states begin with the number of the
+    first crash's state. The copy has a list of states of its own, but shares the group's advice."""
+    for group in recovery.groups:
+        tried_states = frozenset((recovery.state, *row) for row in group.tried_states)
+        yield replace(group, states=list(group.states), tried_states=tried_states)

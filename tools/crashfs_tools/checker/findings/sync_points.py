@@ -11,8 +11,8 @@ LinePairs = Iterable[Tuple[int, int]]
 
 
 class Interval(NamedTuple):
-    """A sync of the path is needed after the line `begin` or a later one, and before the line
-    `end`. Intervals are sorted by their ends."""
+    """Where a sync of the path is needed: after the line `begin` or a later line, and before the
+    line `end`, by their numbers. Intervals are sorted by their ends."""
 
     end: int
     begin: int
@@ -20,9 +20,9 @@ class Interval(NamedTuple):
 
 
 def sync_points(pairs: LinePairs, lines: Dict[int, TraceLine]) -> Dict[int, str]:
-    """The paths to sync, each by the number of the line that it comes after: as few syncs as serve
-    all pairs. A sync serves each pair of its path if it comes between the two lines, and before the
-    path names something else. Pairs whose lost line isn't in `lines`, or is made durable by no
+    """The paths to sync, each by the number of the line after which the sync comes: as few syncs as
+    serve all pairs. A sync serves a pair of its path if it comes between the two lines, and before
+    the path names something else. Pairs whose lost line isn't in `lines`, or is made durable by no
     sync, are left out."""
     points: Dict[int, str] = {}
     unserved = sorted(
@@ -39,13 +39,14 @@ def sync_points(pairs: LinePairs, lines: Dict[int, TraceLine]) -> Dict[int, str]
 
 
 def is_syncable(number: int, lines: Dict[int, TraceLine]) -> bool:
-    """Whether `lines` has the line of a number, and a sync would make it durable."""
+    """Whether `lines` has the line of a number, and a sync would make that line durable."""
     return number in lines and lines[number].path_to_fsync is not None
 
 
 def sync_interval(lost: int, kept: int, lines: Dict[int, TraceLine]) -> Interval:
-    """Where a sync may be that makes a lost line durable before a kept one: after the lost line, as
-    long as the path names what that line changed. The lost line must be syncable."""
+    """Where a sync may be that makes a lost line durable before a kept one, by their numbers: after
+    the lost line, as long as the path names what that line changed. is_syncable() must hold for the
+    lost line."""
     path = lines[lost].path_to_fsync
     assert path is not None
     end = end_of_path(path, range(lost + 1, kept), lines)
@@ -60,16 +61,16 @@ def end_of_path(path: str, numbers: range, lines: Dict[int, TraceLine]) -> Optio
 
 
 def is_synced(path: str, lines: Dict[int, TraceLine]) -> bool:
-    """Whether the session ever syncs a path, or everything at once."""
+    """Whether one of the trace's lines syncs a path, or everything at once."""
     return any(
         line.word in SYNCS and (line.path == path or line.word == 'sync') for line in lines.values()
     )
 
 
 def never_synced_directory(syncs: Dict[int, str], lines: Dict[int, TraceLine]) -> str:
-    """The path of the directory that all syncs of an advice are of, if the session never syncs it.
-    `syncs` has the path to sync after each line. An empty text if the session syncs it, if the
-    syncs are of a file or of several paths, or if there are none."""
+    """The path of the directory that all syncs of an advice are of, if the session never syncs that
+    directory. `syncs` has the path to sync after each line. An empty text if the session syncs it,
+    if the syncs are of a file or of several paths, or if there are none."""
     paths = set(syncs.values())
     if len(paths) != 1:
         return ''
