@@ -12,8 +12,9 @@ from typing import Dict, List, Optional
 
 from crashfs_tools.api.reports import Report
 from crashfs_tools.checker.report.report import NOT_ALL_TRIED
+from crashfs_tools.checker.running.descriptors import limit_inherited_descriptors
 from crashfs_tools.checker.running.progress import Progress
-from crashfs_tools.checker.running.runner import LeftRunning, limit_inherited_descriptors
+from crashfs_tools.checker.running.runner import LeftRunning
 from crashfs_tools.checker.states.plan import PlanError
 from crashfs_tools.common.command import Refused, print_line, flushed_output
 from crashfs_tools.common.guard import Guard

@@ -11,10 +11,12 @@ MOST_BYTES = 16 << 20
 
 class Output:
     """A pipe for what one run prints. Pass write_end to the command, and then call close_writing();
-    read_end can be polled. byte_count is how many bytes were read, and tail has the last ones."""
+    read_end can be polled. byte_count is how many bytes were read, and tail has the last
+    TAIL_BYTES of them."""
 
     def __init__(self) -> None:
-        """Opens the pipe: call close() in any case. OSError if too many files are open."""
+        """Opens the pipe, whose two ends close() closes: call it in any case. OSError if too many
+        files are open."""
         self.read_end, self.write_end = os.pipe2(os.O_CLOEXEC)
         os.set_blocking(self.read_end, False)
         self.tail = b''
@@ -29,8 +31,8 @@ class Output:
         return bool(piece)
 
     def read_tail(self) -> bytes:
-        """Reads all that was printed by now, without waiting, until it is a flood. Returns the last
-        TAIL_BYTES of all bytes that were read."""
+        """Reads all that was printed by now, without waiting, or less if that is a flood. Returns
+        the last TAIL_BYTES of all bytes that were read, also by earlier calls."""
         try:
             while self.byte_count <= MOST_BYTES and self.read_piece():
                 pass
@@ -44,8 +46,8 @@ class Output:
         return self.byte_count > MOST_BYTES
 
     def close_writing(self) -> None:
-        """Closes write_end in this process, if it is open: while it is, the pipe has no end for a
-        reader."""
+        """Closes write_end in this process, if it is open: only then a reader finds the end of the
+        pipe, when the command has ended."""
         if self.write_end >= 0:
             os.close(self.write_end)
             self.write_end = -1

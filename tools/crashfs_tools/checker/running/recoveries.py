@@ -30,16 +30,17 @@ class StandardStreams(NamedTuple):
 
 
 class StateRecovery(Protocol):
-    """A recovery that is run in states. Each run starts in the directory of this process, in a
-    session of its own."""
+    """A recovery that is run in states. Each run is a process of its own, which starts in the
+    directory of this process, in a session of its own."""
 
     @property
     def words(self) -> List[str]:
         """The words by which reports name the recovery."""
 
     def start(self, environment: Dict[bytes, bytes], streams: StandardStreams) -> int:
-        """Starts the recovery, and returns the number of its process. OSError if the system has no
-        room for a process, Refused if it can't be started for another reason."""
+        """Starts the recovery, and returns the number of its process, which the caller must wait
+        for. OSError if the system has no room for a process, Refused if the recovery can't be
+        started for another reason."""
 
 
 @dataclass
@@ -50,8 +51,8 @@ class CommandRecovery:
 
     def start(self, environment: Dict[bytes, bytes], streams: StandardStreams) -> int:
         """Starts the program: words[0] is its path, which isn't looked for on PATH. Refused, with
-        the name of the missing file, also if the file of the lines is gone, which a recovery may
-        have removed. OSError if the system has no room for a process."""
+        its name, if it can't be started, or with the path of the lines if that file is gone: an
+        earlier recovery may have removed it. OSError if the system has no room for a process."""
         try:
             return os.posix_spawn(
                 self.words[0],
@@ -86,14 +87,14 @@ class FunctionRecovery:
         return [f'{self.function.__module__}.{self.function.__qualname__}']
 
     def start(self, environment: Dict[bytes, bytes], streams: StandardStreams) -> int:
-        """Forks this process, calls the function in the fork, and returns the number of its
-        process. OSError if the system has no room for it. Any exception in the fork, also before
-        the call, is printed there, and its status is FAILED."""
+        """Forks this process, calls the function in the fork, and returns the fork's number.
+        OSError if the system has no room for a process. Any exception in the fork, also before the
+        call, is printed there, and the fork's status is FAILED."""
         process = os.fork()
         if process == 0:
             try:
                 self.become_child(environment, streams)
-                status = self.call()
+                status = self.call_function()
             except BaseException:
                 traceback.print_exc()
                 status = FAILED
@@ -101,9 +102,10 @@ class FunctionRecovery:
         return process
 
     def become_child(self, environment: Dict[bytes, bytes], streams: StandardStreams) -> None:
-        """Makes this fork what a command would be: it has a session and the streams of its own, is
-        ended by the signals of STOPS, and is killed if its parent ends. Of the environment it gets
-        CRASHFS_STATE, CRASHFS_SAYS and the guard's tokens. OSError if a stream can't be opened."""
+        """In the fork: makes this process what a command would be. It gets a session of its own and
+        these streams, is ended by the signals of STOPS, and is killed if its parent ends. Of the
+        environment it gets CRASHFS_STATE, CRASHFS_SAYS and the guard's tokens. OSError if a stream
+        can't be opened."""
         die_with_parent()
         os.setsid()
         for stop_signal in STOPS:
@@ -118,11 +120,11 @@ class FunctionRecovery:
             if name in environment:
                 os.environb[name] = environment[name]
 
-    def call(self) -> int:
-        """Calls the function with the path of this process's directory and the lines, and returns
-        the exit status: 0 whatever the function returns; for a SystemExit the last eight bits of
-        its number, 0 for None, and FAILED for a text, which is printed; FAILED for any other
-        exception, of which the traceback is printed, and cause_text() as the last line."""
+    def call_function(self) -> int:
+        """In the fork: calls the function with the path of this process's directory and the lines
+        of standard input, and returns the exit status. It is 0 whatever the function returns; for a
+        SystemExit the last eight bits of its number, 0 for None, or FAILED for a text, which is
+        printed; FAILED for any other exception, which is printed with cause_text() as last line."""
         lines = [line.rstrip('\n') for line in sys.stdin]
         try:
             self.function(os.getcwd(), lines)
@@ -141,7 +143,7 @@ class FunctionRecovery:
 
 def cause_text(fault: BaseException) -> str:
     """A fault as one line: the first line of an assertion's text; of any other fault, and of an
-    assertion without a text, its type and the first line of its text. What the fault's `__str__`
+    assertion without a text, the type and the first line of the text. What the fault's `__str__`
     raises passes."""
     text = str(fault).strip()
     if not (isinstance(fault, AssertionError) and text):

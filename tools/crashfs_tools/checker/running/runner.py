@@ -4,7 +4,6 @@ from __future__ import annotations
 
 import os
 import select
-import signal
 import time
 from dataclasses import dataclass, field
 from enum import Enum
@@ -57,7 +56,8 @@ GOOD_OUTCOME = Outcome(GOOD)
 
 class AcknowledgedLines:
     """The session's acknowledged lines, as a file in a folder for the commands' standard input.
-    Each process has one file, which it cuts or extends: a file for each state would be slow."""
+    Each process has one file there, which it cuts or extends: a file for each state would be
+    slow."""
 
     def __init__(self, texts: List[str], folder: str) -> None:
         """texts are the lines without their ends. Nothing is written yet."""
@@ -69,9 +69,9 @@ class AcknowledgedLines:
 
     def write_file(self, count: int) -> str:
         """Gives this process's file the first `count` lines, which it has until the next call, and
-        returns its path. The first call makes the file. OSError if it must be changed, but COMMAND
-        has removed it or put a symbolic link in its place. If it needn't be changed, that isn't
-        noticed."""
+        returns the file's path. The first call makes the file. OSError if it must be changed, but
+        COMMAND has removed it or put a symbolic link in its place. If the file needn't be changed,
+        that isn't noticed."""
         own_path = os.path.join(self.folder, f'says-{os.getpid()}')
         if self.file_path != own_path:
             self.file_path, self.line_count = own_path, 0
@@ -85,13 +85,13 @@ class AcknowledgedLines:
         return own_path
 
     def text(self, end: int, begin: int = 0) -> str:
-        """The lines from place `begin` to before place `end` as one text, each with its line
-        feed."""
+        """The lines from place `begin` to before place `end` as one text, each with its line feed;
+        an empty text if there are none."""
         return ''.join(f'{text}\n' for text in self.texts[begin:end])
 
 
 class CheckEnded(Exception):
-    """The check is over: the command that ran is killed."""
+    """The check is over, also for the command that runs."""
 
 
 class LeftRunning(Refused):
@@ -107,6 +107,15 @@ class End(Enum):
     FLOODED = 'flooded'
 
 
+class Ending(NamedTuple):
+    """How a run ended: its End; its status as subprocess has it, 0 unless it exited; and the paths
+    in its directory at which something stays mounted."""
+
+    end: End
+    status: int
+    mounted_paths: List[str]
+
+
 def do_nothing() -> None:
     """Does nothing: the callback of those that need none."""
 
@@ -114,7 +123,7 @@ def do_nothing() -> None:
 @dataclass
 class Checker:
     """Runs one recovery in states. `life` is this process's end of a pipe whose other end is closed
-    when the check is over. when_slow() is called once for each command that takes long.
+    when the check is over. when_slow() is called once for each command that takes SLOW_SECONDS.
     end_processes_with_token() ends what was started with the environment: for a process that isn't
     the reaper of what a command leaves."""
 
@@ -163,81 +172,91 @@ class Checker:
         if self.left_processes:
             return self.unended_outcome('a process that it left')
         earlier_children = descendants.child_processes()
-        earlier_mounts = self.mounts.points_below(directory)
+        earlier_mounts = set(self.mounts.points_below(directory))
         output = Output()
         try:
             process = self.start(number, says, directory, output)
-            has_exited = False
-            try:
-                end = self.wait(process, output)
-                has_exited = end is End.EXITED
-            finally:
-                # Until it is waited for, no other group has its number.
-                kill_group(process)
-                # Only what has ended is waited for without limit: a kill may be refused.
-                status = reap_child(process) if has_exited else 0
-                self.end_left_processes(earlier_children, descendants.ENDING_SECONDS)
-                staying = self.unmount(directory, set(earlier_mounts))
+            ending = self.wait_and_clean_up(
+                process, output, directory, earlier_children, earlier_mounts
+            )
             if self.left_processes:
-                return self.unended_outcome(
-                    'it' if process in self.left_processes else 'a process that it left'
-                )
-            if staying:
-                return Outcome(
-                    NO_ANSWER, f'a mount that it left can not be unmounted: {staying[0]}'
-                )
-            if has_exited and status == 0:
-                return GOOD_OUTCOME
-            printed = output.read_tail().replace(os.fsencode(directory), b'.')
-            return self.failed_outcome(end, status, printed.decode('utf-8', 'replace'))
+                is_left = process in self.left_processes
+                return self.unended_outcome('it' if is_left else 'a process that it left')
+            return self.outcome_of(ending, output, directory)
         finally:
             output.close()
 
-    def end_left_processes(self, spared: Set[int], seconds: float = 0) -> Dict[int, str]:
+    def wait_and_clean_up(
+        self,
+        process: int,
+        output: Output,
+        directory: str,
+        earlier_children: Set[int],
+        earlier_mounts: Set[int],
+    ) -> Ending:
+        """Waits for a command as wait() does. Then, also after an exception of wait(), kills its
+        process group, waits for it if it has exited, ends other processes that it left, sets
+        left_processes, and unmounts what it left mounted. Children and mounts that were there
+        before, by their numbers, are spared."""
+        has_exited = False
+        try:
+            end = self.wait(process, output)
+            has_exited = end is End.EXITED
+        finally:
+            # Until it is waited for, no other group has its number.
+            kill_group(process)
+            # Only what has ended is waited for without limit: a kill may be refused.
+            status = reap_child(process) if has_exited else 0
+            self.end_left_processes(earlier_children, descendants.ENDING_SECONDS)
+            mounted_paths = self.unmount(directory, earlier_mounts)
+        return Ending(end, status, mounted_paths)
+
+    def end_left_processes(self, spared: Set[int], seconds: float = 0) -> None:
         """Calls end_processes_with_token(), kills all children but the spared ones, and waits at
         most `seconds` for their end. Sets left_processes to those that still run, with the names of
-        their programs, and returns it."""
+        their programs."""
         self.end_processes_with_token()
         self.left_processes = descendants.end_children(spared, seconds)
-        return self.left_processes
 
     def unended_outcome(self, subject: str) -> Outcome:
-        """The outcome of a state if the processes of left_processes can't be ended. `subject` is
-        how the cause calls them, such as `it`."""
+        """The outcome of a state if the processes of left_processes can't be ended: no answer.
+        `subject` begins the cause, as `it` for the command."""
         names = descendants.processes_text(self.left_processes)
         return Outcome(NO_ANSWER, f'{subject} could not be ended: {names}')
 
     def unmount(self, directory: str, earlier_mounts: Set[int]) -> List[str]:
         """Unmounts what is mounted at a directory or below it, except the mounts with the numbers
         in earlier_mounts. Waits for the commands that unmount, without limit. Returns the paths in
-        the directory at which something stays mounted."""
-        mounts = self.mounts.points_below(directory)
-        later_mounts = {one: mounts[one] for one in mounts if one not in earlier_mounts}
+        the directory at which something stays mounted. OSError as MountTable.points_below()."""
+        points = self.mounts.points_below(directory).items()
+        later_mounts = {number: point for number, point in points if number not in earlier_mounts}
         staying = self.mounts.unmount(later_mounts)
         return [os.path.relpath(point, directory) for point in staying]
 
     def start(self, number: int, says: int, directory: str, output: Output) -> int:
         """Starts the recovery in a state's directory, with a file of `says` acknowledged lines as
         its input, and returns the number of its process. This process is in the directory
-        meanwhile. Closes write_end of `output`, also if it can't be started: Refused or OSError."""
+        meanwhile. Refused or OSError if the recovery can't be started, or OSError if the file can't
+        be written or the directory entered. In any case write_end of `output` is closed."""
         environment = {
             **self.environment_bytes,
             b'CRASHFS_STATE': b'%d' % number,
             b'CRASHFS_SAYS': b'%d' % says,
         }
-        streams = StandardStreams(self.acknowledged_lines.write_file(says), output.write_end)
         old_directory = self.current_directory
-        os.chdir(directory)
         try:
-            return self.recovery.start(environment, streams)
+            lines_path = self.acknowledged_lines.write_file(says)
+            os.chdir(directory)
+            return self.recovery.start(environment, StandardStreams(lines_path, output.write_end))
         finally:
             os.fchdir(old_directory)
             output.close_writing()
 
     def wait(self, process: int, output: Output) -> End:
         """Waits until the command exits, is late or has printed too much, and returns which of
-        these; too much counts even if it has exited. Reads what it prints meanwhile. The process
-        isn't reaped, and may still run unless it exited. CheckEnded if the check ends before."""
+        these; too much counts even if it has exited. Reads what is printed meanwhile, and calls
+        when_slow() once it takes SLOW_SECONDS. The process isn't reaped, and may still run unless
+        it exited. CheckEnded if the check ends before; what when_slow() raises passes."""
         process_wait = ProcessWait(self.poll, process, output)
         begin_time = time.monotonic()
         is_slow = False
@@ -249,9 +268,8 @@ class Checker:
                 if not is_slow and passed_seconds >= SLOW_SECONDS:
                     is_slow = True
                     self.when_slow()
-                left_seconds = self.timeout - passed_seconds
-                slow_seconds = left_seconds if is_slow else SLOW_SECONDS - passed_seconds
-                ready = process_wait.wait(min(slow_seconds, left_seconds, POLL_SECONDS))
+                due_seconds = self.timeout if is_slow else min(self.timeout, SLOW_SECONDS)
+                ready = process_wait.wait(min(due_seconds - passed_seconds, POLL_SECONDS))
                 if self.life in ready:
                     raise CheckEnded
                 has_ended = process_wait.has_ended(ready)
@@ -264,27 +282,29 @@ class Checker:
         finally:
             process_wait.close()
 
-    def failed_outcome(self, end: End, status: int, printed: str) -> Outcome:
-        """The outcome of a command that isn't good, from its end, its status as subprocess has it,
-        and the end of what it printed. No answer if it was late or printed too much; else BAD, with
-        its last line as the cause, after a signal's name if one killed it, or with the status if it
-        printed none. Cause and output are cut to CAUSE_CHARACTERS and OUTPUT_CHARACTERS."""
-        output = printed[-OUTPUT_CHARACTERS:]
-        if end is End.LATE:
-            return Outcome(NO_ANSWER, f'it had not ended after {self.timeout:g} seconds', output)
-        if end is End.FLOODED:
-            return Outcome(NO_ANSWER, f'it printed more than {MOST_BYTES >> 20} MB', output)
-        status_text = f'status {status}' if status > 0 else ending_text(status).replace('was ', '')
-        cause = last_line(printed)[:CAUSE_CHARACTERS]
-        if status < 0:
-            cause = f'{status_text}: {cause}' if cause else status_text
-        return Outcome(BAD, cause or status_text, output)
+    def outcome_of(self, ending: Ending, output: Output, directory: str) -> Outcome:
+        """The outcome of a run in a directory that left no process. No answer if it left a mount
+        that stays, was late or printed too much; GOOD if its status is 0, else BAD with
+        failure_cause(). What it printed is cut to OUTPUT_CHARACTERS, with `.` for the directory."""
+        if ending.mounted_paths:
+            path = ending.mounted_paths[0]
+            return Outcome(NO_ANSWER, f'a mount that it left can not be unmounted: {path}')
+        if ending.end is End.EXITED and ending.status == 0:
+            return GOOD_OUTCOME
+        printed_bytes = output.read_tail().replace(os.fsencode(directory), b'.')
+        printed = printed_bytes.decode('utf-8', 'replace')
+        tail = printed[-OUTPUT_CHARACTERS:]
+        if ending.end is End.LATE:
+            return Outcome(NO_ANSWER, f'it had not ended after {self.timeout:g} seconds', tail)
+        if ending.end is End.FLOODED:
+            return Outcome(NO_ANSWER, f'it printed more than {MOST_BYTES >> 20} MB', tail)
+        return Outcome(BAD, failure_cause(ending.status, printed), tail)
 
 
 class ProcessWait:
     """A wait for a process, for what it prints, and for what a poll object has already. If the
-    system has no descriptors of processes (Linux before 5.3), the process is asked every
-    LOOK_SECONDS."""
+    system has no descriptors of processes (Linux before 5.3), wait() takes at most LOOK_SECONDS,
+    and has_ended() asks the system."""
 
     def __init__(self, poll: select.poll, process: int, output: Output) -> None:
         """Adds the process and its output to the poll object: call close() in any case."""
@@ -298,8 +318,8 @@ class ProcessWait:
 
     def wait(self, seconds: float) -> Set[Optional[int]]:
         """Waits at most `seconds`. Returns the descriptors that are ready, also of those that the
-        poll object had already; maybe none. If something was printed, one piece of it is read. At
-        the end of the output's pipe that is unregistered."""
+        poll object had already; maybe none. If something was printed, one piece of it is read; at
+        the end of the output's pipe, the pipe is unregistered."""
         if self.process_descriptor is None:
             seconds = min(seconds, LOOK_SECONDS)
         ready: Set[Optional[int]] = {descriptor for descriptor, _ in self.poll.poll(seconds * 1000)}
@@ -315,13 +335,14 @@ class ProcessWait:
         return os.waitid(os.P_PID, self.process, os.WEXITED | os.WNOHANG | os.WNOWAIT) is not None
 
     def unregister(self, descriptor: int) -> None:
-        """Removes a descriptor from the poll object: it isn't waited for any more."""
+        """Removes a descriptor from the poll object, so that wait() doesn't wait for it any more.
+        KeyError if it was removed before."""
         self.descriptors.remove(descriptor)
         self.poll.unregister(descriptor)
 
     def close(self) -> None:
         """Removes all that was registered here from the poll object, and closes the descriptor of
-        the process. Call it once."""
+        the process. The output isn't closed. Call it once."""
         for descriptor in list(self.descriptors):
             self.unregister(descriptor)
         if self.process_descriptor is not None:
@@ -329,9 +350,9 @@ class ProcessWait:
 
 
 def open_process(process: int) -> Optional[int]:
-    """Opens a descriptor of a process, which can be polled for its end. None if the process is
-    gone, or if the system gives no descriptor, as before Linux 5.3 or if too many files are
-    open."""
+    """Opens a descriptor of a process, which the caller closes; it can be polled for the process's
+    end. None if the process is gone, or if the system gives no descriptor, as before Linux 5.3 or
+    if too many files are open."""
     try:
         return os.pidfd_open(process)
     except (AttributeError, OSError):
@@ -339,39 +360,30 @@ def open_process(process: int) -> Optional[int]:
 
 
 def reap_child(process: int) -> int:
-    """Waits for a child's end, without limit, and returns its status as subprocess has it."""
+    """Waits for a child's end, without limit, and returns the child's status as subprocess has it.
+    ChildProcessError if it is no child, or was reaped before."""
     return os.waitstatus_to_exitcode(os.waitpid(process, 0)[1])
 
 
+def failure_cause(status: int, printed: str) -> str:
+    """The cause of a command that failed: the last line of what it printed, after the name of a
+    signal if one killed it, as `ended by SIGKILL: ..`. Without a line it is the status or the
+    signal. The line is cut to CAUSE_CHARACTERS; the status is as subprocess has it."""
+    cause = last_line(printed)[:CAUSE_CHARACTERS]
+    if status > 0:
+        return cause or f'status {status}'
+    signal_text = ending_text(status).replace('was ', '')
+    return f'{signal_text}: {cause}' if cause else signal_text
+
+
 def refuse_left_processes(left_processes: Dict[int, str]) -> None:
-    """Raises LeftRunning if left_processes isn't empty: it has the names of the programs of
-    processes that could not be ended, by the numbers of the processes."""
+    """Raises LeftRunning if there are left_processes: these could not be ended, and have the names
+    of their programs by their numbers."""
     if left_processes:
         names = descendants.processes_text(left_processes)
         raise LeftRunning(f'a process that COMMAND left could not be ended: {names}')
 
 
-def limit_inherited_descriptors() -> None:
-    """Makes commands that are started later inherit only the descriptors 0 to 2. All others that
-    are open now become close-on-exec. Those of 0 to 2 that are closed are opened, as /dev/null.
-    OSError without /proc or /dev/null."""
-    while True:
-        descriptor = os.open(os.devnull, os.O_RDWR | os.O_CLOEXEC)
-        if descriptor > 2:
-            break
-        os.set_inheritable(descriptor, True)
-    for name in os.listdir('/proc/self/fd'):
-        if int(name) > 2:
-            try:
-                os.set_inheritable(int(name), False)
-            except OSError:
-                continue
-    os.close(descriptor)
-
-
 def kill_group(group: int) -> None:
     """Kills the processes of a process group, except those that this user may not kill."""
-    try:
-        os.killpg(group, signal.SIGKILL)
-    except OSError:
-        pass
+    descendants.try_to_kill(os.killpg, group)
