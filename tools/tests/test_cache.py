@@ -16,7 +16,7 @@ from crashfs_tools.checker.running import cache as outcome_cache
 from crashfs_tools.checker.running.cache import (
     OutcomeCache,
     StateKeys,
-    open_folder,
+    require_folder,
     read_values,
     write_values,
 )
@@ -64,13 +64,14 @@ class Files(InFolder):
         self.assertEqual(read_values(self.path('link.json')), {})
 
     def test_a_folder_that_others_may_write_is_refused(self) -> None:
-        self.assertTrue(os.path.isdir(open_folder(self.path('new', 'cache'))))
+        require_folder(self.path('new', 'cache'))
+        self.assertTrue(os.path.isdir(self.path('new', 'cache')))
         os.mkdir(self.path('open'))
         os.chmod(self.path('open'), 0o777)
         with self.assertRaisesRegex(Refused, 'others may write it'):
-            open_folder(self.path('open'))
+            require_folder(self.path('open'))
         with self.assertRaisesRegex(Refused, '^--cache .*/file is no directory$'):
-            open_folder(self.write('file', ''))
+            require_folder(self.write('file', ''))
 
     def test_what_gave_no_answer_or_was_not_confirmed_is_not_kept(self) -> None:
         cache = OutcomeCache(self.folder, 'n')

@@ -207,14 +207,14 @@ class Check:
         of all windows. If it isn't known which files COMMAND opens, or one of them has changed,
         COMMAND is run under strace in the first and the last prefix. Refused if the directory can't
         be used, or COMMAND can't be traced; OSError if the list of files can't be written."""
-        from crashfs_tools.checker.running.cache import OutcomeCache, open_folder
+        from crashfs_tools.checker.running.cache import OutcomeCache, require_folder
         from crashfs_tools.checker.running.command_files import command_name
 
-        folder = open_folder(path)
+        require_folder(path)
         prefixes = [state.number for state in trials.plan.states if state.family == 'prefix']
         first_and_last = [prefixes[0], prefixes[-1]]
-        name = command_name(folder, self.options.command, first_and_last, trials.run_words)
-        trials.workplace.cache = OutcomeCache(folder, name)
+        name = command_name(path, self.options.command, first_and_last, trials.run_words)
+        trials.workplace.cache = OutcomeCache(path, name)
 
     def save_cache(self) -> None:
         """Writes the outcomes for later checks, and counts in the report those that came from
@@ -236,7 +236,7 @@ class Check:
         if place < len(earlier.windows):
             if earlier.windows[place].identity() != results.identity():
                 raise Refused(OTHER_CHECK)
-            results.take_earlier(earlier.windows[place])
+            results.take_earlier_results(earlier.windows[place])
 
     def make_saver(self, results: Results, *, has_rest: bool) -> Callable[[], None]:
         """Returns a function to call after each state of a window; has_rest says whether the

@@ -36,8 +36,8 @@ class OutcomeCache:
     the file's name. hits counts outcomes of earlier checks that were used, each once."""
 
     def __init__(self, folder: str, name: str) -> None:
-        """Reads the file. One that isn't there, or that read_values() doesn't accept, counts as
-        empty."""
+        """Reads the file. A file that isn't there, or that read_values() doesn't accept, counts as
+        empty. Nothing is written before save()."""
         self.path = os.path.join(folder, f'outcomes-{name}.json')
         self.earlier_outcomes: Dict[str, List[str]] = read_values(self.path)
         self.used_outcomes: Dict[str, List[str]] = {}
@@ -45,9 +45,9 @@ class OutcomeCache:
         self.hits = 0
 
     def look_up(self, key: str) -> Optional[Outcome]:
-        """Returns the outcome of the state with a key, from this check or an earlier one; None if
-        it isn't known, or if what the file has there is no outcome. The outcome is kept for later
-        checks. It counts as a hit the first time, if it is of an earlier check."""
+        """Returns the outcome for a key, of this check or of an earlier one; None if there is none,
+        or if what the file has for the key is no outcome. The outcome is kept for later checks. The
+        first use of an outcome of an earlier check counts as a hit."""
         fields = self.used_outcomes.get(key) or self.earlier_outcomes.get(key)
         if fields is None or len(fields) != 3 or fields[0] not in (GOOD, BAD):
             return None
@@ -56,7 +56,7 @@ class OutcomeCache:
         return Outcome(*fields)
 
     def add(self, key: str, outcome: Outcome) -> None:
-        """Keeps the outcome of this check for a key, in memory until save(). That a state gave no
+        """Keeps the outcome of this check for a key, in memory until save(). An outcome without an
         answer isn't kept."""
         if outcome.result in (GOOD, BAD):
             self.used_outcomes[key] = list(outcome)
@@ -69,10 +69,10 @@ class OutcomeCache:
         self.dropped_keys.add(key)
 
     def save(self) -> None:
-        """Reads the file again, and replaces it. Outcomes of other checks stay in it, unless they
-        were dropped here; those that this check used or added come last. Of more than MOST_OUTCOMES
-        the first ones of other checks are left out. Waits while another check saves. OSError if the
-        file can't be written."""
+        """Reads the file again, and replaces it. Outcomes of other checks stay in the file, unless
+        they were dropped here; those that this check used or added come last. Of more than
+        MOST_OUTCOMES the first ones of other checks are left out. Waits while another check saves.
+        OSError as folder_lock() and write_values()."""
         with folder_lock(os.path.dirname(self.path)):
             own_keys = {*self.used_outcomes, *self.dropped_keys}
             other_outcomes = [
@@ -98,9 +98,9 @@ class StateKeys:
         self.acknowledged = acknowledged
 
     def key(self, number: int, attempt: int) -> str:
-        """The key of a listed state of the plan: a digest of its tree, of the acknowledged lines,
-        of the size of blocks, and of `attempt`, which is 0 for COMMAND's first run in the state and
-        differs for each further run."""
+        """The key of the listed state of a number: a digest of its tree, of its acknowledged lines,
+        of the size of blocks, and of `attempt`, which is 0 for COMMAND's first run in the state,
+        and another number for each further run."""
         state = self.plan.state(number)
         tree = self.states.digest(self.plan.kept[number])
         lines = self.acknowledged[: state.says]
@@ -108,9 +108,9 @@ class StateKeys:
         return hashlib.sha256(text.encode('utf-8', 'surrogateescape')).hexdigest()
 
 
-def open_folder(path: str) -> str:
-    """Returns the path of a cache's directory, after making it with the mode 700 if it isn't there.
-    Refused if it can't be made, is no directory, belongs to another user, or others may write
+def require_folder(path: str) -> None:
+    """Makes the directory of a cache, with the mode 700, and those above it, unless it is there.
+    Refused if it can't be made, is no directory, belongs to another user, or if others may write in
     it."""
     try:
         os.makedirs(path, mode=0o700, exist_ok=True)
@@ -121,13 +121,12 @@ def open_folder(path: str) -> str:
         raise Refused(f'--cache {path}: {error.strerror}') from error
     if status.st_uid != os.geteuid() or status.st_mode & WRITABLE_BY_OTHERS:
         raise Refused(f'--cache {path}: others may write it')
-    return path
 
 
 @contextmanager
 def folder_lock(folder: str) -> Iterator[None]:
-    """Holds the lock of a folder within the `with`: only one process has it at a time. Waits for it
-    without limit. OSError if the folder can't be opened, or its file system has no locks."""
+    """Holds the lock of a folder within the `with`: only one process has the lock at a time. Waits
+    for it without limit. OSError if the folder can't be opened, or its file system has no locks."""
     descriptor = os.open(folder or '.', FOLDER)
     try:
         fcntl.flock(descriptor, fcntl.LOCK_EX)
@@ -138,8 +137,8 @@ def folder_lock(folder: str) -> Iterator[None]:
 
 def read_values(path: str) -> Dict[str, Any]:
     """The values that write_values() wrote to a file. An empty map if the file can't be read, is a
-    symbolic link, isn't whole or is of another FORMAT, or if another user owns it or may write
-    it."""
+    symbolic link, isn't whole or is of another FORMAT, or if another user owns the file or may
+    write it."""
     try:
         with open(os.open(path, os.O_RDONLY | os.O_NOFOLLOW | os.O_CLOEXEC), 'rb') as file:
             status = os.fstat(file.fileno())

@@ -30,7 +30,7 @@ Value = TypeVar('Value')
 
 def read_json(path: str) -> AllResults:
     """The results in a file of --json, also of a check that was stopped or still runs. Refused if
-    the file can't be read, isn't of --json, or is of another FORMAT."""
+    the file can't be read, wasn't written by --json, or is of another FORMAT."""
     try:
         with open(path, encoding='utf-8', errors='surrogateescape') as file:
             fields = json.load(file)
@@ -48,8 +48,8 @@ def read_json(path: str) -> AllResults:
 
 def parse_head(fields: Dict[str, Any]) -> Head:
     """The head of a report, from the fields of the whole report. What older reports lack is False
-    or 0. Like all parsers below it raises a ValueError, KeyError, TypeError or AttributeError for
-    fields that a check doesn't write."""
+    or 0. Like all parsers of fields here, it raises a ValueError, KeyError, TypeError or
+    AttributeError for fields that a check doesn't write."""
     if parse_integer(fields['crashfs-check']) != FORMAT:
         raise ValueError('another format')
     part, parts = parse_pair(fields['shard'])
@@ -74,15 +74,15 @@ def parse_head(fields: Dict[str, Any]) -> Head:
 
 
 def options_with_findings(fields: Dict[str, Any]) -> Tuple[str, ...]:
-    """The options among `--nested` and `--disks` of which a whole report has findings. The form of
-    the findings isn't checked."""
+    """Those of the options `--nested` and `--disks` of which a report has findings, from the fields
+    of the whole report. The form of the findings isn't checked."""
     findings_by_option = {'--nested': fields.get('recoveries'), '--disks': fields.get('disks')}
     return tuple(option for option, findings in findings_by_option.items() if findings)
 
 
 def parse_window(fields: Dict[str, Any]) -> Results:
-    """The results of a window from its fields; errors as in parse_head(). A report of older tools
-    may lack second runs, chosen states and seconds: these are then empty, None and 0."""
+    """The results of a window from its fields; exceptions as in parse_head(). A report of older
+    tools may lack second runs, chosen states and seconds: these are then empty, None and 0."""
     plan = parse_plan(fields)
     return Results(
         plan,
@@ -95,8 +95,8 @@ def parse_window(fields: Dict[str, Any]) -> Results:
 
 
 def parse_chosen_numbers(plan: Plan, value: Any) -> Optional[FrozenSet[int]]:
-    """The numbers of the chosen states, which must be states of the plan; None if none were chosen,
-    so that all are tried. ValueError for anything else."""
+    """The numbers of the chosen states, which must be states of the plan; None for None: there was
+    no choice, so that all are tried. ValueError for anything else."""
     numbers = None if value is None else frozenset(map(parse_integer, parse_items(value)))
     if numbers is not None and not all(map(plan.has_state, numbers)):
         raise ValueError('no state of the plan')
@@ -111,9 +111,8 @@ def parse_seconds(value: Any) -> float:
 
 
 def parse_plan(fields: Dict[str, Any]) -> Plan:
-    """The plan of a window from its fields; all_states and profiles may be missing. ValueError
-    unless states are numbered on from `first`, each prefix is there, the shorter ones first, and no
-    micro-operation needs a later one. Whether `same` is a state of the plan isn't checked."""
+    """The plan of a window from its fields; all_states and profiles may be missing. Exceptions as
+    in parse_head(), among them those of parse_states() and parse_needs()."""
     operations = [
         PlannedMicroOperation(
             *parse_record(item, parse_integer, parse_text, parse_text, parse_text, parse_integer)
@@ -121,26 +120,36 @@ def parse_plan(fields: Dict[str, Any]) -> Plan:
         for item in parse_items(fields['operations'])
     ]
     first = parse_integer(fields['first'])
+    listed = parse_states(fields['states'], first, len(operations))
+    needs = parse_needs(fields['needs'], len(operations))
+    all_states = parse_all_states(fields.get('all_states'), range(first, first + len(listed)))
+    profiles = parse_set_profiles(fields.get('profiles', [[], [], '']), len(listed))
+    return Plan(operations, listed, needs, first, all_states, profiles)
+
+
+def parse_states(values: Any, first: int, operation_count: int) -> List[State]:
+    """The listed states of a plan with operation_count micro-operations. ValueError unless they are
+    numbered on from `first`, and each prefix is there, the shorter ones first. Whether `same` is
+    the number of a listed state isn't checked."""
     listed = [
-        parse_state(item, number, len(operations))
-        for number, item in enumerate(parse_items(fields['states']), first)
+        parse_state(value, number, operation_count)
+        for number, value in enumerate(parse_items(values), first)
     ]
-    ends = [item.numbers[0] for item in listed if item.family == 'prefix']
-    if ends != list(range(len(operations) + 1)):
+    ends = [state.numbers[0] for state in listed if state.family == 'prefix']
+    if ends != list(range(operation_count + 1)):
         raise ValueError('other prefixes')
-    masks = [int(parse_text(mask), 16) for mask in parse_items(fields['needs'])]
-    if len(masks) != len(operations) or any(
+    return listed
+
+
+def parse_needs(values: Any, operation_count: int) -> Needs:
+    """What each of operation_count micro-operations needs, from texts of hexadecimal digits.
+    ValueError for anything else, and if one needs a later one."""
+    masks = [int(parse_text(value), 16) for value in parse_items(values)]
+    if len(masks) != operation_count or any(
         not 0 <= mask < 2 << place for place, mask in enumerate(masks)
     ):
         raise ValueError('needs are of micro-operations, and of earlier ones')
-    all_states_value = fields.get('all_states')
-    all_states = (
-        None
-        if all_states_value is None
-        else parse_all_states(all_states_value, lambda item: first <= item < first + len(listed))
-    )
-    profiles = parse_set_profiles(fields.get('profiles', [[], [], '']), len(listed))
-    return Plan(operations, listed, Needs(masks), first, all_states, profiles)
+    return Needs(masks)
 
 
 def parse_set_profiles(value: Any, state_count: int) -> SetProfiles:
@@ -154,9 +163,11 @@ def parse_set_profiles(value: Any, state_count: int) -> SetProfiles:
     return SetProfiles(names, allowed, wanted)
 
 
-def parse_all_states(value: Any, has_state: Callable[[int], bool]) -> AllStates:
-    """What is known of all crash states. The drawn states must be states of the plan: has_state()
-    says whether a number is that of one. ValueError for anything else."""
+def parse_all_states(value: Any, plan_numbers: range) -> Optional[AllStates]:
+    """What is known of all crash states; None for None, if only families were asked for. The drawn
+    states must be among the numbers of the plan's states. ValueError for anything else."""
+    if value is None:
+        return None
     sets, are_listed, are_read, most_states, families, drawn = parse_record(
         value,
         parse_count_or_none,
@@ -166,7 +177,7 @@ def parse_all_states(value: Any, has_state: Callable[[int], bool]) -> AllStates:
         parse_integer,
         parse_items,
     )
-    if not all(map(has_state, map(parse_integer, drawn))):
+    if not all(parse_integer(number) in plan_numbers for number in drawn):
         raise ValueError('no state of the plan')
     return AllStates(sets, are_listed, are_read, most_states, families, tuple(drawn))
 
@@ -179,7 +190,7 @@ def parse_count_or_none(value: Any) -> Optional[int]:
 
 
 def parse_state(value: Any, number: int, operation_count: int) -> State:
-    """A state of a plan with operation_count micro-operations, which must have this number, and
+    """A state of a plan with operation_count micro-operations. The state must have this number, and
     places that a state of its family can have. ValueError for anything else."""
     own_number, family, numbers, says, same = parse_record(
         value, parse_integer, parse_text, parse_items, parse_integer, parse_integer
@@ -211,9 +222,9 @@ def parse_outcome(value: Any) -> Outcome:
 def parse_values_by_state(
     plan: Plan, values: Dict[str, Any], parse_value: Callable[[Any], Value]
 ) -> Dict[int, Value]:
-    """A map of values by the numbers of states, which must be in the plan. parse_value() checks
-    each value. ValueError for another key, AttributeError if `values` is no map, and what
-    parse_value() raises."""
+    """A map of values by the numbers of states of the plan, from a map whose keys are their digits.
+    parse_value() checks each value. ValueError for another key, AttributeError if `values` is no
+    map, and what parse_value() raises."""
     values_by_state = {int(number): parse_value(value) for number, value in values.items()}
     if not all(map(plan.has_state, values_by_state)):
         raise ValueError('no state of the plan')
@@ -222,7 +233,7 @@ def parse_values_by_state(
 
 def parse_record(values: Any, *parsers: Parse) -> Tuple[Any, ...]:
     """The items of a list, each checked by the parser at its place. ValueError for what is no list,
-    or has more or fewer items than there are parsers; and what these raise."""
+    or has more or fewer items than there are parsers; and what the parsers raise."""
     if len(parse_items(values)) != len(parsers):
         raise ValueError('a list of another length')
     return tuple(parse(item) for parse, item in zip(parsers, values))

@@ -53,7 +53,7 @@ class Head:
             'shard': [self.shard.part, self.shard.parts],
             'stopped': self.stopped,
             'has_rest': self.has_rest,
-            'cut_off': [list(one) for one in self.cut_off],
+            'cut_off': [list(pair) for pair in self.cut_off],
             'lines': [list(line) for line in self.lines.values()],
         }
 
@@ -78,24 +78,24 @@ class Results:
 
     def __post_init__(self) -> None:
         """Computes, once, what is tried: plan and numbers_before must not change later. Of the
-        states of a trial the first one is tried, unless the window before has another one of
-        them."""
-        self.own_states = [one for one in self.plan.states if one.number not in self.numbers_before]
+        states of a trial the first one is tried, unless the window before has one of them: then the
+        first of those was tried there."""
+        states, numbers_before = self.plan.states, self.numbers_before
+        self.own_states = [state for state in states if state.number not in numbers_before]
+        shared_states = [state for state in states if state.number in numbers_before]
         self.tried_numbers: Dict[Trial, int] = {}
-        for state in sorted(
-            self.plan.states, key=lambda one: one.number not in self.numbers_before
-        ):
+        for state in (*shared_states, *self.own_states):
             self.tried_numbers.setdefault(state.trial, state.number)
         self.own_numbers = {
             trial: number
             for trial, number in self.tried_numbers.items()
-            if number not in self.numbers_before
+            if number not in numbers_before
         }
 
     def outcomes_by_state(self, outcomes_before: Dict[int, Outcome]) -> Dict[int, Outcome]:
         """The outcomes of the plan's states by their numbers: each has that of its trial, which was
-        tried here or in the window before. outcomes_before is what this method returned for that
-        window. States without an outcome yet are left out."""
+        tried here or in the window before. outcomes_before is what this method returned for the
+        window before; empty for the first. States without an outcome yet are left out."""
         outcomes = {}
         for state in self.plan.states:
             number = self.tried_numbers[state.trial]
@@ -110,8 +110,8 @@ class Results:
 
     @cached_property
     def numbers_by_set(self) -> Dict[int, Set[int]]:
-        """For each set the numbers of the states that are tried for it. Sets whose states the
-        window before tries are left out."""
+        """For each set of the plan's states the numbers of the states that are tried here for it.
+        Sets whose states the window before tries are left out."""
         numbers_by_set: Dict[int, Set[int]] = {}
         for state in self.plan.states:
             number = self.own_numbers.get(state.trial)
@@ -128,18 +128,20 @@ class Results:
     @property
     def wanted_numbers(self) -> List[int]:
         """The numbers of the states to try here, in the plan's order: one for each trial, or the
-        chosen ones of these. They are those of all shards, and may have outcomes already."""
+        chosen ones of these. The numbers are those of all shards; some may have outcomes
+        already."""
         numbers, chosen = self.own_numbers.values(), self.chosen_numbers
         return [number for number in numbers if chosen is None or number in chosen]
 
     def choose(self, batches: Iterable[Set[int]]) -> None:
-        """Chooses the states in some batches, and those that have an outcome already: no others are
-        tried any more. An earlier choice is dropped."""
+        """Chooses the states in some batches, by their numbers, and those that have an outcome
+        already: no others are tried any more. An earlier choice is dropped."""
         self.chosen_numbers = frozenset(self.outcomes).union(*batches)
 
-    def take_earlier(self, earlier: Results) -> None:
-        """Takes the choice and seconds_per_state of an earlier check, whose plan must be equal, and
-        adds its outcomes. States without an answer are tried again, and second runs too."""
+    def take_earlier_results(self, earlier: Results) -> None:
+        """Takes the choice and seconds_per_state from the results of an earlier check, whose plan
+        must be equal, and adds its outcomes, except those without an answer, which are tried again.
+        Second runs aren't taken."""
         self.chosen_numbers = earlier.chosen_numbers
         self.seconds_per_state = earlier.seconds_per_state
         self.outcomes.update(
@@ -171,12 +173,12 @@ class Results:
             'profiles': list(self.plan.profiles),
             'chosen': None if self.chosen_numbers is None else sorted(self.chosen_numbers),
             'seconds': round(self.seconds_per_state, 4) if self.is_part else 0,
-            'outcomes': {str(state): list(one) for state, one in sorted(self.outcomes.items())},
-            'reruns': {str(state): list(one) for state, one in sorted(self.reruns.items())},
-            'known': {str(state): other for state, other in self.numbers_before.items()},
+            'outcomes': outcome_fields(self.outcomes),
+            'reruns': outcome_fields(self.reruns),
+            'known': {str(number): before for number, before in self.numbers_before.items()},
             'needs': [f'{mask:x}' for mask in self.plan.needs.masks],
-            'operations': [list(one) for one in self.plan.operations],
-            'states': [list(one) for one in self.plan.listed],
+            'operations': [list(operation) for operation in self.plan.operations],
+            'states': [list(state) for state in self.plan.listed],
         }
 
 
@@ -190,6 +192,18 @@ class AllResults:
     windows: List[Results]
     options_with_findings: Tuple[str, ...] = ()
     not_done: Tuple[str, ...] = ()
+
+    def add_outcomes(self, other: AllResults) -> None:
+        """Adds to the windows the outcomes and second runs that another shard of the check has of
+        them, in place. Further windows of the other shard are ignored."""
+        for own_window, window in zip(self.windows, other.windows):
+            own_window.outcomes.update(window.outcomes)
+            own_window.reruns.update(window.reruns)
+
+
+def outcome_fields(outcomes: Dict[int, Outcome]) -> Dict[str, List[str]]:
+    """What a file of --json has of outcomes by the numbers of states, ascending."""
+    return {str(number): list(outcome) for number, outcome in sorted(outcomes.items())}
 
 
 def known_states(plan_before: Plan, plan: Plan) -> Dict[int, int]:
@@ -221,57 +235,64 @@ def refuse_wrong_shards(parts: List[int], count: int) -> None:
 
 def refuse_different_commands(commands: List[List[str]]) -> None:
     """Refused unless all commands have equal words; only the directories of their programs may
-    differ."""
+    differ. There must be at least one command."""
     first, *others = (
         [os.path.basename(words[0]), *words[1:]] if words else [] for words in commands
     )
     for other in others:
         if other != first:
-            shown = ' and '.join(map(shlex.join, (first, other)))
-            raise Refused(f'the reports are of different COMMANDs: {shown}')
+            both = ' and '.join(map(shlex.join, (first, other)))
+            raise Refused(f'the reports are of different COMMANDs: {both}')
 
 
 def merge_shards(shards: List[AllResults]) -> AllResults:
     """The results of all shards of one check as one. The windows are those of a shard with the
-    most, which are changed: they get the outcomes and second runs of all. not_done is that of all;
-    options_with_findings is dropped. The head is unproved if one shard's is; its `stopped` is that
-    of the first stopped shard, or says that a window lacks outcomes. A shard that was stopped may
-    have fewer windows. Refused if a shard is missing, given twice, or of another check."""
+    most, which are changed: they get the outcomes and second runs of all. The head is that of
+    merged_head(). not_done is that of all; options_with_findings is dropped. A shard that was
+    stopped may have fewer windows. Refused if a shard is missing, given twice, or of another
+    check; ValueError if there are no shards."""
     longest = max(shards, key=lambda shard: len(shard.windows))
     for shard in shards:
         refuse_different_checks(longest, shard)
     refuse_different_commands([shard.head.command for shard in shards])
     refuse_wrong_shards([shard.head.shard.part for shard in shards], longest.head.shard.parts)
     for shard in shards:
-        for merged_window, window in zip(longest.windows, shard.windows):
-            merged_window.outcomes.update(window.outcomes)
-            merged_window.reruns.update(window.reruns)
-    head = replace(
+        longest.add_outcomes(shard)
+    not_done = dict.fromkeys(line for shard in shards for line in shard.not_done)
+    return AllResults(merged_head(longest, shards), longest.windows, not_done=tuple(not_done))
+
+
+def merged_head(longest: AllResults, shards: List[AllResults]) -> Head:
+    """One head for all shards of a check, from that of `longest`: a shard with the most windows,
+    which must have the outcomes of all by now. The head is unproved if one shard's is, and has_rest
+    if that of a shard with the most windows has. Its `stopped` is that of the first stopped shard,
+    or says that a window lacks outcomes."""
+    heads = [shard.head for shard in shards]
+    stopped = next((head.stopped for head in heads if head.stopped), '')
+    if not stopped and not all(window.is_whole for window in longest.windows):
+        stopped = 'a part without all outcomes'
+    return replace(
         longest.head,
         shard=Shard(),
-        unproved=any(shard.head.unproved for shard in shards),
-        refused_version=max(shard.head.refused_version for shard in shards),
+        unproved=any(head.unproved for head in heads),
+        refused_version=max(head.refused_version for head in heads),
         has_rest=any(
             shard.head.has_rest for shard in shards if len(shard.windows) == len(longest.windows)
         ),
-        stopped=next((shard.head.stopped for shard in shards if shard.head.stopped), ''),
+        stopped=stopped,
     )
-    if not head.stopped and not all(window.is_whole for window in longest.windows):
-        head.stopped = 'a part without all outcomes'
-    not_done = dict.fromkeys(line for shard in shards for line in shard.not_done)
-    return AllResults(head, longest.windows, not_done=tuple(not_done))
 
 
 def refuse_different_checks(first: AllResults, other: AllResults) -> None:
     """Refused unless two reports are shards of one check: their traces and numbers of shards are
     equal, and so are plans and profiles of the windows that both have. `first` must have at least
     as many windows as `other`."""
-    plans = [
+    first_windows, other_windows = (
         [window.identity() for window in results.windows[: len(other.windows)]]
         for results in (first, other)
-    ]
-    if plans[0] != plans[1] or (other.head.digest, other.head.shard.parts) != (
-        first.head.digest,
-        first.head.shard.parts,
-    ):
+    )
+    first_check, other_check = (
+        (results.head.digest, results.head.shard.parts) for results in (first, other)
+    )
+    if first_windows != other_windows or first_check != other_check:
         raise Refused('the reports are not shards of one check')
