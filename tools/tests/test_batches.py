@@ -134,7 +134,7 @@ class Paces(unittest.TestCase):
             for number in range(2 * MEASURED_STATES):
                 now[0] += each
                 try:
-                    pace.note_tried()
+                    pace.count_state()
                 except TooSlow:
                     found.append(number)
             self.assertEqual(found, [MEASURED_STATES - 1] if is_slow else [])

@@ -356,7 +356,7 @@ class Progress(unittest.TestCase):
                     shown.add_outcome(Outcome(GOOD))
                 shown.end_part()
                 shown.show_moments(1, 1)
-            self.assertEqual((shown.tried_count, full.call_count), (2, 1))
+            self.assertEqual((shown.pace.tried_count, full.call_count), (2, 1))
             full.reset_mock()
 
     def test_durations_are_rounded(self):

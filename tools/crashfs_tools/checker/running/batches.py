@@ -9,19 +9,18 @@ from crashfs_tools.checker.states.plan import Plan
 from .results import Results
 
 
-def states_in_batches(results: Results, has_all: bool) -> List[Set[int]]:
+def states_in_batches(results: Results, *, has_all: bool) -> List[Set[int]]:
     """The numbers of the states to try, in batches that are tried one after the other: each number
     once, one for each trial, and no batch empty. First come the families, then what was drawn at
-    random and, if has_all is set, all others. They are those of all shards, and may have outcomes
-    already."""
+    random and, if has_all is set, all other states. The numbers are those of all shards; some may
+    have outcomes already."""
     plan = results.plan
+    sets_of_batches = [*family_batches(plan), drawn_sets(plan)]
+    if has_all:
+        sets_of_batches.append(list(plan.kept.values()))
     batches: List[Set[int]] = []
     earlier_numbers: Set[int] = set()
-    for sets in [
-        *family_batches(plan),
-        drawn_sets(plan),
-        *([plan.kept.values()] if has_all else []),
-    ]:
+    for sets in sets_of_batches:
         batch = states_tried_for(results, sets) - earlier_numbers
         earlier_numbers |= batch
         if batch:
@@ -30,18 +29,18 @@ def states_in_batches(results: Results, has_all: bool) -> List[Set[int]]:
 
 
 def states_tried_for(results: Results, sets: Iterable[int]) -> Set[int]:
-    """The numbers of the states that are tried for some sets. There is none for a set that the plan
-    doesn't list, or that the window before tries."""
+    """The numbers of the states that are tried for some sets; none for a set that the plan doesn't
+    list, or that the window before tries."""
     numbers_by_set = results.numbers_by_set
     return {number for members in sets for number in numbers_by_set.get(members, ())}
 
 
 def family_batches(plan: Plan) -> Iterator[List[int]]:
-    """The sets of eight batches: prefixes that end at an acknowledged line, the start and the end;
-    each micro-operation with all that it needs; for each operation all that can be without it;
-    holes that end at an acknowledged line; picks; all prefixes; for some blocks of torn writes all
-    that can be without the block; holes, the last one first, but none of a torn write's blocks.
-    Sets may come again, or not be listed."""
+    """The sets of eight batches: prefixes that end at an acknowledged line, the start or the end;
+    each micro-operation with all that it needs; for each operation the largest set without it;
+    holes that end at an acknowledged line; picks; all prefixes; for some blocks of torn writes the
+    largest set without the block; holes, the last one first, but none of a torn write's block. A
+    set may come several times, or not be listed."""
     line_ends = {
         place + 1 for place, operation in enumerate(plan.operations) if operation.kind == 'say'
     }
@@ -78,8 +77,8 @@ def torn_places(plan: Plan) -> Dict[int, List[int]]:
 
 
 def sample_places(torn_writes: Dict[int, List[int]]) -> List[int]:
-    """The places of the first, the middle and the last block of each torn write, each once.
-    torn_writes is what torn_places() returns."""
+    """The places of the first, the middle and the last block of each torn write, each place once.
+    torn_writes must be what torn_places() returns."""
     writes = {places[0]: places for places in torn_writes.values()}
     return [
         place
@@ -89,6 +88,7 @@ def sample_places(torn_writes: Dict[int, List[int]]) -> List[int]:
 
 
 def drawn_sets(plan: Plan) -> List[int]:
-    """The sets that were drawn at random, in their order; none if the plan has no drawn states."""
+    """The sets that were drawn at random, in the order of the draw; none if the plan has no drawn
+    states."""
     numbers = plan.all_states.drawn if plan.all_states is not None else ()
     return [plan.kept[number] for number in numbers]

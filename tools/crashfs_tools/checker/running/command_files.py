@@ -40,9 +40,9 @@ RunInState = Callable[[List[str], int], Tuple[Outcome, str]]
 
 def command_name(folder: str, words: List[str], states: List[int], run_in_state: RunInState) -> str:
     """A name for a command: equal for equal words that open equal files, under the same version of
-    these tools, in whatever environment. A file of the folder has the list of the opened files. If
-    there is none, or one of the files has changed, the command runs under strace in some states,
-    given by their numbers. Refused as opened_files(); OSError if the list can't be written."""
+    these tools, in whatever environment. The list of the opened files is kept in the folder. If
+    there is none, or a listed file has changed, the command runs under strace in the states of some
+    numbers. Exceptions as in opened_files(); OSError if the list can't be written."""
     list_path = os.path.join(folder, f'command-{digest_of_text(json.dumps(words))}.json')
     digests: Dict[str, str] = read_values(list_path)
     if not digests or any(digest_of_file(name) != digest for name, digest in digests.items()):
@@ -53,10 +53,10 @@ def command_name(folder: str, words: List[str], states: List[int], run_in_state:
 
 
 def opened_files(words: List[str], state: int, run_in_state: RunInState) -> Set[str]:
-    """The paths of the files that a command opens in a state, or looks for and doesn't find. Files
-    of the state itself, of /proc and of /sys, directories and devices are left out. Refused if
-    strace isn't installed or shows no file, or if the command was killed: what it would have opened
-    later isn't known. What run_in_state() raises passes."""
+    """The paths of the files that a command opens in the state of a number, or looks for and
+    doesn't find. Files of the state itself, of /proc and of /sys, directories and devices are left
+    out. Refused if strace isn't installed or shows no file, or if the command was killed: what it
+    would have opened later isn't known. What run_in_state() raises passes."""
     strace = shutil.which('strace')
     if strace is None:
         raise Refused('--cache needs strace, which shows the files that COMMAND opens')
@@ -76,17 +76,17 @@ def opened_files(words: List[str], state: int, run_in_state: RunInState) -> Set[
 
 
 def has_exited(lines: List[str]) -> bool:
-    """Whether the first process in a log of strace exited by itself; False for an empty log. strace
-    continues as long as there are processes that the first one left."""
+    """Whether the first process in the lines of a log of strace exited by itself; False for an
+    empty log. The log may go on after that, with processes that the first one left."""
     exited = {match[1] for match in map(EXITED.match, lines) if match}
     return bool(lines) and lines[0].split(' ', 1)[0] in exited
 
 
 def opened_paths(lines: Iterable[str]) -> Iterator[str]:
-    """The paths of the files that a log of strace shows as opened or looked for; some come several
-    times. Links aren't followed: they may lead to another file later. Files that are only written
-    are left out, and so are relative paths if the log lacks their directory, as for open and
-    execve. A compiled module of Python counts as its source, if that is there."""
+    """The absolute paths of the files that a log of strace shows as opened or looked for; some come
+    several times. Links aren't followed: they may lead to another file later. Files that are only
+    written are left out, and so are relative paths if the log lacks their directory, as for open
+    and execve. A compiled module of Python counts as its source, if that is there."""
     for line in lines:
         match = OPENED.search(line)
         if match is None or 'O_WRONLY' in line:
@@ -99,9 +99,10 @@ def opened_paths(lines: Iterable[str]) -> Iterator[str]:
 
 
 def interpreters(script: str) -> Iterator[str]:
-    """The program that the first line of a script names and, if that is a script too, the one that
-    it names, and so on: strace doesn't show that the system opens them. Ends at a relative path,
-    and at a file that is no script or can't be read. A pipe without a writer is waited for."""
+    """The paths of a script's interpreters: the program that its first line names, the one that the
+    first line of that program names, and so on, at most MOST_INTERPRETERS. strace doesn't show that
+    the system opens them. Ends at a relative path, and at a file that is no script or can't be
+    read. Waits for a writer if the file is a pipe."""
     for _ in range(MOST_INTERPRETERS):
         try:
             with open(script, 'rb') as file:
@@ -118,7 +119,7 @@ def interpreters(script: str) -> Iterator[str]:
 
 def unescape(escaped: str) -> str:
     """The path that strace shows as a text in which quotes, backslashes and all but printable
-    ASCII are escapes of C, such as `\\303`."""
+    ASCII are escapes of C, such as `\\303`. ValueError for other escapes than those of bytes."""
     return os.fsdecode(os.fsencode(escaped).decode('unicode_escape').encode('latin-1'))
 
 

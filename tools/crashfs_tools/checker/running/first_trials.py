@@ -4,7 +4,7 @@ so it is COMMAND that is wrong if it doesn't."""
 from __future__ import annotations
 
 import os
-from typing import Dict, List, Optional
+from typing import List, Optional
 
 from crashfs_tools.checker.states.plan import PlannedTrace, State
 from crashfs_tools.common.command import Refused, relative_path_arguments
@@ -15,9 +15,8 @@ from .trials import Trials
 
 
 class FirstTrials:
-    """Tries the tree at the session's end and the start tree. If the plan of the trials, which is
-    that of a window, doesn't have the tree at the end, end_plan does: the plan of a trace that has
-    only that tree."""
+    """Tries the tree at the session's end and the start tree. end_plan is the plan of a trace that
+    has only the tree at the end, if the plan of the trials lacks that tree, as that of a window."""
 
     def __init__(
         self, trials: Trials, results: Results, end_plan: Optional[PlannedTrace] = None
@@ -31,8 +30,8 @@ class FirstTrials:
 
     def run(self) -> None:
         """Tries the two trees, first that at the end. Refused if COMMAND fails in one of them;
-        other errors as in Trials.try_state(). The results get the outcomes of states that are among
-        those to try; that of end_plan's state is dropped."""
+        other exceptions as in try_state(). The results get the outcomes of states that are among
+        those to try; the outcome of end_plan's state is dropped."""
         prefixes = [state for state in self.trials.plan.states if state.family == 'prefix']
         if self.end_plan is None:
             self.try_state(prefixes[-1], "the tree at the session's end")
@@ -47,20 +46,19 @@ class FirstTrials:
         self.try_state(prefixes[0], 'the start tree')
 
     def try_state(self, state: State, tree_name: str) -> None:
-        """Tries a state, unless the results have its outcome already. They get the outcome if the
-        state is one of this shard's. tree_name says in words which tree the state has. Refused if
-        COMMAND fails in it, or as in wanted_numbers()."""
+        """Tries a state, unless the results have its outcome already. They get the outcome if this
+        shard must try the state. tree_name says in words which tree the state has. Refused if
+        COMMAND fails in it; other exceptions as in Trials.try_state() and wanted_numbers()."""
         number = self.results.tried_numbers[state.trial]
-        outcomes: Dict[int, Outcome] = self.results.outcomes
         tried_state = self.trials.plan.state(number)
-        outcome = outcomes.get(number) or self.trials.try_state(tried_state)
+        outcome = self.results.outcomes.get(number) or self.trials.try_state(tried_state)
         if number in self.trials.wanted_numbers(self.results):
-            outcomes[number] = outcome
-        hints = [f'inspect it with --state {number}'] if self.is_command else []
+            self.results.outcomes[number] = outcome
+        hints = []
         if outcome.result == BAD and state.numbers[0] == 0 and self.trials.tree(number):
-            hints.insert(
-                0, 'did the directory have files of an earlier session when it was recorded?'
-            )
+            hints.append('did the directory have files of an earlier session when it was recorded?')
+        if self.is_command:
+            hints.append(f'inspect it with --state {number}')
         self.refuse_bad(
             outcome,
             f'{tree_name}, where nothing is lost (state {number}, says {state.says})',
@@ -68,8 +66,8 @@ class FirstTrials:
         )
 
     def refuse_bad(self, outcome: Outcome, tree_name: str, hints: List[str]) -> None:
-        """Refused if an outcome is BAD: the text has tree_name in its first line, and `hints` as
-        its last lines. A state without an answer isn't refused."""
+        """Refused if an outcome is BAD: the first line of the text has tree_name and the cause, and
+        `hints` are its last lines. An outcome without an answer isn't refused."""
         if outcome.result == BAD:
             name = 'COMMAND' if self.is_command else 'the recovery'
             raise Refused(
@@ -83,8 +81,8 @@ class FirstTrials:
             )
 
     def hints_for(self, cause: str) -> List[str]:
-        """One or more lines that say what may be wrong with COMMAND, or with the recovery function,
-        if it fails with this cause."""
+        """One or more lines that ask what may be wrong with COMMAND, or with the recovery function,
+        if that fails with this cause."""
         if not self.is_command:
             return ['does it expect more than the session did, or files of another place?']
         relative_words = relative_path_arguments(self.trials.options.command)

@@ -7,8 +7,8 @@ from typing import Callable
 
 
 class Saver:
-    """Calls `write` if `seconds` have passed since the last call. An OSError of `write` is ignored:
-    the file is written once more at the check's end, when an error counts."""
+    """Calls `write`, which writes a file, at most once in so many `seconds`. An OSError of `write`
+    is ignored: the file is written once more at the check's end, when an error counts."""
 
     def __init__(
         self,
@@ -16,15 +16,16 @@ class Saver:
         seconds: float,
         clock: Callable[[], float] = time.monotonic,
     ) -> None:
-        """The first `seconds` begin now, by the clock."""
+        """The first `seconds` begin now. `clock` returns seconds."""
         self.write = write
         self.seconds = seconds
         self.clock = clock
         self.save_time = clock()
 
     def save_if_due(self) -> None:
-        """Calls `write` if `seconds` have passed since the last call ended, or since the Saver was
-        made. An OSError is ignored, and counts as a call; any other exception passes."""
+        """Calls `write` if `seconds` have passed since the end of its last call, or since the Saver
+        was made. An OSError of `write` is ignored; any other exception passes, and that call of
+        `write` doesn't count."""
         if self.clock() - self.save_time < self.seconds:
             return
         try:

@@ -19,7 +19,7 @@ from crashfs_tools.common.guard import end_processes_with_token, with_token
 from crashfs_tools.common.program import ProgramFault
 from crashfs_tools.common.signals import STOPS, stop_signals_blocked
 
-from .runner import BAD, GOOD, GOOD_OUTCOME, POLL_SECONDS, CheckEnded, Checker, Outcome
+from .runner import BAD, GOOD, GOOD_OUTCOME, POLL_SECONDS, CheckEnded, Checker, Outcome, reap_child
 
 # How long processes have to undo what they laid out before they are killed.
 ENDING_SECONDS = 5
@@ -41,9 +41,9 @@ class Worker:
     partial_line: bytes = b''
 
     def read_lines(self) -> Optional[List[bytes]]:
-        """Waits for a piece of what the process writes, and returns the lines that end in it, maybe
-        none. None at the end of the pipe: a line without an end is dropped there. BlockingIOError
-        if the pipe is set not to block, and nothing is there."""
+        """Waits for a piece of what the process writes, and returns the lines that end in that
+        piece, maybe none. None at the end of the pipe: a line without an end is dropped there.
+        BlockingIOError if the pipe is set not to block, and nothing is there."""
         piece = os.read(self.pipe, PIECE_BYTES)
         *lines, self.partial_line = (self.partial_line + piece).split(b'\n')
         return lines if piece else None
@@ -51,18 +51,18 @@ class Worker:
 
 class Outbox:
     """Lines that a process sends by its pipe, several at once. A line is the number of a state that
-    is good, or the JSON of another outcome, of a fault, or of the processes that are left."""
+    is good, or the JSON of another outcome, of a fault, or of the processes that commands left."""
 
     def __init__(self, pipe: int) -> None:
-        """`pipe` is the end for writing, which is never closed here. The first SENT_SECONDS begin
-        now."""
+        """`pipe` is the descriptor of the end for writing, which is never closed here. The first
+        SENT_SECONDS begin now."""
         self.pipe = pipe
         self.lines: List[str] = []
         self.send_time = time.monotonic()
 
     def add_outcome(self, number: int, outcome: Outcome) -> None:
-        """Adds the outcome of a state. Then sends all lines, as send() does, if the last time was
-        SENT_SECONDS ago or more."""
+        """Adds the outcome of the state of a number. Then sends all lines, as send() does, if the
+        last time was SENT_SECONDS ago or more."""
         if outcome.result == GOOD:
             self.lines.append(f'{number}\n')
         else:
@@ -71,7 +71,7 @@ class Outbox:
             self.send()
 
     def add_fields(self, fields: Dict[str, Any]) -> None:
-        """Adds these fields as a line of JSON, which is sent later."""
+        """Adds these fields as a line of JSON, which the next send() sends."""
         self.lines.append(json.dumps(fields) + '\n')
 
     def send(self) -> None:
@@ -86,9 +86,9 @@ class Outbox:
 
 class StateWorkers:
     """Processes that share the states: of n processes the k-th one tries each n-th state.
-    on_outcome is called in this process. Each process ends when the pipe life_pipe has no writer
-    any more, also because this one was killed. Call run() once, and end() in any case; then
-    left_processes has what commands left that could not be ended."""
+    on_outcome is called in this process, which started them. Each of them ends when the pipe
+    life_pipe has no writer any more, also if this process is killed. Call run() once, and end() in
+    any case; then left_processes has what commands left that could not be ended."""
 
     def __init__(
         self,
@@ -116,12 +116,9 @@ class StateWorkers:
         """Runs the recovery in each wanted state, with as many acknowledged lines as line_counts
         has by the state's number. Returns when all processes have ended or, with fail_fast, at the
         first failure. Raises the first fault that a process reports, and what on_outcome raises;
-        Refused if a process was killed, OSError if none can be started. Other processes may still
-        run then."""
-        numbers = sorted(wanted)
-        jobs = min(self.jobs, len(numbers))
-        for place in range(jobs):
-            self.start_worker(numbers[place::jobs], line_counts)
+        Refused if a process was killed, OSError if one can't be started. Other processes may still
+        run after a failure or an exception."""
+        self.start_workers(sorted(wanted), line_counts)
         poll = select.poll()
         workers = {worker.pipe: worker for worker in self.workers}
         for pipe in workers:
@@ -134,17 +131,25 @@ class StateWorkers:
                     self.reap_worker(workers.pop(pipe))
 
     def read_outcomes(self, worker: Worker) -> bool:
-        """Waits for lines of a process, and handles them. Returns False at the end of its pipe. A
-        fault among them is raised, and the lines after it are lost. BlockingIOError as in
-        Worker.read_lines()."""
+        """Waits for lines of a process, and handles them. Returns False at the end of its pipe. If
+        one of the lines is a fault, or on_outcome raises an exception, that is raised, and the
+        lines after it are lost. BlockingIOError as in Worker.read_lines()."""
         lines = worker.read_lines()
         for line in lines or []:
             self.handle_line(line)
         return lines is not None
 
+    def start_workers(self, numbers: List[int], line_counts: Dict[int, int]) -> None:
+        """Starts a process for each job, or fewer if there are fewer states: the k-th of n gets
+        each n-th number, from the k-th on. OSError as start_worker(): the others run then."""
+        worker_count = min(self.jobs, len(numbers))
+        for place in range(worker_count):
+            self.start_worker(numbers[place::worker_count], line_counts)
+
     def start_worker(self, share: List[int], line_counts: Dict[int, int]) -> None:
         """Forks a process for a share of the states, and adds it to `workers`. The signals of STOPS
-        do nothing in it: only end() ends it early. OSError if the system has no room for it."""
+        do nothing in that process: only end() ends it early. OSError if the system has no room for
+        a process, or too many files are open."""
         reader, writer = os.pipe()
         # A signal waits meanwhile: the new process takes none as this one does.
         with stop_signals_blocked() as old_mask:
@@ -162,9 +167,10 @@ class StateWorkers:
         self.workers.append(Worker(process, reader))
 
     def run_worker(self, share: List[int], line_counts: Dict[int, int], pipe: int) -> NoReturn:
-        """What the new process does: tries its states, ascending, and sends the outcomes by its
-        pipe; it never returns. It ends early if there is a fault, which it sends; if the check
-        ends; if a state fails, with fail_fast; and if nobody reads the pipe."""
+        """What the new process does: tries the states of its share, ascending, and sends the
+        outcomes by its pipe. It never returns: the process ends, with status 0. It ends early if
+        there is a fault, which it sends; if the check ends; if a state fails, with fail_fast; and
+        if nobody reads the pipe."""
         # The collector then leaves alone, and so doesn't copy, the memory shared with the parent.
         gc.freeze()
         outbox = Outbox(pipe)
@@ -189,8 +195,8 @@ class StateWorkers:
                 os._exit(0)
 
     def checker_for_worker(self, outbox: Outbox) -> Checker:
-        """The checker of a new process, which becomes the reaper of what its commands leave. It
-        ends at the end of life_pipe, and sends the outbox's lines if a command is slow. If the
+        """The checker of a new process, which becomes the reaper of what its commands leave. A run
+        ends at the end of life_pipe, and sends the outbox's lines if the command is slow. If the
         system has no reapers, the commands get a token of their own in their environment, by which
         the checker finds what they leave."""
         checker = replace(self.checker, life=self.life_pipe, when_slow=outbox.send)
@@ -202,8 +208,8 @@ class StateWorkers:
 
     def handle_line(self, line: bytes) -> None:
         """Handles a line of an Outbox: passes an outcome to on_outcome, adds processes to
-        left_processes, or raises a fault. With fail_fast the first failure sets is_ending; failures
-        after it are dropped."""
+        left_processes, or raises a fault. With fail_fast the first failure sets is_ending; later
+        failures are dropped."""
         if line.isdigit():
             self.on_outcome(int(line), GOOD_OUTCOME)
             return
@@ -222,9 +228,9 @@ class StateWorkers:
         self.is_ending = self.is_ending or is_last
 
     def reap_worker(self, worker: Worker) -> None:
-        """Waits for a process whose pipe is at its end, and drops it from `workers`. Refused if its
-        status isn't 0, as after a kill."""
-        status = os.waitstatus_to_exitcode(os.waitpid(worker.process, 0)[1])
+        """Waits for a process whose pipe is at its end, drops it from `workers`, and closes the
+        pipe. Refused then if its status isn't 0, as after a kill."""
+        status = reap_child(worker.process)
         self.workers.remove(worker)
         os.close(worker.pipe)
         if status != 0:
@@ -232,23 +238,23 @@ class StateWorkers:
 
     def end(self, end_processes: Callable[[Set[int]], object]) -> None:
         """Ends all processes, and closes the pipe of life_pipe; call it once. Calls end_processes()
-        again and again to end their commands: it must spare the processes with the numbers that it
-        gets. After ENDING_SECONDS those that still run are killed. on_outcome gets what they still
-        send. After an exception some may be left, which end by themselves."""
+        again and again to end their commands: that function must spare the processes whose numbers
+        it gets. Processes that still run after ENDING_SECONDS are killed. on_outcome gets what they
+        still send. After an exception some may be left, which end by themselves."""
         self.is_ending = True
         os.close(self.life_writer)
         deadline = time.monotonic() + ENDING_SECONDS
         while self.workers:
             end_processes({worker.process for worker in self.workers})
             for worker in list(self.workers):
-                self.end_worker(worker, time.monotonic() > deadline)
+                self.end_worker(worker, is_late=time.monotonic() > deadline)
             if self.workers:
                 time.sleep(0.01)
         os.close(self.life_pipe)
 
-    def end_worker(self, worker: Worker, is_late: bool) -> None:
-        """Handles what a process has sent, and drops the process from `workers` if it has ended. If
-        is_late is set, it is killed and waited for first."""
+    def end_worker(self, worker: Worker, *, is_late: bool) -> None:
+        """Handles what a process has sent and, if the process has ended, closes its pipe and drops
+        it from `workers`. If is_late is set, the process is killed and waited for first."""
         if is_late:
             os.kill(worker.process, signal.SIGKILL)
         has_ended = os.waitpid(worker.process, 0 if is_late else os.WNOHANG)[0]
@@ -258,8 +264,8 @@ class StateWorkers:
             self.workers.remove(worker)
 
     def read_last_lines(self, worker: Worker) -> None:
-        """Handles the lines that a process has sent by now, without waiting. Stops without an error
-        at the first fault among them: a fault is known already, or the end is its cause."""
+        """Handles the lines that a process has sent by now, without waiting. Stops at the first
+        fault among them, which isn't raised: a fault is known already, or the end is its cause."""
         os.set_blocking(worker.pipe, False)
         try:
             while self.read_outcomes(worker):
@@ -269,9 +275,9 @@ class StateWorkers:
 
 
 def fault_fields(fault: BaseException) -> Dict[str, Any]:
-    """A fault as JSON, for fault_from_fields() in another process. An OSError with a number, a
-    ProgramFault and a Refused keep their type; a subclass of Refused becomes a Refused. Of any
-    other fault only the text is kept."""
+    """A fault as fields of JSON, for fault_from_fields() in another process. An OSError with a
+    number, a ProgramFault and a Refused keep their type; a subclass of Refused becomes a Refused.
+    Of any other fault only its repr() is kept."""
     if isinstance(fault, OSError) and fault.errno is not None:
         file_name = fault.filename
         path = os.fsdecode(file_name) if isinstance(file_name, bytes) else file_name
