@@ -175,13 +175,13 @@ def parse_messages(word: str) -> Optional[bytes]:
     """The bytes of all messages in an argument of sendmmsg, each as far as it was sent. Empty if
     strace shows no message. None if strace cut one, or doesn't show how much of one was sent.
     LogError as in parse_bytes()."""
-    sent = b''
+    sent_bytes = b''
     for message in word.split('msg_hdr=')[1:]:
         data, length = parse_vector(message), re.search(r'msg_len=(\d+)', message)
         if data is None or length is None:
             return None
-        sent += data[: int(length[1])]
-    return sent
+        sent_bytes += data[: int(length[1])]
+    return sent_bytes
 
 
 def parse_pointed_integer(word: str) -> Optional[int]:

@@ -73,26 +73,26 @@ def lines_on_differences(
     """A line for each difference between a scanned directory and the trace's last state, sorted by
     path, except at and below the reported paths. The directory itself, hard links and extended
     attributes aren't compared."""
-    scanned = {entry.path: entry for entry in directory.entries}
+    scanned_entries = {entry.path: entry for entry in directory.entries}
     lines = []
-    for path in sorted(scanned.keys() | last_state.keys()):
+    for path in sorted(scanned_entries.keys() | last_state.keys()):
         if is_at_or_below(path, reported_paths):
             continue
         if path not in last_state:
             lines.append(f'{path}: it is there at the end, and the trace has it not')
-        elif path not in scanned:
+        elif path not in scanned_entries:
             lines.append(f'{path}: the trace has it, and at the end it is not there')
         else:
-            differences = entry_differences(tree_entry(scanned[path]), last_state[path])
+            differences = entry_differences(tree_entry(scanned_entries[path]), last_state[path])
             lines += [f'{path}: {difference}' for difference in differences]
     return lines
 
 
-def tree_entry(scanned: ScannedEntry) -> Entry:
-    """A scanned entry as an entry of a tree, with the same bytes, not a copy."""
-    if isinstance(scanned, StartSymlink):
-        return symlink_entry(scanned)
-    return Entry(scanned.owner, scanned.group, scanned.mode, scanned.data)
+def tree_entry(entry: ScannedEntry) -> Entry:
+    """A scanned entry as an entry of a tree. Both share their bytes, which must not be changed."""
+    if isinstance(entry, StartSymlink):
+        return symlink_entry(entry)
+    return Entry(entry.owner, entry.group, entry.mode, entry.data)
 
 
 def kind_text(entry: Entry) -> str:
@@ -185,8 +185,8 @@ def lines_on_attributes_and_notes(
 
 
 def paths_of_changed_attributes(at_start: Scan, at_end: Scan) -> List[str]:
-    """The paths, sorted, whose extended attributes aren't the same in two scans. If only one scan
-    has the path, it has none in the other."""
+    """The paths, sorted, whose extended attributes aren't the same in two scans. A path that a scan
+    lacks has none there."""
     return [
         path
         for path in sorted(at_start.attributes.keys() | at_end.attributes.keys())

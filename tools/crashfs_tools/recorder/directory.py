@@ -74,7 +74,7 @@ class Scanner:
 
     def __init__(self, top: str, is_ignored: IsIgnored, version: int) -> None:
         """Reads the owner, group and mode of the directory itself; scan_all() reads its entries.
-        OSError if it isn't there."""
+        OSError if the directory isn't there."""
         self.top, self.is_ignored, self.version = top, is_ignored, version
         status = os.stat(top)
         self.scan = Scan(
@@ -178,9 +178,9 @@ def target_fault(target: str) -> str:
 
 
 def read_entry(top: str, path: str, status: os.stat_result) -> ScannedEntry:
-    """The start line of a trace for a file, with all its bytes, a directory, or a symbolic link.
-    `path` is below the directory `top`, and `status` is the entry's, not that of a link's target.
-    OSError if it can't be read."""
+    """The start line of a trace for an entry: a file with all its bytes, a directory, or a symbolic
+    link. `path` is below the directory `top`, and `status` is the entry's, not that of a link's
+    target. OSError if the entry can't be read."""
     owner, group = user_name(status.st_uid), group_name(status.st_gid)
     if stat.S_ISLNK(status.st_mode):
         return StartSymlink(path, owner, group, os.readlink(top + path))

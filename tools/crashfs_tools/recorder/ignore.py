@@ -94,7 +94,8 @@ def translate_stars(pattern: str, position: int) -> Tuple[str, int]:
     end = len(pattern) - len(after_stars)
     is_after_slash = pattern[:position][-1:] in ('', '/')
     is_before_slash = not after_stars or after_stars.startswith(('/', '\\/'))
-    if end - position == 1 or not (is_after_slash and is_before_slash):
+    is_whole_name = is_after_slash and is_before_slash
+    if end - position == 1 or not is_whole_name:
         return '[^/]*', end
     return ('(?:.*/)?', end + 1) if after_stars[:1] == '/' else ('.*', end)
 

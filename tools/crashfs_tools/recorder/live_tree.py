@@ -144,7 +144,8 @@ class Node:
 
 
 def new_node(entry: ScannedEntry) -> Node:
-    """A new node, without a name, for an entry that a scan found; with a copy of its bytes."""
+    """A new node for an entry that a scan found: without a name, and with a copy of the entry's
+    bytes."""
     if isinstance(entry, StartSymlink):
         return Node.symbolic_link(entry.link)
     if entry.data is None:

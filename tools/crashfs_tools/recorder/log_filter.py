@@ -40,14 +40,14 @@ DESCRIPTOR_PATHS = tuple(map(escape_text, (b'/dev/fd', b'/dev/std', b'/proc/')))
 
 
 class LogFilter:
-    """Finds needless lines by the descriptors that may be of files below a directory, or of
-    streams. It learns these from the lines that are read, whatever their process: each line must be
-    given to is_needless(), in the log's order, and the calls that aren't needless to note_result().
+    """Finds needless lines by needed_descriptors: those that may be of files below a directory, or
+    of streams, in any process. It learns them from the lines that are read: each line must be given
+    to is_needless(), in the log's order, and each whole call that isn't needless to note_result().
     shown_top is the directory's path as strace shows it."""
 
     def __init__(self, top: bytes, descriptors: Iterable[int] = ()) -> None:
-        """top is the directory's path as the calls have it. These descriptors, and the standard
-        ones, are needed from the beginning."""
+        """`top` is the directory's path as the calls have it. These descriptors, and 0 to 2, are
+        needed from the beginning."""
         self.shown_top = escape_text(top.rstrip(b'/') or b'/')
         self.needed_descriptors: Set[int] = {0, 1, 2, *descriptors}
         self.has_mapping = False

@@ -216,14 +216,21 @@ def report_recording(
     comparison = summary.NOT_COMPARED
     if options.from_log is None:
         comparison = summary.compare_directory(options, recording, start_scan, report)
-    remarks = [LATE_START] if recording.has_late_start else []
-    reason = recording.newest_version_reason
-    remarks += [NEW_VERSION % reason] if reason else []
-    remarks += summary.lines_on_missing_notes(recording.trace) if options.stacks else []
-    for line in report.lines + report.notes + remarks:
+    for line in report.lines + report.notes + remarks_on_trace(options, recording):
         print_text(line)
     print_text(summary.summary_line(options, recording, comparison))
     return report.status
+
+
+def remarks_on_trace(options: RecordOptions, recording: Recording) -> List[str]:
+    """Lines that don't change the status: on a late start, on the reason for the newest version,
+    and on operations for which --stacks found no function. Empty if none of these is there."""
+    remarks = [LATE_START] if recording.has_late_start else []
+    if recording.newest_version_reason:
+        remarks.append(NEW_VERSION % recording.newest_version_reason)
+    if options.stacks:
+        remarks += summary.lines_on_missing_notes(recording.trace)
+    return remarks
 
 
 def print_text(text: str) -> None:

@@ -66,7 +66,8 @@ class RecordOptions:
     is_ignored: Ignore = field(init=False)
 
     def __post_init__(self) -> None:
-        """Sets what the parser can't: without --say-fd standard output acknowledges something."""
+        """Sets what the parser can't: that standard output acknowledges something without --say-fd,
+        and is_ignored. ValueError if a pattern of --ignore never matches in git."""
         self.acknowledging_descriptors = self.acknowledging_descriptors or [*DEFAULT_DESCRIPTORS]
         self.is_ignored = Ignore(self.ignore, self.directory)
 
