@@ -92,8 +92,8 @@ def parse_seconds(text: str) -> float:
 
 
 def add_state_options(parser: argparse.ArgumentParser) -> None:
-    """Adds the options that say which states of the trace are tried; --window is for tests, and not
-    shown."""
+    """Adds the options that say whether all crash states of the trace are tried, or which
+    families."""
     parser.add_argument(
         '--every',
         metavar='N',
@@ -114,6 +114,11 @@ def add_state_options(parser: argparse.ArgumentParser) -> None:
         action='store_true',
         help='the prefixes and those with one hole; --lost and --files only if given',
     )
+
+
+def add_plan_options(parser: argparse.ArgumentParser) -> None:
+    """Adds the options that leave states out of the plan, or add a family to it; --window is for
+    tests, and not shown by --help."""
     parser.add_argument(
         '--in',
         metavar='PROFILE',
@@ -281,6 +286,7 @@ def make_parser() -> argparse.ArgumentParser:
         help='try only part I of N; --merge merges the reports',
     )
     add_state_options(parser)
+    add_plan_options(parser)
     add_run_options(parser)
     add_earlier_result_options(parser)
     add_output_options(parser)

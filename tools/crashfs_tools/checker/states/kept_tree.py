@@ -237,19 +237,12 @@ class KeptTree:
     def change_bytes(
         self, folder: int, path: str, wanted_entry: Entry, status: os.stat_result
     ) -> bool:
-        """Gives a large file its wanted bytes in place, and returns True; `folder` is its open
-        directory. Returns False, and changes nothing, if the file must be made again: COMMAND
-        replaced it or changed more than its bytes, its mode must change, it is small or can't be
-        opened, or the file system's times don't show each store. After an OSError it may have some
-        of the bytes."""
+        """Gives a file its wanted bytes in place, and returns True; `folder` is its open directory,
+        `status` that of the file itself, by lstat. Returns False, and changes nothing, if the file
+        must be made again: needs_only_bytes() is False, it can't be opened, or COMMAND changed its
+        extended attributes. After an OSError the file may have some of the bytes."""
         laid_file = self.files.get(path)
-        if (
-            not self.has_times
-            or laid_file is None
-            or laid_file.entry.mode != wanted_entry.mode
-            or not is_large(wanted_entry)
-            or laid_file.signature[:RIGHTS] != signature_of(status)[:RIGHTS]
-        ):
+        if laid_file is None or not self.needs_only_bytes(laid_file, wanted_entry, status):
             return False
         try:
             file = os.open(path.rpartition('/')[2], CHANGED_FILE, dir_fd=folder)
@@ -270,6 +263,19 @@ class KeptTree:
         finally:
             os.close(file)
         return True
+
+    def needs_only_bytes(
+        self, laid_file: LaidFile, wanted_entry: Entry, status: os.stat_result
+    ) -> bool:
+        """Whether a file is large, and lacks at most its wanted bytes: the mode is the wanted one,
+        and COMMAND has neither replaced the file nor changed its rights or links. False if the file
+        system's times don't show each store."""
+        return (
+            self.has_times
+            and laid_file.entry.mode == wanted_entry.mode
+            and is_large(wanted_entry)
+            and laid_file.signature[:RIGHTS] == signature_of(status)[:RIGHTS]
+        )
 
     def make_entry(self, root: int, path: str, entry: Entry) -> None:
         """Makes the file or directory of a path below the open directory `root`, and notes it in

@@ -18,6 +18,7 @@ from typing import (
     Set,
     Tuple,
     TypeVar,
+    Union,
 )
 
 from crashfs_tools.common.archive import Member, parse_state_number
@@ -264,15 +265,21 @@ def write_all(file: int, data: Bytes) -> None:
     """Writes all bytes of a file that is open and empty. Zeros become holes if they are a page of
     SparseBytes or, in other data of more than PIECE_BYTES, a whole piece of that size. After an
     OSError a part of the bytes may be written."""
-    if isinstance(data, SparseBytes):
-        for place, run_bytes in data.page_runs():
-            write_at(file, place, run_bytes)
-    elif len(data) <= PIECE_BYTES:
+    if not isinstance(data, SparseBytes) and len(data) <= PIECE_BYTES:
         write_at(file, 0, data)
         return
-    else:
-        for place in range(0, len(data), PIECE_BYTES):
-            piece = data[place : place + PIECE_BYTES]
-            if has_bytes(piece):
-                write_at(file, place, piece)
+    for offset, piece in pieces_with_bytes(data):
+        write_at(file, offset, piece)
     os.ftruncate(file, len(data))
+
+
+def pieces_with_bytes(data: Bytes) -> Iterator[Tuple[int, Union[bytes, bytearray]]]:
+    """Yields the pieces of a file's bytes that have other bytes than zeros, each after its offset:
+    the runs of pages of SparseBytes; of other data pieces of PIECE_BYTES, the last one shorter."""
+    if isinstance(data, SparseBytes):
+        yield from data.page_runs()
+        return
+    for offset in range(0, len(data), PIECE_BYTES):
+        piece = data[offset : offset + PIECE_BYTES]
+        if has_bytes(piece):
+            yield offset, piece

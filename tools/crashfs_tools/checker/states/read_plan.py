@@ -20,23 +20,21 @@ def read_plan(
     `same` of these is right only within their part. PlanError for a line of another form."""
     reader = PlanReader(offsets)
     for part_listing in (listing, *more_listings):
-        reader.begin_part()
-        for line in part_listing.rstrip('\n').split('\n'):
-            try:
-                reader.add_line(json.loads(line))
-            except (ValueError, KeyError, TypeError, AttributeError) as error:
-                raise PlanError(f'crashfs list printed: {line}') from error
+        reader.add_part(part_listing)
     needs = Needs(reader.needs)
     return Plan(reader.operations, reader.states, needs, offsets.states, profiles=reader.profiles())
 
 
 class PlanReader:
-    """Reads what `crashfs list` printed of the parts of a plan, line by line. Call begin_part()
-    before the lines of each part."""
+    """Reads what `crashfs list` printed of the parts of a plan. Call add_part() for each part, the
+    first one first."""
 
     def __init__(self, offsets: Offsets) -> None:
         """The offsets are those of the plan in its session."""
         self.offsets = offsets
+        # Of the part that is read: whether it is the first, and what is added to its numbers.
+        self.is_first = True
+        self.number_offset = 0
         self.operations: List[PlannedMicroOperation] = []
         self.states: List[State] = []
         self.needs: List[int] = []
@@ -50,12 +48,17 @@ class PlanReader:
         allow, since its set is empty."""
         return SetProfiles(self.profile_names, tuple(self.profile_bits))
 
-    def begin_part(self) -> None:
-        """Begins the next part: sets is_first and number_offset. In the program the picks of all
-        parts begin with the same number; here the picks of a further part get the numbers that
-        follow those of the states so far."""
+    def add_part(self, listing: str) -> None:
+        """Adds the operations and states of a part, from what `list --json` printed. In the program
+        the picks of all parts begin with the same number; here the picks of a further part get the
+        numbers that follow those of the states so far. PlanError for a line of another form."""
         self.is_first = not self.states
         self.number_offset = 0 if self.is_first else len(self.states) - len(self.operations) - 1
+        for line in listing.rstrip('\n').split('\n'):
+            try:
+                self.add_line(json.loads(line))
+            except (ValueError, KeyError, TypeError, AttributeError) as error:
+                raise PlanError(f'crashfs list printed: {line}') from error
 
     def add_line(self, fields: Dict[str, Any]) -> None:
         """Adds the operation or the state of a line. All parts have the same operations, so only
