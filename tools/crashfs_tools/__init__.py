@@ -54,8 +54,8 @@ __all__ = [
 
 
 def __getattr__(name: str) -> object:
-    """The object that a public name means. Python calls this each time that the name is used; its
-    module is imported the first time. AttributeError for any other name."""
+    """The object that a public name of this package means. Python calls this each time that the
+    name is used; the first call imports the object's module. AttributeError for any other name."""
     if name not in PUBLIC:
         raise AttributeError(f'module {__name__!r} has no attribute {name!r}')
     from importlib import import_module

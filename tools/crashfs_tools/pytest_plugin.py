@@ -57,14 +57,14 @@ class CrashStates:
         **options: Any,
     ) -> Report:
         """Records the session, runs the recovery in its crash states, and returns the report. The
-        test fails with one failure for each entry that isn't accepted. It also fails if a state has
-        no answer, if the trace isn't complete, or if record() or check() refuses something. Any
-        other exception of these or of start is passed on.
+        test fails with one failure for each entry that isn't accepted; also if a state has no
+        answer, if the trace isn't complete, or if record() or check() refuses something. Any other
+        exception, of these or of start, is passed on.
 
         start is called with the directory before the session begins. ignore, mapped and block are
         options of crashfs_tools.record, all others of crashfs_tools.check; accept takes the place
-        of --crash-accept. A second call in the same test is a FileExistsError. The store and the
-        trace stay in the test's tmp_path."""
+        of --crash-accept. The store and the trace stay in the test's tmp_path: a second call in the
+        same test is a FileExistsError."""
         store = self.folder / 'store'
         store.mkdir()
         if start is not None:
@@ -82,8 +82,8 @@ class CrashStates:
         return report
 
     def fail_if_bad(self, report: Report, trace: Path) -> None:
-        """Fails the test with the first failure of the report, and keeps the texts of the others in
-        the test's stash, for pytest_runtest_protocol. If there is none but the status isn't 0, as
+        """Fails the test with the first failure of the report; the texts of the others stay in the
+        test's stash, for pytest_runtest_protocol. If there is no failure but the status isn't 0, as
         for a state that wasn't tried or a second crash, fails it with the whole report. Returns
         only for status 0."""
         texts = [failure_text(entry, trace) for entry in report.failures]
@@ -95,7 +95,8 @@ class CrashStates:
 
 
 def failure_text(entry: Entry, trace: Path) -> str:
-    """An entry as the text of a test's failure, with its example's number and the trace."""
+    """An entry as the text of a test's failure, with the number of its example and the trace's
+    path."""
     return f'{entry}\n  state {entry.example} of {trace}'
 
 
@@ -116,7 +117,7 @@ def crash_states(request: pytest.FixtureRequest, tmp_path: Path) -> CrashStates:
 @pytest.hookimpl(hookwrapper=True)
 def pytest_runtest_protocol(item: pytest.Item) -> Iterator[None]:
     """After a test has run, reports each further failure that CrashStates kept as a failed test of
-    its own, numbered from 2: pytest itself has one failure for a test."""
+    its own, numbered from 2: for pytest a test has only one failure."""
     yield
     others = item.stash[OTHERS] if OTHERS in item.stash else []
     for number, text in enumerate(others, 2):
@@ -125,7 +126,7 @@ def pytest_runtest_protocol(item: pytest.Item) -> Iterator[None]:
 
 def failure_report(item: pytest.Item, number: int, text: str) -> pytest.TestReport:
     """The report of a further failure of a test, as if another test at the same place had failed.
-    That test's name has the number at its end, such as `test_store (2)`."""
+    The name of that test has the number at its end, such as `test_store (2)`."""
     try:
         fail(text)
     except pytest.fail.Exception:

@@ -64,8 +64,8 @@ def check(
 
 
 def run_check(options: Options) -> Report:
-    """Runs a check with these options, which have their recovery, and returns its report. An
-    exception that ends the check before it has a report is raised; Refused as in
+    """Runs a check with these options, which must have their recovery, and returns its report. An
+    exception that ends the check is raised, and there is no report then; Refused too as in
     refuse_every_with_families()."""
     refuse_every_with_families(options)
     with Guard(NAME, may_reap=False) as guard:
@@ -81,16 +81,16 @@ def path_text(path: Optional[PathLike]) -> Optional[str]:
 
 
 def refuse_every_with_families(options: Options) -> None:
-    """Refused if the options have `every` but ask only for families of states, which don't go
-    together."""
+    """Refused if the options have `every`, but ask only for families of states, with which it
+    doesn't go."""
     if options.every is not None and not options.has_every:
         raise Refused('every goes with no families, prefixes or quick')
 
 
 def set_recovery(options: Options, recovery: Union[RecoveryOf, Sequence[str]]) -> None:
-    """Writes a recovery into the options: a list of words, or a text that is one program, as
-    COMMAND; a function as one that gets its directory as a Path. Refused for a function if the
-    options have nested or cache, which need a command: set these before."""
+    """Sets a recovery in the options: a list of words, or a text that is one program, as COMMAND; a
+    function as one that gets its directory as a Path. Refused for a function if the options have
+    nested or cache, which need a command and must be set before."""
     if isinstance(recovery, Sequence):
         options.command = [recovery] if isinstance(recovery, str) else list(recovery)
         return
@@ -101,7 +101,7 @@ def set_recovery(options: Options, recovery: Union[RecoveryOf, Sequence[str]]) -
 
     @functools.wraps(function)
     def call(directory: str, lines: List[str]) -> object:
-        """Calls the function with the directory as a Path. What it raises passes."""
+        """Calls the function with the directory as a Path. What it raises is passed on."""
         return function(Path(directory), lines)
 
     options.function = call

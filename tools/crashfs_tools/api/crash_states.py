@@ -7,14 +7,15 @@ import tempfile
 from contextlib import contextmanager
 from dataclasses import dataclass, field
 from pathlib import Path
-from typing import Dict, Iterator, List, Optional
+from typing import Dict, Iterable, Iterator, List, Optional
 
 from crashfs_tools.checker.checked_trace import CheckedTrace
 from crashfs_tools.checker.checking import refuse_unreadable
 from crashfs_tools.checker.options import NAME, Options
 from crashfs_tools.checker.running.results import Results, known_states
-from crashfs_tools.checker.states.layout import lay_out
+from crashfs_tools.checker.states.layout import lay_out, read_trees
 from crashfs_tools.checker.states.plan import Plan, PlannedTrace
+from crashfs_tools.common.archive import Member
 from crashfs_tools.common.entry import Entries
 from crashfs_tools.common.guard import Guard
 from crashfs_tools.common.program import Crashfs
@@ -38,20 +39,20 @@ class CrashState:
     @contextmanager
     def laid_out(self) -> Iterator[Path]:
         """Lays the state out in a new temporary directory, and yields its path. Modes are those of
-        the state, but all belongs to this process's user. The directory is removed at the end of
-        the `with`, whatever was done in it, except what is mounted there; each use makes a new one.
-        OSError if it can't be made. The umask of the process is 0 while it is filled."""
+        the state, but all belongs to this process's user. At the end of the `with` the directory is
+        removed, whatever was done in it, except what is mounted there; each use makes a new one.
+        OSError if it can't be made. While it is filled, the umask of the process is 0."""
         folder = tempfile.mkdtemp(prefix='crashfs-state-')
         try:
             directory = os.path.join(folder, str(self.number))
-            lay_out(directory, ((path.lstrip('/'), one) for path, one in self.tree.items()))
+            lay_out(directory, ((path.lstrip('/'), entry) for path, entry in self.tree.items()))
             yield Path(directory)
         finally:
             remove_tree(folder)
 
     def files(self) -> Dict[str, bytes]:
-        """A copy of the bytes of each file, whole, also of one that is mostly zeros, by its path
-        below the directory, without a slash in front. Directories and symbolic links are left
+        """A copy of the bytes of each file, by its path below the directory, without a slash in
+        front. A file that is mostly zeros is whole too. Directories and symbolic links are left
         out."""
         return {
             path.lstrip('/'): bytes(entry.data)
@@ -86,25 +87,30 @@ def states(
     program = Crashfs.find_or_second_reading(options.crashfs, is_unproved=unproved)
     with Guard(NAME, may_reap=False) as guard:
         checked = CheckedTrace(options, program, guard)
-        before: Optional[Plan] = None
+        last_plan: Optional[Plan] = None
         for planned in checked.all_planned():
-            numbers_before = known_states(before, planned.plan) if before else {}
+            numbers_before = known_states(last_plan, planned.plan) if last_plan else {}
             yield from states_of_window(
                 checked, planned, Results(planned.plan, numbers_before=numbers_before)
             )
-            before = planned.plan
+            last_plan = planned.plan
 
 
 def states_of_window(
     checked: CheckedTrace, planned: PlannedTrace, results: Results
 ) -> Iterator[CrashState]:
-    """Yields the states of one window, ascending, each with its files: one for each trial, and none
-    that the window before has. The results must be of the same plan. ProgramFault if `crashfs`
-    fails: the states before that were yielded."""
-    texts = checked.lines.acknowledged
-    for request in planned.requests(results.own_numbers.values()):
-        trees = checked.program.trees(request.options, checked.guard.environment)
-        for own_number, tree in trees:
-            state = planned.plan.state(own_number + request.number_offset)
-            profiles = planned.plan.profile_names_of(state)
-            yield CrashState(state.number, texts[: state.says], profiles, tree)
+    """Yields the different states of one window, ascending, each with its files, but none that the
+    window before has. The results must be of the same plan. ProgramFault if `crashfs` fails, after
+    the states before that."""
+    texts, numbers = checked.lines.acknowledged, set(results.own_numbers.values())
+    environment = checked.guard.environment
+    for own_number, tree in read_trees(checked.program, planned, numbers, environment, full_tree):
+        state = planned.plan.state(own_number)
+        profiles = planned.plan.profile_names_of(state)
+        yield CrashState(state.number, texts[: state.says], profiles, tree)
+
+
+def full_tree(_: int, members: Iterable[Member]) -> Entries:
+    """The tree of a state as read_trees() gives it, with a slash in front of each path. The state's
+    number isn't needed."""
+    return {'/' + path: entry for path, entry in members}

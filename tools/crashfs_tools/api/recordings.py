@@ -87,14 +87,16 @@ def record(
     words += [word for name in acknowledged for word in ('--say-fd', name)]
     words += [] if isinstance(session, Sequence) else ['--say-fd', str(LINES)]
     words += [os.fspath(directory), os.fspath(trace), '--', *session_command(session)]
-    return run_recorder(words, environment)
+    return run_recorder(words, Path(trace), environment)
 
 
-def run_recorder(words: List[str], environment: Optional[Mapping[str, str]]) -> Recording:
-    """Runs crashfs-record with these arguments, of which the one before the first `--` is the
-    trace, and waits for its end. An environment of None is that of this process. The session reads
-    nothing, and its standard output is dropped. Refused, with all lines of standard error, if no
-    trace is written or a signal stopped it; OSError if it can't be started."""
+def run_recorder(
+    words: List[str], trace: Path, environment: Optional[Mapping[str, str]]
+) -> Recording:
+    """Runs crashfs-record with these arguments, which name the trace too, and waits for its end. An
+    environment of None is that of this process. The session reads nothing, and its standard output
+    is dropped. Refused, with all lines of standard error, if no trace is written or a signal stops
+    it; OSError if it can't be started."""
     finished = subprocess.run(
         [sys.executable, '-S', '-c', RECORD, *words],
         stdin=subprocess.DEVNULL,
@@ -107,16 +109,14 @@ def run_recorder(words: List[str], environment: Optional[Mapping[str, str]]) -> 
     messages = [line.removeprefix('crashfs-record: ') for line in lines]
     if finished.returncode not in (COMPLETE, NOTED, INCOMPLETE):
         raise Refused('\n'.join(messages) or f'crashfs-record: status {finished.returncode}')
-    trace = Path(words[words.index('--') - 1])
     return Recording(trace, finished.returncode != INCOMPLETE, messages)
 
 
 def session_command(session: Union[SessionOf, Sequence[str]]) -> List[str]:
     """The words of a command that runs a session: those of a list, a text as its only word, or
     words that call a function in a new Python, with the descriptor LINES for acknowledged lines.
-    Refused for a function that a new Python can't find by file and name: a lambda, a function
-    inside another one, one of `python -c` or of an interactive Python, or one without
-    source_path()."""
+    Refused if a new Python can't find the function by file and name: a lambda, a function inside
+    another one, one of `python -c` or of an interactive Python, or one without source_path()."""
     if isinstance(session, Sequence):
         return [session] if isinstance(session, str) else list(session)
     path, name = source_path(session), getattr(session, '__qualname__', repr(session))
@@ -133,7 +133,8 @@ def session_command(session: Union[SessionOf, Sequence[str]]) -> List[str]:
 
 def source_path(session: SessionOf) -> Optional[str]:
     """The path of the source file of a function or class. None for a method of an object, since a
-    new Python has no such object, and for a callable without a source, such as a partial."""
+    new Python doesn't have that object, and for a callable without a source file, such as a
+    partial."""
     if inspect.ismethod(session) and not inspect.isclass(session.__self__):
         return None
     try:

@@ -63,28 +63,28 @@ class Report:
     """What a check found. It is printed as crashfs-check prints it. Each property computes its
     value again: keep what you use often."""
 
-    def __init__(self, found: CheckReport, mode: int = 0o600) -> None:
-        """mode has all rights that a file of the report may get: who may not read the trace may not
-        read it."""
-        self._found = found
+    def __init__(self, check_report: CheckReport, mode: int = 0o600) -> None:
+        """The files of the report get at most the rights of `mode`: who may not read the trace may
+        not read them."""
+        self._check_report = check_report
         self._mode = mode
-        self._text = ReportText(found)
+        self._text = ReportText(check_report)
 
     @property
     def status(self) -> int:
         """The exit status of crashfs-check: 3 if a state has no answer; else 1 if something fails
         that isn't accepted; else 3 if something was not tried, as after a time limit; else 0."""
-        return self._found.status
+        return self._check_report.status
 
     @property
     def entries(self) -> List[Entry]:
-        """The entries, the one with the most different states first: of states that fail, or have
-        no answer. Accepted failures are among them, second crashes (nested) are not."""
-        return [self._entry(group) for group in self._found.groups()]
+        """The entries of states that fail or have no answer, the one with the most different states
+        first. Accepted failures are among them, second crashes (nested) are not."""
+        return [self._entry(group) for group in self._check_report.groups()]
 
     @property
     def failures(self) -> List[Entry]:
-        """The entries that are no accepted failures. If there are none, the status may be 1 or 3
+        """The entries that aren't accepted failures. If there are none, the status may be 1 or 3
         nevertheless: for second crashes (nested), or for what wasn't tried."""
         return [entry for entry in self.entries if entry.accepted is None]
 
@@ -92,31 +92,31 @@ class Report:
     def states(self) -> List[StateOutcome]:
         """The outcome of each state that was tried, or is equal to one that was, ascending by their
         numbers. A state that the window before has too isn't listed again, and states of second
-        crashes (nested) aren't at all. Empty if the check didn't keep the outcomes; check() does.
-        """
+        crashes (nested) aren't listed. Empty if the check didn't keep the outcomes; check()
+        does."""
         return [
             StateOutcome(
                 state.number, state.says, outcome.result, outcome.cause, outcome.output, profiles
             )
-            for state, outcome, profiles in self._found.state_outcomes
+            for state, outcome, profiles in self._check_report.state_outcomes
         ]
 
     @property
     def lines(self) -> List[str]:
-        """The report as text."""
+        """The lines of the report, as crashfs-check prints them."""
         return self._text.lines()
 
     @property
     def operations(self) -> Dict[int, TraceLine]:
-        """The operations of the trace in words, by the numbers of their lines; none if the check
+        """The operations of the trace in words, by the numbers of their lines; empty if the check
         ended before the first state was tried."""
-        return dict(self._found.head.lines)
+        return dict(self._check_report.head.lines)
 
     @property
     def profiles(self) -> List[str]:
-        """The names of the trace's profiles, which the entries and states have; none if the plan
+        """The names of the trace's profiles, which the entries and states have; empty if the plan
         doesn't say which profiles allow its states."""
-        return list(self._found.profiles)
+        return list(self._check_report.profiles)
 
     def __str__(self) -> str:
         """The report as crashfs-check prints it."""
@@ -124,9 +124,9 @@ class Report:
 
     def write_json(self, path: PathLike) -> None:
         """Writes the file of --json, for other tools, --merge and --resume; `-` is standard output.
-        Only those who may read the trace may read the file. An OSError if it can't be written: then
-        an old file stays, unless only the sync of its directory failed. The check must have kept
-        what the file has, as check() does."""
+        Only those who may read the trace may read the file. OSError if it can't be written: an old
+        file stays then, unless only the sync of its directory failed. The check must have kept what
+        the file has, as check() does."""
         from crashfs_tools.checker.report.json_report import json_pieces
 
         self._write(path, json_pieces)
@@ -154,13 +154,13 @@ class Report:
         self._write(path, page_pieces)
 
     def _write(self, path: PathLike, pieces: Callable[[CheckReport], Iterator[str]]) -> None:
-        """Replaces a file by these pieces of its text, durably, as write_whole_file(); only those
-        who may read the trace may read it."""
-        write_whole_file(os.fspath(path), pieces(self._found), self._mode)
+        """Replaces a file by these pieces of its text, as write_whole_file() does, with at most the
+        rights of the mode. OSError as there."""
+        write_whole_file(os.fspath(path), pieces(self._check_report), self._mode)
 
     def _entry(self, group: Group) -> Entry:
-        """A group of states as an entry. Its lists and dicts are new ones, so a caller may change
-        them."""
+        """A group of states as an entry. The entry's lists and dicts are its own, so a caller may
+        change them."""
         return Entry(
             group.cause,
             self._text.details(group),

@@ -17,7 +17,7 @@ from .recordings import LINES
 def acknowledge(line: str) -> None:
     """Writes an acknowledged line, which may be empty, to the descriptor that crashfs-record
     follows, in one write. ValueError if it has a line feed: then nothing is written. OSError in a
-    process that doesn't have the descriptor, as after it was closed."""
+    process without the descriptor, as after it was closed."""
     if '\n' in line:
         raise ValueError('an acknowledged line has no line feed')
     os.write(LINES, f'{line}\n'.encode('utf-8', 'surrogateescape'))
@@ -35,9 +35,10 @@ def main(arguments: List[str]) -> None:
 
 def load_module(path: str, name: str) -> object:
     """Imports the module of a file: by its name, if that finds this file; else from the file, as a
-    module without a package, named as the file without its ending, also in sys.modules. So is a
-    script that ran as `__main__`. What the import raises passes; only after a ModuleNotFoundError
-    by the name the file is tried. If the name finds another file, that has run too."""
+    module without a package, named in sys.modules as the file without its ending. This is so for a
+    script that ran as `__main__`. What the import raises is passed on; only after a
+    ModuleNotFoundError by the name the file is tried. If the name finds another file, that has run
+    too."""
     try:
         module = importlib.import_module(name)
         # The `__main__` of this Python has no file.

@@ -21,10 +21,10 @@ VARYING = re.compile(r'line \d+|"(?:[^"\\]|\\.)*"|\b[0-9a-f]{6,}\b|\d+')
 
 @dataclass
 class KnownFailure:
-    """A failure: with which seed it came first, its number among all, and in how many sessions it
-    was. The kept trace is of the session of kept_seed, which acknowledges `says` lines, up to the
-    line with the number `shortest`; 0 means that it is whole. The file has the names of the
-    fields."""
+    """A failure of one or more sessions. `seed` is that of the first of these, `number` the
+    failure's place in the book, from 1, and `sessions` how many have it. The kept trace is of the
+    session of kept_seed, which acknowledges `says` lines, up to the line with the number
+    `shortest`; if that is 0, the trace is whole. The file has the names of the fields."""
 
     failure: Failure
     seed: int
@@ -47,16 +47,16 @@ class KnownFailure:
     @property
     def most_lines(self) -> int:
         """The most acknowledged lines with which another session is still shorter than the kept
-        one; 0 if none can be. A whole session counts as one line longer than it is, for what it
-        does after its last line."""
+        one; 0 if none can be. A whole session counts as one line longer, for what it does after its
+        last line."""
         return (self.shortest or self.says + 1) - 1
 
 
 @dataclass
 class Book:
     """All that a campaign knows. path is the file to save it to. identity says which campaign it
-    is, next_seed is the first seed that wasn't tried, sessions counts those that were, and faults
-    has the seeds without a verdict, with why. entries has the failures by failure_key."""
+    is, next_seed is the first seed that wasn't tried, sessions is how many were tried, and faults
+    has the seeds without a verdict, with why. entries has the failures by failure_key()."""
 
     path: Path
     identity: List[object]
@@ -67,8 +67,8 @@ class Book:
 
     def save(self) -> None:
         """Replaces the book's file as a whole; another run continues from it. OSError as
-        write_whole_file() has it: the old file stays, unless only the sync of its directory failed.
-        """
+        write_whole_file(): then the old file stays, unless only the sync of its directory
+        failed."""
         fields = {
             'crashfs-campaign': VERSION,
             'identity': self.identity,
@@ -82,9 +82,9 @@ class Book:
 
 def read_book(path: Path, identity: List[object], first_seed: int) -> Book:
     """The book that an earlier run left in the file; a new one, which begins with first_seed, if
-    there is no file. It continues after the last seed that was tried, or with first_seed if that is
-    later. Refused if the file is no book of this VERSION, or of a campaign with another identity;
-    OSError if it can't be read."""
+    there is no file. The next seed is the one after the last that was tried, or first_seed if that
+    is later. Refused if the file is no book of this VERSION, or of a campaign with another
+    identity; OSError if it can't be read."""
     book = Book(path, identity, first_seed)
     if not path.exists():
         return book
@@ -107,15 +107,15 @@ def read_book(path: Path, identity: List[object], first_seed: int) -> Book:
 
 def failure_key(failure: Failure) -> str:
     """What is the same of a failure in all sessions: its cause up to a colon, and its first
-    sentence if it has one, with `#` in the place of numbers, quoted texts and random names. The
-    file has these keys: after a change of them known failures would be new ones."""
+    sentence, if there is one, with `#` in place of numbers, quoted texts and random names. The file
+    has these keys: if they were made in another way, known failures would count as new."""
     kind = failure.cause.partition(':')[0]
     return VARYING.sub('#', ': '.join([kind, *failure.text[:1]]))
 
 
 def failures_by_key(failures: Iterable[Failure]) -> Dict[str, Failure]:
-    """The failures of a session by failure_key(), in their order; of those with one key the
-    first."""
+    """The failures of a session by failure_key(), in their order; the first one of those that have
+    the same key."""
     first_failures: Dict[str, Failure] = {}
     for failure in failures:
         first_failures.setdefault(failure_key(failure), failure)

@@ -28,11 +28,12 @@ EVERY_SECONDS = 60.0
 
 class Campaign:
     """A campaign: its sessions are tried one after another, and its book has what was found.
-    print_time is when the last line was printed."""
+    print_time is when the campaign last printed a line, or began."""
 
     def __init__(self, options: CampaignOptions) -> None:
-        """Makes the directory RESULTS if it isn't there, and reads the book of an earlier run in
-        it, which it continues. Refused as from read_book, or if RESULTS can't be made or read."""
+        """Makes the directory RESULTS if it isn't there, and reads the book that an earlier run
+        left in it, to continue that. Refused as in read_book(), or if RESULTS can't be made or
+        read."""
         self.options = options
         self.results = Path(options.results)
         book = self.results / 'campaign.json'
@@ -48,11 +49,10 @@ class Campaign:
         self.print_time = time.monotonic()
 
     def run(self) -> None:
-        """Tries the seeds that are left, in their order, up to the last one or until the time is
-        over; a session that has begun is finished. The folder `work` is made first, in the place of
-        an old one, and removed in the end in any case; OSError if it can't be made or removed.
-        Raises what try_seed() does: then the seed doesn't count as tried, and the next run tries it
-        again."""
+        """Tries the remaining seeds, in their order, up to the last one or until the time is over;
+        a session that has begun is finished. The folder `work` is made first, in place of an old
+        one, and in the end removed in any case; OSError if it can't be made or removed. Raises what
+        try_seed() does: that seed isn't counted as tried, and the next run tries it again."""
         begin_time, last_seed = time.monotonic(), self.options.seeds[1]
         remove_tree(str(self.work))
         self.work.mkdir()
@@ -65,11 +65,11 @@ class Campaign:
             remove_tree(str(self.work))
 
     def try_seed(self, seed: int) -> None:
-        """Records and checks the session of a seed, adds what is found to the book, and saves it. A
-        session that can't be recorded, or whose check gives no whole verdict, is among the book's
-        faults and counts as tried. The failures that an incomplete check found count too. It raises
-        what Sessions does, and OSError if RESULTS can't be written; the file of the book doesn't
-        have the seed then."""
+        """Records and checks the session of a seed, adds what is found to the book, and saves the
+        book. A session that can't be recorded, or whose check gives no whole verdict, is among the
+        book's faults and counts as tried; failures that an incomplete check found count too. Raises
+        what Sessions does, and OSError if RESULTS can't be written: then the book's file doesn't
+        have the seed."""
         fault = self.sessions.record(seed)
         checked = SessionVerdict(fault=fault) if fault else self.sessions.check(self.sessions.trace)
         if checked.fault:
@@ -88,10 +88,10 @@ class Campaign:
         self.print_time = time.monotonic()
 
     def add_failure(self, seed: int, key: str, failure: Failure) -> None:
-        """Counts a failure of the session that was recorded last, once for each key. Keeps this
-        session, cut to the shortest part that fails so, if the failure is new, or if that part has
-        fewer acknowledged lines than the kept one. Prints a line if it keeps the session. It raises
-        what Shrinking does."""
+        """Counts a failure of the session that was recorded last; to be called once for each key.
+        Keeps this session, cut to the shortest part that fails in the same way, if the failure is
+        new, or if that part has fewer acknowledged lines than the kept one: then it prints a line.
+        Raises what Shrinking does."""
         shrinking = Shrinking(self.sessions, key)
         known_failure = self.book.entries.get(key)
         if known_failure is None:
@@ -111,7 +111,7 @@ class Campaign:
     ) -> None:
         """Keeps the session of a seed, up to so many acknowledged lines (0: all of it), as the
         shortest one of a failure: replaces the entry's trace and page, and notes the session in the
-        entry. If the check finds the failure in the cut session, the entry describes it as found
+        entry. If a check of the cut session finds the failure, the entry describes it as found
         there. Raises what Shrinking.write_part() does."""
         entry.kept_seed, entry.says, entry.shortest = seed, len(shrinking.says), line_count
         cut_failure = shrinking.write_part(
@@ -121,11 +121,10 @@ class Campaign:
 
 
 def run_campaign(arguments: List[str]) -> int:
-    """Runs a campaign, prints its report, and returns the status, also after a stop: from the
-    campaign's beginning on the first signal that stops a command does that, and later ones are
-    ignored. Refused input is a line and the status BAD_INPUT. A wrong word, --help and --version
-    end the program (SystemExit). Any other error is raised, without a report: what was saved
-    stays."""
+    """Runs a campaign, prints its report, and returns the status, also after a stop: once the
+    campaign has begun, the first signal that stops a command does that, and later ones are ignored.
+    Refused input gives a line and the status BAD_INPUT. A wrong word, --help and --version end the
+    program (SystemExit). Any other error is raised, without a report: what was saved stays."""
     try:
         options = read_options(arguments)
         campaign = Campaign(options)
@@ -147,7 +146,7 @@ def run_campaign(arguments: List[str]) -> int:
 
 
 def report_campaign(options: CampaignOptions, book: Book) -> None:
-    """Prints what was found on standard output, and then writes the page if --html names one.
+    """Prints what was found on standard output, and then, if --html names a page, writes that.
     OSError if either can't be written."""
     with flushed_output():
         print('\n'.join(report_lines(options, book)))
@@ -157,7 +156,7 @@ def report_campaign(options: CampaignOptions, book: Book) -> None:
 
 
 def exit_status(book: Book) -> int:
-    """The exit status: SOME_FAIL if any failure is known, else NO_VERDICT if a session has no
+    """The exit status: SOME_FAIL if the book has a failure, else NO_VERDICT if a session has no
     verdict, else 0. What earlier runs found counts too."""
     if book.entries:
         return SOME_FAIL
@@ -166,8 +165,8 @@ def exit_status(book: Book) -> int:
 
 def main(arguments: Optional[List[str]] = None) -> int:
     """Runs crashfs-campaign with these words, or those of its command line, and returns its status.
-    The standard streams are UTF-8 from then on. An error of its own is a line, and the status
-    NO_VERDICT. SystemExit as from run_campaign()."""
+    The standard streams are UTF-8 from then on. An exception is printed as a line, and gives the
+    status NO_VERDICT; SystemExit is raised as in run_campaign()."""
     words = sys.argv[1:] if arguments is None else arguments
     set_utf8_streams()
     try:

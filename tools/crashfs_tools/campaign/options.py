@@ -59,14 +59,14 @@ class CampaignOptions:
 
     def identity(self) -> List[object]:
         """What must be equal for a campaign to be continued: all but the seeds, the time limit and
-        the page. campaign.json has it in this order: with another order no earlier campaign could
-        be continued."""
+        the page. campaign.json has it in this order: after a change of the order no earlier
+        campaign could be continued."""
         return [self.session, self.recovery, self.start, self.record, self.check]
 
 
 def parse_seeds(text: str) -> Tuple[int, int]:
     """The first and the last seed of a range, as `1-100`. ArgumentTypeError if the text is no
-    range, or if the first is greater than the last."""
+    range, or if the first seed is greater than the last."""
     match = re.fullmatch(r'(\d+)-(\d+)', text)
     if match is None or int(match[1]) > int(match[2]):
         raise argparse.ArgumentTypeError(f'{text} is no range such as 1-100')
@@ -74,8 +74,8 @@ def parse_seeds(text: str) -> Tuple[int, int]:
 
 
 def parse_seconds(text: str) -> float:
-    """A number of seconds above 0, as `1.5` or `inf`, which means no limit; ArgumentTypeError for
-    any other text."""
+    """A number of seconds above 0, as `1.5`, or `inf` for no limit. ArgumentTypeError for any other
+    text."""
     try:
         seconds = float(text)
     except ValueError:
@@ -86,7 +86,7 @@ def parse_seconds(text: str) -> float:
 
 
 def parse_words(text: str) -> List[str]:
-    """The words of a text, quoted as for a shell; ArgumentTypeError if a quotation has no end."""
+    """The words of a text, quoted as for a shell. ArgumentTypeError if a quotation has no end."""
     try:
         return shlex.split(text)
     except ValueError as error:
@@ -138,10 +138,10 @@ def make_parser() -> argparse.ArgumentParser:
 
 
 def read_options(arguments: List[str]) -> CampaignOptions:
-    """The options of a command line, with whole paths of the programs and of --start. A wrong word,
-    a missing command, --help and --version end the program (SystemExit). Refused if a program isn't
-    found, or --start names no directory. Without --seeds they are SEEDS, or ALL_SEEDS if there is a
-    time limit."""
+    """The options of a command line, with absolute paths of the programs and of --start. Without
+    --seeds the seeds are SEEDS, or ALL_SEEDS if there is a time limit. A wrong word, a missing
+    command, --help and --version end the program (SystemExit). Refused if a program isn't found, or
+    if --start names no directory."""
     parser = make_parser()
     values, commands = parse_command_line(parser, arguments)
     session, recovery = split_command(commands)

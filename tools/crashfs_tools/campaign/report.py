@@ -7,7 +7,7 @@ import os
 import shlex
 import textwrap
 import time
-from typing import Iterator, List
+from typing import Iterable, Iterator
 
 from crashfs_tools.common.printable import count_text, escape_unprintable
 from crashfs_tools.common.command import version_text
@@ -16,11 +16,13 @@ from .book import Book, KnownFailure
 from .options import NAME, CampaignOptions
 
 COLUMNS = 100
+# No more sessions without a verdict are printed.
+MOST_FAULTS = 20
 
 
 def verdict_line(book: Book) -> str:
     """The first line of the report: how many sessions were tried, how many different failures they
-    have, and, if there are any, how many sessions have no verdict."""
+    have, and how many have no verdict, if any."""
     entries = len(book.entries)
     verdict = 'none fails' if not entries else f'{entries} different failures'
     if entries == 1:
@@ -31,8 +33,8 @@ def verdict_line(book: Book) -> str:
 
 def length_text(entry: KnownFailure) -> str:
     """How many of its session's acknowledged lines the kept trace has, or `the whole session`, and
-    the session's seed unless it is the one with which the failure came first. kept_seed is 0 in a
-    book that doesn't have it: this is the first seed then."""
+    the seed of that session, unless the failure came with it first. In an older book kept_seed is
+    0: then it is the first seed."""
     text = f'{count_text(entry.shortest, "acknowledged line")} of {entry.says:,}'
     if not entry.shortest:
         text = 'the whole session'
@@ -41,35 +43,42 @@ def length_text(entry: KnownFailure) -> str:
 
 
 def state_command(options: CampaignOptions, entry: KnownFailure) -> str:
-    """The command, quoted for a shell, that lays out the failure's example: a failing state of the
-    kept trace. If RESULTS is relative, it works only in the directory where the campaign ran."""
+    """The command, quoted for a shell, that lays out the example of a failure: a failing state of
+    the kept trace. If RESULTS is relative, it works only in the directory in which the campaign
+    ran."""
     trace = os.path.join(options.results, entry.trace)
     words = ['crashfs-check', *options.check, '--state', str(entry.failure.example), trace, '--']
     return shlex.join([*words, *options.recovery])
 
 
 def report_lines(options: CampaignOptions, book: Book) -> Iterator[str]:
-    """The lines of the report: the verdict, each failure with its sentences and its command, and
-    the first 20 sessions without a verdict. Control characters are shown as escapes, but not in the
-    command, which may be copied."""
+    """The lines of the report: the verdict, each failure, and the first MOST_FAULTS sessions
+    without a verdict. Control characters are shown as escapes, except in a command."""
     yield verdict_line(book)
     for entry in book.entries.values():
-        yield f'  {escape_unprintable(entry.failure.cause)}'
-        yield (
-            f'    in {count_text(entry.sessions, "session")}, first with seed {entry.seed}; '
-            f'kept: {length_text(entry)}'
-        )
-        for line in entry.failure.text:
-            yield from folded_line(escape_unprintable(line))
-        yield f'    {state_command(options, entry)}'
-    for seed, text in book.faults[:20]:
-        yield from folded_line(escape_unprintable(f'seed {seed}: {text}'))
+        yield from failure_lines(options, entry)
+    yield from folded_lines(f'seed {seed}: {text}' for seed, text in book.faults[:MOST_FAULTS])
 
 
-def folded_line(line: str) -> List[str]:
-    """A line as lines of COLUMNS letters at most, indented below their entry: the first by 4
-    letters, the others by 6. Blanks at its ends are left out, and a blank line gives none."""
-    return textwrap.wrap(line, COLUMNS, initial_indent='    ', subsequent_indent='      ')
+def failure_lines(options: CampaignOptions, entry: KnownFailure) -> Iterator[str]:
+    """The lines of the report on one failure: its cause, its sessions, its sentences, and the
+    command that lays out its example. That may be copied, so its control characters aren't shown as
+    escapes."""
+    yield f'  {escape_unprintable(entry.failure.cause)}'
+    yield (
+        f'    in {count_text(entry.sessions, "session")}, first with seed {entry.seed}; '
+        f'kept: {length_text(entry)}'
+    )
+    yield from folded_lines(entry.failure.text)
+    yield f'    {state_command(options, entry)}'
+
+
+def folded_lines(lines: Iterable[str]) -> Iterator[str]:
+    """Lines with their control characters as escapes, folded to at most COLUMNS characters. The
+    first part of each is indented by 4 characters, the others by 6. Blanks at the ends of a line
+    are left out, and a blank line gives none."""
+    for line in map(escape_unprintable, lines):
+        yield from textwrap.wrap(line, COLUMNS, initial_indent='    ', subsequent_indent='      ')
 
 
 STYLE = (
@@ -86,8 +95,8 @@ PAGE = (
 
 
 def page_text(options: CampaignOptions, book: Book, folder: str) -> str:
-    """A page of all failures and all sessions without a verdict, with the date of now. Each failure
-    has a link to its own page, relative to `folder`, in which this page will be."""
+    """A page of all failures and all sessions without a verdict, with the present date. Each
+    failure has a link to its own page, relative to `folder`, the directory of this page."""
     body = ''.join(page_section(options, entry, folder) for entry in book.entries.values())
     faults = ''.join(f'<li>seed {seed}: {shown_text(text)}</li>' for seed, text in book.faults)
     body += f'<h2>Without a verdict</h2><ul>{faults}</ul>\n' if faults else ''
@@ -98,7 +107,7 @@ def page_text(options: CampaignOptions, book: Book, folder: str) -> str:
 
 def about_lines(options: CampaignOptions, book: Book) -> Iterator[str]:
     """What the page says below its title: the two commands, the last seed that was tried, the
-    version, and the date of now, in UTC."""
+    version, and the present date and time in UTC."""
     yield f'SESSION: {shlex.join(options.session)}'
     yield f'RECOVERY: {shlex.join(options.recovery)}'
     date = time.strftime('%Y-%m-%d %H:%M:%S UTC', time.gmtime())
@@ -106,14 +115,14 @@ def about_lines(options: CampaignOptions, book: Book) -> Iterator[str]:
 
 
 def shown_text(text: str) -> str:
-    """A text for the page, as HTML that shows it letter by letter: control characters as escapes,
-    and no tag."""
+    """A text as HTML that shows each of its characters, and has no tag; control characters are
+    shown as escapes."""
     return html.escape(escape_unprintable(text))
 
 
 def page_section(options: CampaignOptions, entry: KnownFailure, folder: str) -> str:
     """The page's part for one failure: its cause, with a link from `folder` to the failure's own
-    page, its sentences, and the command of its state."""
+    page, its sentences, and the command that lays out its example."""
     link = os.path.relpath(os.path.join(options.results, entry.page), folder)
     text = '<br>'.join(shown_text(line) for line in entry.failure.text)
     found = f'In {count_text(entry.sessions, "session")}, first with seed {entry.seed}'

@@ -32,7 +32,7 @@ REPORTS = (3, 4)
 @dataclass
 class Failure:
     """An entry of a check's report: its cause and sentences, the number of an example, and how many
-    different states fail so. The file of a campaign has the names of the fields."""
+    different states fail in this way. The file of a campaign has the names of the fields."""
 
     cause: str
     text: List[str]
@@ -42,28 +42,28 @@ class Failure:
 
 @dataclass
 class SessionVerdict:
-    """What the check of a session found: its failures, and why it has no whole verdict; an empty
-    text if it has one."""
+    """What the check of a session found: its failures, and why there is no whole verdict; an empty
+    text if there is one."""
 
     failures: List[Failure] = field(default_factory=list)
     fault: str = ''
 
 
 class Sessions:
-    """Makes traces in a folder, and checks them. The folder must exist when a session is recorded.
-    trace is the file of the last recorded session, which the next one replaces."""
+    """Makes traces in a folder, which must exist when a session is recorded, and checks them. trace
+    is the file of the last recorded session, which the next recording replaces."""
 
     def __init__(self, options: CampaignOptions, folder: Path) -> None:
-        """Nothing is made yet, and the folder needn't exist."""
+        """Makes nothing yet, and the folder needn't exist."""
         self.options = options
         self.folder = folder
         self.trace = folder / 'session.trace'
 
     def record(self, seed: int) -> str:
         """Records SESSION with a seed, in a new store: empty, or a copy of --start. Returns why
-        there is no trace that can be checked; an empty text if there is one. A trace that can't say
-        all that happened counts as none. OSError if the last store can't be removed, or --start
-        can't be copied."""
+        there is no trace that can be checked; an empty text if there is one. An incomplete trace
+        can't be checked. OSError if the last store can't be removed, or if --start can't be
+        copied."""
         store = self.folder / 'store'
         remove_tree(str(store))
         if self.options.start is None:
@@ -75,10 +75,10 @@ class Sessions:
         return '' if status in RECORDED else fault_text('crashfs-record', status, error_text)
 
     def check(self, trace: Path, page: Optional[Path] = None) -> SessionVerdict:
-        """Checks a trace with RECOVERY. Returns the failures in its report, and a fault if there is
-        no whole verdict, or if what fails isn't among them; the report of a check that ended early
-        has what was found until then. Writes the report as a page too, if one is named. It raises
-        what run_tool() and read_report() do, and KeyError if the report lacks a key."""
+        """Checks a trace with RECOVERY, and writes the report as a page too, if one is named.
+        Returns the failures in the report, and a fault if there is no whole verdict, or if what
+        fails isn't among them; a check that ended early has what was found until then. Raises what
+        run_tool() and read_report() do, and KeyError if the report lacks a key."""
         report = self.folder / 'report.json'
         if report.exists():
             report.unlink()
@@ -99,8 +99,8 @@ class Sessions:
     ) -> Tuple[int, str]:
         """Runs one of the two commands to its end, without a time limit, with these variables added
         to its environment. Returns its status and what it printed on standard error; other output
-        is dropped. If an exception comes meanwhile, as by a stop, the command is ended by
-        end_tool(). OSError if it can't be started."""
+        is dropped. After an exception meanwhile, as by a stop, end_tool() ends the command. OSError
+        if it can't be started."""
         child = subprocess.Popen(
             [sys.executable, str(TOOLS / tool), *words],
             env={**os.environ, **variables},
@@ -120,7 +120,8 @@ class Sessions:
 
 def end_tool(child: subprocess.Popen[str]) -> None:
     """Terminates one of the two commands, and waits for its end. If that takes more than
-    ENDING_SECONDS, it is terminated again: then crashfs-record kills SESSION."""
+    ENDING_SECONDS, terminates it again, on which crashfs-record kills SESSION; it then waits
+    without limit."""
     child.terminate()
     try:
         child.communicate(timeout=ENDING_SECONDS)
@@ -130,8 +131,8 @@ def end_tool(child: subprocess.Popen[str]) -> None:
 
 
 def read_report(report: Path) -> Dict[str, Any]:
-    """The JSON of a report of crashfs-check. OSError if it can't be read, or if it is of a version
-    that isn't known here; ValueError if it is no JSON."""
+    """The JSON of a report of crashfs-check. OSError if it can't be read, or if its version isn't
+    one of REPORTS; ValueError if it is no JSON."""
     fields: Dict[str, Any] = json.loads(report.read_text('utf-8', 'surrogateescape'))
     if fields.get('crashfs-check') not in REPORTS:
         raise OSError(f'{report} is a report of another version')
@@ -139,8 +140,8 @@ def read_report(report: Path) -> Dict[str, Any]:
 
 
 def unanswered_causes(fields: Dict[str, Any]) -> List[str]:
-    """Why states of a report gave no answer: each cause once, in the order of the states, except
-    causes with which other states fail. KeyError if the report lacks a key."""
+    """Why states of a report gave no answer: each cause once, in the order of the states, without
+    causes that failing states have too. KeyError if the report lacks a key."""
     outcomes = [outcome for window in fields['windows'] for outcome in window['outcomes'].values()]
     failing_causes = {cause for result, cause, _ in outcomes if result == BAD}
     causes = [cause for result, cause, _ in outcomes if result == NO_ANSWER]
@@ -148,8 +149,8 @@ def unanswered_causes(fields: Dict[str, Any]) -> List[str]:
 
 
 def failures_in(fields: Dict[str, Any], unanswered: List[str]) -> List[Failure]:
-    """The entries of a report, without accepted ones, and without those whose cause is among
-    `unanswered`. KeyError if the report lacks a key."""
+    """The entries of a report as failures, without accepted ones, and without those whose cause is
+    among `unanswered`. KeyError if the report lacks a key."""
     return [
         Failure(entry['cause'], entry['text'], entry['example'], entry['different'])
         for entry in fields['groups']

@@ -12,7 +12,7 @@ from .sessions import Failure, Sessions
 
 def acknowledged_places(lines: List[str]) -> List[int]:
     """The places, from 0, of the acknowledged lines among the lines of a trace. Only lines that
-    contain `"say"` are parsed: ValueError if one of these is no JSON."""
+    contain `"say"` are parsed. ValueError if one of these is no JSON."""
     return [
         place for place, line in enumerate(lines) if '"say"' in line and is_say(json.loads(line))
     ]
@@ -24,12 +24,12 @@ def is_say(fields: object) -> bool:
 
 
 class Shrinking:
-    """Searches how much of a session is enough for the failure of a key. Its parts are counted by
-    acknowledged lines: says has the places of these among the trace's lines."""
+    """Searches how much of a session is enough for the failure with a key. Parts of the session are
+    counted by acknowledged lines: says has the places of these among the trace's lines."""
 
     def __init__(self, sessions: Sessions, key: str) -> None:
-        """Reads the session that was recorded last: what is recorded later changes nothing. OSError
-        if its trace can't be read, ValueError as from acknowledged_places()."""
+        """Reads the session that was recorded last; a later recording changes nothing. OSError if
+        its trace can't be read, ValueError as in acknowledged_places()."""
         self.sessions = sessions
         self.key = key
         text = sessions.trace.read_text('utf-8', 'surrogateescape')
@@ -50,10 +50,10 @@ class Shrinking:
         return next((failure for failure in failures if failure_key(failure) == self.key), None)
 
     def shortest_length(self, most: Optional[int] = None) -> int:
-        """The fewest acknowledged lines, at most `most` if it is given, with which the failure
-        still comes, by binary search: what a session may leave, a longer one may leave too. 0 if
-        the failure doesn't come with so many lines: it needs more, or what the session does after
-        its last line. Raises what find_failure() does."""
+        """The fewest acknowledged lines, at most `most` if that is given, with which the failure
+        still comes, by binary search: what a part of a session may leave, a longer part may leave
+        too. 0 if the failure doesn't come with so many lines: it needs more, or what the session
+        does after its last line. Raises what find_failure() does."""
         low, high = 0, len(self.says) if most is None else min(most, len(self.says))
         if not high or self.find_failure(high) is None:
             return 0
@@ -68,8 +68,8 @@ class Shrinking:
     def write_part(self, count: int, trace: Path, page: Path) -> Optional[Failure]:
         """Writes the session up to so many acknowledged lines (0: all of it) to the file `trace`,
         and the report on it to `page`. Returns the failure as a check finds it in this part; None
-        if it doesn't find it: the files are written even so. Raises what find_failure() does, and
-        OSError if the trace can't be written."""
+        if the check doesn't find it, and the files are written even so. Raises what find_failure()
+        does, and OSError if the trace can't be written."""
         failure = self.find_failure(count)
         trace.write_bytes(self.cut.read_bytes())
         self.sessions.check(trace, page)
