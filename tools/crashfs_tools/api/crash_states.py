@@ -18,7 +18,7 @@ from crashfs_tools.checker.states.plan import Plan, PlannedTrace
 from crashfs_tools.common.archive import Member
 from crashfs_tools.common.entry import Entries
 from crashfs_tools.common.guard import Guard
-from crashfs_tools.common.program import Crashfs
+from crashfs_tools.common.program import Crashfs, tree_of_members
 from crashfs_tools.common.removal import remove_tree
 
 from .checks import path_text, refuse_every_with_families
@@ -111,6 +111,6 @@ def states_of_window(
 
 
 def full_tree(_: int, members: Iterable[Member]) -> Entries:
-    """The tree of a state as read_trees() gives it, with a slash in front of each path. The state's
-    number isn't needed."""
-    return {'/' + path: entry for path, entry in members}
+    """The tree of a state, in the form that read_trees() asks for: the state's number isn't
+    needed."""
+    return tree_of_members(members)

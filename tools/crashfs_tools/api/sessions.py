@@ -34,9 +34,8 @@ def main(arguments: List[str]) -> None:
 
 
 def load_module(path: str, name: str) -> object:
-    """Imports the module of a file: by its name, if that finds this file; else from the file, as a
-    module without a package, named in sys.modules as the file without its ending. This is so for a
-    script that ran as `__main__`. What the import raises is passed on; only after a
+    """Imports the module of a file: by its name, if that finds this file; else by load_file(), as
+    for a script that ran as `__main__`. What the import raises is passed on; only after a
     ModuleNotFoundError by the name the file is tried. If the name finds another file, that has run
     too."""
     try:
@@ -47,10 +46,17 @@ def load_module(path: str, name: str) -> object:
             return module
     except ModuleNotFoundError:
         pass
+    return load_file(path)
+
+
+def load_file(path: str) -> object:
+    """Imports a file as a module without a package, which is in sys.modules under the file's name
+    without its ending, also after a failure. OSError if it can't be read; what it raises is passed
+    on."""
     loader = importlib.machinery.SourceFileLoader(Path(path).stem, path)
     spec = importlib.util.spec_from_file_location(loader.name, path, loader=loader)
     assert spec is not None
-    loaded_module = importlib.util.module_from_spec(spec)
-    sys.modules[spec.name] = loaded_module
-    loader.exec_module(loaded_module)
-    return loaded_module
+    module = importlib.util.module_from_spec(spec)
+    sys.modules[spec.name] = module
+    loader.exec_module(module)
+    return module

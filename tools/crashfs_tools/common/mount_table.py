@@ -55,12 +55,9 @@ class MountTable:
 def read_mount_points() -> Dict[int, str]:
     """The mount points that the system has now, by the numbers of the mounts. OSError if the table
     can't be read."""
-    with open(TABLE, 'rb') as lines:
-        fields = [line.split(b' ') for line in lines]
-    return {
-        int(line_fields[0]): os.fsdecode(OCTAL.sub(byte_of_escape, line_fields[4]))
-        for line_fields in fields
-    }
+    with open(TABLE, 'rb') as table:
+        rows = [line.split(b' ') for line in table]
+    return {int(row[0]): os.fsdecode(OCTAL.sub(byte_of_escape, row[4])) for row in rows}
 
 
 def byte_of_escape(match: re.Match[bytes]) -> bytes:
@@ -68,10 +65,12 @@ def byte_of_escape(match: re.Match[bytes]) -> bytes:
     return bytes([int(match[1], 8)])
 
 
-def try_to_unmount(point: str) -> bool:
-    """Unmounts what was mounted last at a path, even if it is in use, by the first of UNMOUNTS that
-    succeeds. Returns whether one does; each may take any time."""
-    return any(run_quietly([*words, point]) for words in UNMOUNTS)
+def try_to_unmount(point: str) -> None:
+    """Unmounts what was mounted last at a path, even if it is in use: tries UNMOUNTS until one
+    succeeds, each without a time limit. Nothing happens if none does."""
+    for words in UNMOUNTS:
+        if run_quietly([*words, point]):
+            return
 
 
 def run_quietly(words: List[str]) -> bool:

@@ -12,7 +12,7 @@ import tempfile
 from contextlib import contextmanager
 from functools import cached_property
 from itertools import groupby
-from typing import Any, Dict, Iterator, List, Optional, Tuple, Union
+from typing import Any, Dict, Iterable, Iterator, List, Optional, Tuple, Union
 
 from .archive import ArchiveFault, Member, parse_state_number, read_members
 from .command import Refused, ending_text
@@ -247,7 +247,13 @@ class Crashfs:
         """The tree, with the root, of the state that the option `--state` among the words names.
         Errors as open_archive(), also if there is no such state."""
         with self.open_archive(words, environment) as archive:
-            return {'/' + path: entry for path, entry in archive}
+            return tree_of_members(archive)
+
+
+def tree_of_members(members: Iterable[Member]) -> Entries:
+    """A tree from the entries of an archive, which it reads to the end: paths get a slash in
+    front."""
+    return {'/' + path: entry for path, entry in members}
 
 
 def first_name_of_path(member: Member) -> str:

@@ -64,7 +64,7 @@ def tree_at_end(lines: Iterable[str]) -> Tree:
 
 def tree_without_start(trace: Trace) -> Tree:
     """The tree of a trace without its start lines: only the root, in the trace's version and
-    profile."""
+    profile, and with its size of blocks."""
     header = trace.header
     return Tree(header.owner, header.group, header.mode, trace.block, trace.version, trace.profile)
 

@@ -55,8 +55,8 @@ def read_tree(top: str, owners: Owners) -> Entries:
 
 
 def paths_below(top: str) -> Iterator[str]:
-    """The paths of all that is below a directory, from there on, each with a slash in front. A
-    directory that can't be listed counts as empty."""
+    """The paths of all that is below a directory, relative to it and with a slash in front; `top`
+    must not end with a slash. A directory that can't be listed counts as empty."""
     for folder, folder_names, file_names in os.walk(top):
         yield from (f'{folder[len(top) :]}/{name}' for name in (*folder_names, *file_names))
 

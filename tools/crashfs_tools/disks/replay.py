@@ -170,7 +170,8 @@ class Replay:
         CALLS[type(operation)](self, operation)
 
     def creat(self, operation: Creat) -> None:
-        """Makes a new file, and keeps it open. FileExistsError if something is there."""
+        """Makes a new file with its owner, group and mode, and keeps it open. FileExistsError if
+        something is there."""
         descriptor = os.open(self.disk_path(operation.path), NEW_FILE, operation.mode)
         self.descriptors[os.fstat(descriptor).st_ino] = descriptor
         self.set_rights(operation)
