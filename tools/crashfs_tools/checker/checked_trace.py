@@ -87,20 +87,22 @@ class CheckedTrace:
 
     @cached_property
     def lines(self) -> TraceText:
-        """The trace's operations in words, and its acknowledged texts. Ask only after the program
-        has accepted the trace: a fault in a line is a TraceError, KeyError or TypeError here."""
+        """The trace's operations in words, and its acknowledged texts. Use them only after the
+        program has accepted the trace: a fault in a line is a TraceError, KeyError or TypeError
+        here."""
         return parse_trace_text(self.text)
 
     @cached_property
     def acknowledged_lines(self) -> AcknowledgedLines:
-        """The acknowledged lines, of which COMMAND gets files as its standard input. Ask only after
-        the program has accepted the trace, as for `lines`."""
+        """The acknowledged lines, of which COMMAND gets files as its standard input. Use them only
+        after the program has accepted the trace, as `lines`."""
         return AcknowledgedLines(self.lines.acknowledged, self.guard.directory)
 
     @cached_property
     def workplace(self) -> Workplace:
-        """What the trials of all windows share; always the same object, so all get a cache that is
-        opened later. Ask only after the program has accepted the trace, as for `lines`."""
+        """What the trials of all windows share: always the same object, so that all of them get a
+        cache that is opened later. Use it only after the program has accepted the trace, as
+        `lines`."""
         return Workplace(
             self.options, self.program, self.guard, self.acknowledged_lines, self.progress
         )

@@ -319,10 +319,10 @@ def read_options(arguments: List[str]) -> Options:
 
 
 def possible_faults(values: argparse.Namespace, command: List[str]) -> Dict[str, bool]:
-    """The faults that a command line may have: a missing TRACE or COMMAND, and options that can't
-    be combined. Each is the line that reports it, with whether these values have the fault. Options
-    that only have no effect, such as --fail-fast with --state or --resume with --merge, are no
-    fault."""
+    """The faults that a command line may have, by the lines that report them, each with whether
+    these values and COMMAND have it: a missing TRACE or COMMAND, and options that can't be
+    combined. Options that only have no effect, such as --fail-fast with --state or --resume with
+    --merge, are no fault."""
 
     is_merge, is_serve = values.merge is not None, values.serve is not None
     is_shard = values.shard.parts > 1

@@ -69,9 +69,9 @@ def merge_reports(options: Options) -> Report:
 
 
 def refuse_wrong_outputs(options: Options) -> None:
-    """Refuses output files that can't be written, that are TRACE or the file of --accept, or of
-    which two are one file or both standard output. Only a device or a pipe may be named several
-    times. The reports of --resume and --merge may be replaced."""
+    """Refused if an output file can't be written, if it is TRACE or the file of --accept, or if two
+    are one file or both standard output. Only a device or a pipe may be named several times. The
+    reports of --resume and --merge may be replaced."""
     inputs = {'TRACE': options.trace, '--accept': options.accept}
     names = {os.path.realpath(path): name for name, path in inputs.items() if path is not None}
     for name, path in outputs_of(options).items():
@@ -96,9 +96,9 @@ def outputs_of(options: Options) -> Dict[str, str]:
 
 
 def strictest_mode(paths: List[str]) -> int:
-    """The mode of a file that shows parts of all files at these paths, as mode_of_report(): others
-    than its owner have only the rights that they have in each of these files. There must be a path.
-    OSError if a file is gone."""
+    """The mode of a file that shows parts of the files at all these paths, at least one: as
+    mode_of_report(), but users other than its owner have only rights that they have to each of
+    these files. OSError if a file is gone."""
     return reduce(and_, (mode_of_report(os.stat(path)) for path in paths))
 
 

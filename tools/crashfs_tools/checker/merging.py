@@ -61,7 +61,7 @@ def report_of_results(
     """The report of results, window by window. If their trace is given, the report also says how
     files differ: the trace is planned again, and Refused if it has other states than a window of
     the results, or fewer windows. Further windows of the trace are ignored. Refused also as
-    new_report(); ProgramFault if the program fails."""
+    new_report(); other errors as in CheckedTrace.all_planned() and find_differences()."""
     report = new_report(results.head, options)
     report.not_done = list(results.not_done)
     previous_outcomes: Dict[int, Outcome] = {}

@@ -33,7 +33,7 @@ class StateCounts:
     which are tried once; `states` and all_failing_states also count states that are equal to them.
     is_part says that all crash states were asked for, but only some are tried. seconds_per_state is
     0 if it isn't known. drawn_results counts the sets that were drawn at random, up to the first
-    that wasn't tried, by their results."""
+    that wasn't tried, by their results. all_states has what is known of them in each window."""
 
     windows: int = 0
     operations: int = 0
@@ -94,18 +94,18 @@ class StateCounts:
     def are_all_listed(self) -> bool:
         """Whether the plan of each window lists all crash states, tried or not; False without
         windows."""
-        are_listed = [plan is not None and plan.are_listed for plan in self.all_states]
+        are_listed = [window is not None and window.are_listed for window in self.all_states]
         return bool(are_listed) and all(are_listed)
 
     @property
     def is_by_second_reading(self) -> bool:
         """Whether the second reading, not the program, found which crash states a window has."""
-        return any(plan is not None and plan.are_read for plan in self.all_states)
+        return any(window is not None and window.are_read for window in self.all_states)
 
     @property
     def set_count(self) -> Optional[int]:
-        """How many sets the rules allow. None if they are too many to count or weren't asked for,
-        for a session in several windows, and if nothing was tried."""
+        """How many sets the rules allow. None if these are too many to count, if only families were
+        asked for, for a session in several windows, and if nothing was tried."""
         if len(self.all_states) != 1 or self.all_states[0] is None:
             return None
         return self.all_states[0].sets
@@ -122,13 +122,19 @@ class StateCounts:
     @property
     def total_text(self) -> str:
         """How many crash states there are, as text; all must have been asked for. If not all are
-        listed, it is `more than` the most that are tried for a session in windows; else the number
-        of sets, or `more than` LEAST_OF_MANY if these can't be counted."""
+        listed, the text has a bound instead: in several windows `more than` most_of_windows; in one
+        plan the number of sets or, if they can't be counted, `more than` LEAST_OF_MANY."""
         if self.are_all_listed:
             return f'{self.different_states:,}'
         if len(self.all_states) > 1:
-            return f'more than {max(plan.most for plan in self.all_states if plan is not None):,}'
+            return f'more than {self.most_of_windows:,}'
         return f'more than {LEAST_OF_MANY:,}' if self.set_count is None else f'{self.set_count:,}'
+
+    @property
+    def most_of_windows(self) -> int:
+        """Up to how many different crash states all those of a window are tried: the largest such
+        number of all windows. 0 if only families were asked for."""
+        return max((window.most for window in self.all_states if window is not None), default=0)
 
     def has_tried_all(self, head: Head) -> bool:
         """Whether the whole check has tried all states that it chose. False for one of several

@@ -146,11 +146,11 @@ def partial_check_lines(counts: StateCounts) -> Iterator[str]:
         return
     if counts.drawn_results and len(counts.all_states) == 1 and not counts.profile:
         yield drawn_text(counts)
-    most = max((plan.most for plan in counts.all_states if plan is not None), default=0)
     if counts.are_all_listed:
         total = counts.different_states
         yield f'all {total:,}{time_text(counts, total)}: --every'
         return
+    most = counts.most_of_windows
     yield f'all are more than {most:,}{time_text(counts, most, "more than ")}: --every N'
 
 

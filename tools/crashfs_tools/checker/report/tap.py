@@ -38,37 +38,37 @@ def tap_lines(report: CheckReport) -> Iterator[str]:
     """The text of the file of --tap, in pieces: a test for each entry of the report, for each entry
     of second crashes, for each failure on disks that no tried state has, and one for all other
     states. One of them fails exactly if the check's status isn't 0."""
-    text = ReportText(report)
-    points = [entry_point(text, group) for group in report.groups()]
-    points += [entry_point(text, *entry) for entry in report.recovery_groups()]
+    report_text = ReportText(report)
+    points = [entry_point(report_text, group) for group in report.groups()]
+    points += [entry_point(report_text, *entry) for entry in report.recovery_groups()]
     points += [
         failed_point(f'{failure.outcome.cause} ({failure.explanation.reason})', failure.lines())
         for failure in report.disk_failures()
     ]
-    points.append(others_point(text))
+    points.append(others_point(report_text))
     yield f'{VERSION}\n1..{len(points)}\n'
     for number, point in enumerate(points, 1):
         yield from point.lines(number)
 
 
 def entry_point(
-    text: ReportText, group: Group, second_crash: Optional[SecondCrash] = None
+    report_text: ReportText, group: Group, second_crash: Optional[SecondCrash] = None
 ) -> TestPoint:
     """The test of an entry: skipped if the entry is accepted, else one that failed, whose last line
     names the example. second_crash is None unless the entry is one of second crashes."""
     if group.accepted_entry is not None:
         return TestPoint(group.cause, reason=accepted_text(group.accepted_entry))
-    example = f'state {example_number(group, second_crash)} of {text.head.trace}'
-    return failed_point(group.cause, [*text.entry_details(group, second_crash), example])
+    example = f'state {example_number(group, second_crash)} of {report_text.head.trace}'
+    return failed_point(group.cause, [*report_text.entry_details(group, second_crash), example])
 
 
-def others_point(text: ReportText) -> TestPoint:
+def others_point(report_text: ReportText) -> TestPoint:
     """The test of all states that are in no entry. It fails if the report isn't whole, because a
     state or a recovery wasn't tried. Its name counts the good states."""
-    name = f'all other states ({text.counts.good_count:,})'
-    if text.report.is_whole:
+    name = f'all other states ({report_text.counts.good_count:,})'
+    if report_text.report.is_whole:
         return TestPoint(name)
-    return TestPoint(name, [text.summary(), *text.not_tried_lines()])
+    return TestPoint(name, [report_text.summary(), *report_text.not_tried_lines()])
 
 
 def failed_point(cause: str, details: List[str]) -> TestPoint:

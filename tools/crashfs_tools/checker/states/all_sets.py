@@ -49,8 +49,9 @@ class AllSets(Protocol):
 
 
 def all_sets(program: Crashfs, environment: Dict[str, str], reading_sets: ReadingSets) -> AllSets:
-    """The sets of the trace of reading_sets: by the program, if it is proved and
-    can_program_find_sets(); else by the second reading. Nothing is computed yet."""
+    """The object that finds the sets of the trace of reading_sets: by the program, which gets the
+    environment, if it is proved and can_program_find_sets(); else by the second reading. Nothing is
+    computed yet."""
     if program.is_unproved or not can_program_find_sets(reading_sets.reading):
         return reading_sets
     return ProgramSets(program, environment, reading_sets)
@@ -91,7 +92,8 @@ class ProgramSets:
     def different_sets(self, most: int, profile: str = '') -> Optional[List[int]]:
         """Asks `picks --every --different`. The second reading answers if the program doesn't know
         an option, or if a profile is named and has too many sets for the program: are_read is True
-        from then on. KeyError then for a profile that the trace doesn't have."""
+        from then on, and a profile that the trace doesn't have is a KeyError. Returns None as
+        AllSets.different_sets() says."""
         profile_options = ['--profile', profile] if profile else []
         options = ['--every', '--different', '--most', str(most), *profile_options]
         try:

@@ -126,9 +126,10 @@ class KeptTree:
         self.is_whole, self.files = False, {}
 
     def change(self, tree: Mapping[str, Entry]) -> None:
-        """Changes in the directory what differs from the tree; the umask is 0 meanwhile.
-        Unchangeable, or an OSError, if something can't be changed: the directory may then have
-        neither the old tree nor the new one."""
+        """Changes in the directory, which must be there, what differs from the tree; the umask is 0
+        meanwhile. make_again() must have found its owners and attributes. Unchangeable, or an
+        OSError, if something can't be changed: the directory may then have neither the old tree nor
+        the new one."""
         if self.mounts.points_below(self.directory):
             raise Unchangeable
         self.remaining_paths, self.modes = {''}, {}
@@ -192,7 +193,7 @@ class KeptTree:
     def open_up(self, path: str, name: str, folder: Optional[int], status: os.stat_result) -> None:
         """Gives a directory the rights that changes need, if it lacks them, and notes the mode that
         it has then in `modes`, by its path in the tree. `name` is its name in the open directory
-        `folder`, or its absolute path if that is None. OSError if the mode can't be set,
+        `folder`, or its absolute path if `folder` is None. OSError if the mode can't be set,
         Unchangeable if owner and group aren't those of a new directory."""
         if (status.st_uid, status.st_gid) not in self.owners:
             raise Unchangeable
@@ -267,9 +268,9 @@ class KeptTree:
     def needs_only_bytes(
         self, laid_file: LaidFile, wanted_entry: Entry, status: os.stat_result
     ) -> bool:
-        """Whether a file is large, and lacks at most its wanted bytes: the mode is the wanted one,
-        and COMMAND has neither replaced the file nor changed its rights or links. False if the file
-        system's times don't show each store."""
+        """Whether a file is large, and at most its bytes aren't as they are wanted: its mode is the
+        wanted one, and COMMAND has neither replaced it nor changed its rights or links. False if
+        the file system's times don't show each store."""
         return (
             self.has_times
             and laid_file.entry.mode == wanted_entry.mode
@@ -309,8 +310,8 @@ def is_large(entry: Entry) -> bool:
 
 
 def signature_of(status: os.stat_result) -> Signature:
-    """Numbers of a file's status that show a change of it. The first RIGHTS of them stay the same
-    if only its bytes are changed."""
+    """Numbers from a file's status, of which a change of the file changes at least one. The first
+    RIGHTS of them stay the same if only the file's bytes are changed."""
     return (
         status.st_ino,
         status.st_mode,

@@ -46,8 +46,8 @@ class Mounts(Layout):
     def laid_out(self, number: int, directory: str) -> Iterator[None]:
         """Makes the directory, and mounts the state's run there. After the `with` the run is
         unmounted, and the directory removed. OSError if the directory can't be made or removed;
-        Refused if the run can't be mounted or unmounted. The directory stays after an exception,
-        and after one within the `with` the run is unmounted."""
+        Refused if the run can't be mounted or unmounted. After an exception the directory stays;
+        after one within the `with` the run is unmounted nevertheless."""
         os.mkdir(directory)
         self.mount(f'{number}/{self.run}', directory)
         try:
@@ -81,9 +81,8 @@ class Mounts(Layout):
 
     def unmount(self, directory: str) -> None:
         """Unmounts what is at a directory, lazily if a process that COMMAND left behind still uses
-        it. Refused if it stays mounted. The command must run to its end also if the check is
-        stopped: it doesn't get the check's environment, by which the guard finds processes to
-        end."""
+        it. Refused if it stays mounted. `umount` must run to its end also if the check is stopped:
+        it doesn't get the check's environment, by which the guard finds processes to end."""
         environment = dict(os.environ)
         fault = run_on_directory(['umount', directory], directory, environment)
         if fault and run_on_directory(['umount', '-l', directory], directory, environment):

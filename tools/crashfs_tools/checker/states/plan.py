@@ -70,8 +70,9 @@ class Offsets(NamedTuple):
 
     def values_by_own_lines(self, values: Dict[int, str]) -> Dict[int, str]:
         """Takes values by line numbers of the session, and returns them by line numbers of the
-        plan's trace. Of several lines of the trace that come from one of the session only the last
-        one gets its value. Values of lines that the trace doesn't have are left out."""
+        plan's trace; `values` itself if the numbers are the same. Of several lines of the trace
+        that come from one of the session only the last one gets its value. Values of lines that the
+        trace doesn't have are left out."""
         if not self.lines:
             return values
         own_numbers = {line: number for number, line in enumerate(self.lines, 1)}
@@ -318,8 +319,8 @@ class PlannedTrace:
         return [self.trace, *(path for option, path in option_pairs if option == '--picks')]
 
     def requests(self, numbers: Iterable[int]) -> Iterator[Request]:
-        """For each part that has some of the states of these numbers, one part after the other, the
-        request for these states. Numbers that the plan doesn't have are ignored."""
+        """Yields a request for each part that has some of the states of these numbers, in the order
+        of the parts. Numbers that the plan doesn't have are ignored."""
         wanted = set(numbers)
         for part in self.parts:
             numbers_of_part = {number for number in wanted if part.first <= number < part.end}

@@ -44,11 +44,11 @@ class Planner:
         self.guard = guard
 
     def plan(self, trace: str, offsets: Offsets = Offsets()) -> PlannedTrace:
-        """The plan of a trace, which is at these offsets in its session: of the families that the
-        options ask for and, if they ask for all crash states, of all or of drawn ones. With --in
-        only states that its profile allows are tried. Writes files of picks. TooLarge if the trace
-        is too long for one plan; Refused for an unknown profile, or if both readings differ in what
-        a micro-operation needs."""
+        """The plan of a trace at these offsets in its session. It has the families that the options
+        ask for and, if they ask for all crash states, all or drawn ones. Writes files of picks.
+        TooLarge if the trace is too long for one plan; Refused for an unknown profile in --in, or
+        if the readings differ in what a micro-operation needs; ProgramFault if the program fails to
+        print sets."""
         options = self.options
         if not (options.has_lost or options.has_files or options.has_every or options.profile):
             return self.plan_picks(trace, offsets, [])
@@ -97,7 +97,7 @@ class Planner:
         """The plan of the families and of all crash states. If these are too many, the plan has
         sets drawn at random in their place, or none if the sets can't even be counted; its
         all_states says so. family_sets is what the method of this name returned. Errors as in
-        plan(), and ProgramFault if the program prints no sets."""
+        plan()."""
         needs = reading_sets.needs
         all_crash_sets = all_sets(self.program, self.guard.environment, reading_sets)
         different_sets = find_sets_of_all_states(
@@ -212,7 +212,7 @@ class Planner:
 
     def is_always_listed(self, needs: Needs, members: int) -> bool:
         """Whether a set needs no pick, because the plan has it as a prefix or hole. With --prefixes
-        and --serve each set needs a pick: a server's picks have prefixes and holes too."""
+        or --serve each set needs a pick: a server's picks have all sets of the families."""
         if self.options.prefixes or self.options.serve is not None:
             return False
         return needs.is_prefix_or_hole(members)

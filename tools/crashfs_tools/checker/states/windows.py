@@ -136,14 +136,15 @@ class Windows:
 
     def end_with_few_states(self, steps: Steps, end: int, planned: PlannedTrace) -> int:
         """The last step before `end` at which nothing is pending, and before which so few crash
-        states come that all can be tried. It is `end`, where `planned` ends, if there is no such
-        step, if its plan has all crash states, or if the options don't ask for all. Errors as in
+        states come that all can be tried. `end` itself, where `planned` ends, if there is no such
+        step, if `planned` has all crash states, or if the options don't ask for all. Errors as in
         has_few_states()."""
         all_states = planned.plan.all_states
         if all_states is None or all_states.are_listed:
             return end
         ends = self.ends_without_pending(steps, end, ReadingSets(planned.trace))
         low, high = 0, len(ends)
+        # It is assumed that a longer part has no fewer states.
         while low < high:
             middle = (low + high) // 2
             if self.has_few_states(steps, ends[middle]):
@@ -189,8 +190,8 @@ class Windows:
 
     def fitting_count(self, needs: Sequence[int]) -> int:
         """How many of the first micro-operations fit in one plan with their prefixes, their holes
-        and, if --lost is tried, a set for each. `needs` has the set that each micro-operation
-        needs. Sets of --files aren't counted."""
+        and, if --lost is tried, a set of --lost for each. `needs` has the set that each
+        micro-operation needs. Sets of --files aren't counted."""
         options, state_count = self.planner.options, 1
         for place, members in enumerate(needs):
             hole_count = 0 if options.prefixes else place + 1 - size_of(members)
