@@ -8,10 +8,10 @@ from .plan import Plan, State
 
 
 def joined_states(trace_path: str, plan: Plan) -> List[State]:
-    """The listed states of a plan, each with its `same` set to the first state of all parts that
-    has an equal tree; before, it must be right within each part. The second reading of the trace at
-    trace_path compares the trees: ReadingFault if it refuses the trace, OSError if the file can't
-    be read. The plan stays as it is."""
+    """Copies of the listed states of a plan, in which `same` is the first state of all parts that
+    has an equal tree; in the plan it must be the first one of the state's part. The second reading
+    of the trace at trace_path compares the trees: ReadingFault if it refuses the trace, OSError if
+    the file can't be read."""
     from crashfs_tools.reading import parse_trace
     from crashfs_tools.reading.states import Digest, States
 

@@ -275,7 +275,8 @@ def write_all(file: int, data: Bytes) -> None:
 
 def pieces_with_bytes(data: Bytes) -> Iterator[Tuple[int, Union[bytes, bytearray]]]:
     """Yields the pieces of a file's bytes that have other bytes than zeros, each after its offset:
-    the runs of pages of SparseBytes; of other data pieces of PIECE_BYTES, the last one shorter."""
+    runs of pages of SparseBytes, or else pieces of PIECE_BYTES, of which the last may be
+    shorter."""
     if isinstance(data, SparseBytes):
         yield from data.page_runs()
         return

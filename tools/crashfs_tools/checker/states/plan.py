@@ -303,8 +303,8 @@ class PlannedTrace:
     is_last: bool = True
 
     def window_text(self) -> str:
-        """The range of the window's micro-operations in the session, as the beginning of a line,
-        with a colon and a blank. An empty text if the window has the whole session."""
+        """The range of the window's micro-operations in the session, as the beginning of a line: it
+        ends in a colon and a blank. An empty text if the window has the whole session."""
         first_place = self.offsets.operations
         if self.is_last and first_place == 0:
             return ''

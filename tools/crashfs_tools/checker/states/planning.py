@@ -153,7 +153,7 @@ class Planner:
     ) -> PlannedTrace:
         """A plan of the prefixes, the holes unless --prefixes leaves them out, and these sets, in
         the parts of write_parts(). The second reading finds equal states of different parts.
-        Refused or TooLarge if the program refuses a part; OSError as write_picks()."""
+        Refused or TooLarge if the program refuses a part; OSError as write_parts()."""
         options_of_parts = self.write_parts(trace, picks_of_parts)
         listings = [self.run_program(['list', *options, '--json']) for options in options_of_parts]
         plan = read_plan(listings[0], offsets, listings[1:])
@@ -165,7 +165,7 @@ class Planner:
     def write_parts(self, trace: str, picks_of_parts: Sequence[Sequence[int]]) -> List[List[str]]:
         """Writes a file of picks for each part of a plan, and returns the options that name each
         part. Every part has the prefixes; only the first one has the holes. Without any pick there
-        is one part, and no file."""
+        is one part, and no file. OSError if a file can't be written."""
         first_options = ['--trace', trace, *([] if self.options.prefixes else ['--holes'])]
         if not any(picks_of_parts):
             return [first_options]

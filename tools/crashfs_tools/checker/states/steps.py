@@ -46,8 +46,9 @@ class Session:
             self.add_steps(line, operation, self.trace.notes.get(place, ''))
 
     def add_steps(self, line: int, operation: Operation, note: str) -> None:
-        """Applies the operation of a line to `end`, which must allow it, and adds its steps, each
-        with the note, and how many micro-operations come before the next step."""
+        """Applies the operation of a line to `end`, which must allow it. Adds the steps of the
+        operation, each with the note, and for each adds to `places` how many micro-operations come
+        up to its end."""
         for part in parts_of_operation(operation, self.end):
             self.end.apply(part)
             count = self.end.micro_operations

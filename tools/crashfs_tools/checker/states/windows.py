@@ -202,8 +202,9 @@ class Windows:
 
     def next_begin(self, previous: PlannedWindow) -> int:
         """The step at which the next window begins: that of the first pending micro-operation, but
-        not before the middle of the previous window. It is the end of the previous window if
-        nothing is pending, or if a window from that step wouldn't end later."""
+        not before the middle of the previous window, which must not be the session's last one. It
+        is the end of the previous window if nothing is pending, or if a window from that step
+        wouldn't end later."""
         places, plan = self.session.places, previous.planned.plan
         first_place = previous.planned.offsets.operations
         middle_place = first_place + (len(plan.operations) + 1) // 2
@@ -216,9 +217,10 @@ class Windows:
         return step if self.would_end_later(previous, step) else previous.end
 
     def would_end_later(self, previous: PlannedWindow, step: int) -> bool:
-        """Whether a window from `step` on would end after the previous one, by fitting_count().
-        Each micro-operation is assumed to need what it needs in the previous window, without what
-        comes before the step. False if `step` is the end of the previous window."""
+        """Whether a window from `step` on would end after the previous one, by fitting_count(). The
+        previous one must not be the session's last. Each micro-operation is assumed to need what it
+        needs there, without what comes before the step. False if `step` is the end of the previous
+        window."""
         places = self.session.places
         begin = places[step] - previous.planned.offsets.operations
         needs = [members >> begin for members in previous.needs[begin:]]
