@@ -37,6 +37,12 @@ class OpenFile:
         )
 
 
+def node_of(file: Optional[OpenFile]) -> Optional[Node]:
+    """The file or directory that is open; None for a stream, and for None, which is a file that
+    isn't followed."""
+    return None if file is None else file.node
+
+
 @dataclass
 class Descriptors:
     """A process's table of open files by their descriptors; threads share one. It has only the
@@ -108,6 +114,10 @@ class Process:
     descriptors: Descriptors
     path_context: PathContext
     memory: Memory = field(default_factory=Memory)
+
+    def open_file(self, shown: Descriptor) -> Optional[OpenFile]:
+        """The open file of a descriptor; None if the descriptor isn't followed."""
+        return self.descriptors.files.get(shown.number)
 
     def directory_of(self, shown: Descriptor) -> str:
         """The absolute path of a descriptor's directory, at which a relative path after it begins:

@@ -16,7 +16,7 @@ from .live_files import LiveFiles
 from .live_tree import Node
 from .mapped_files import FileCopies, FileCopy
 from .output_streams import SOCKETS, connections_with_lines
-from .processes import Descriptors, PathContext, Process
+from .processes import Descriptors, PathContext, Process, node_of
 from .strace_log import EXIT, FORKS, SUPERSEDE, UNFINISHED, WRITES, Call, Log
 
 Handler = Callable[[LiveFiles, Process, Call], None]
@@ -81,8 +81,8 @@ class Translator:
     def translate_calls(self) -> None:
         """Translates all calls in the order of their operations, each as the recording's
         current_call. Before that it sets call_copies, and line_connections of the streams. The
-        arguments of writes are emptied, to save memory: the trace has their bytes. LogError has no
-        line's number here."""
+        arguments of writes are emptied, to save memory: the trace has their bytes. Its LogError
+        has no line number."""
         if SOCKETS in self.recording.streams.acknowledging_descriptors:
             self.recording.streams.line_connections = connections_with_lines(self.log.calls)
         ordered = call_order.calls_in_order(self.log.calls)
@@ -220,13 +220,13 @@ class Translator:
     def note_mapped_file(self, process: Process, call: Call, number: int) -> None:
         """Notes that a call mapped the file with this number; nothing if the file isn't followed.
         The stores that earlier copies show of it are added now, after the mmap."""
-        file = process.descriptors.files.get(call.descriptor(4).number)
-        if file is None or file.node is None:
+        node = node_of(process.open_file(call.descriptor(4)))
+        if node is None:
             return
-        self.mapped_nodes[number] = file.node
+        self.mapped_nodes[number] = node
         if number in self.early_bytes:
             data = self.early_bytes.pop(number)
-            mapped_stores.add_stores(self.files, file.node, data, has_one_writer=False)
+            mapped_stores.add_stores(self.files, node, data, has_one_writer=False)
 
     def file_changed_by(self, process: Process, call: Call) -> Optional[Node]:
         """The file whose bytes a call changes. None if the call changes no bytes, or if the file
@@ -235,9 +235,8 @@ class Translator:
             return self.files.node_argument(process, call, 0)
         if call.name not in call_order.DATA_CHANGES:
             return None
-        number = call.descriptor(call_order.TARGET_INDEXES.get(call.name, 0)).number
-        file = process.descriptors.files.get(number)
-        return file.node if file else None
+        target = call.descriptor(call_order.TARGET_INDEXES.get(call.name, 0))
+        return node_of(process.open_file(target))
 
     def add_stores(self, copy: FileCopy, changed_file: Optional[Node] = None) -> None:
         """Adds the stores that a copy shows to all mapped files except changed_file: the one that

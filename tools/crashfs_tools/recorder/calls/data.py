@@ -8,8 +8,8 @@ from typing import Optional
 
 from crashfs_tools.recorder import arguments
 from crashfs_tools.recorder.live_tree import END
-from crashfs_tools.recorder.output_streams import sent_bytes
-from crashfs_tools.recorder.processes import OpenFile, Process
+from crashfs_tools.recorder.output_streams import OutputStream, sent_bytes
+from crashfs_tools.recorder.processes import OpenFile, Process, node_of
 from crashfs_tools.recorder.live_files import LiveFiles
 from crashfs_tools.recorder.strace_log import Call
 
@@ -17,31 +17,30 @@ NOT_IN_LOG = 'its bytes are not in the log'
 
 
 def on_read(files: LiveFiles, process: Process, call: Call) -> None:
-    """read, readv: moves the offset of the open file past what was read."""
-    file = process.descriptors.files.get(call.descriptor().number)
+    """Moves the offset of the open file past the bytes that were read."""
+    file = process.open_file(call.descriptor())
     if file is not None:
         file.offset += call.result
 
 
 def on_preadv2(files: LiveFiles, process: Process, call: Call) -> None:
-    """Moves the offset of the open file if the call names the offset -1; any other it reads at
-    without moving that."""
+    """Moves the offset of the open file as on_read() does, if the call names the offset -1. With
+    any other offset nothing moves."""
     if arguments.parse_integer(call.argument(3)) == -1:
         on_read(files, process, call)
 
 
 def on_lseek(files: LiveFiles, process: Process, call: Call) -> None:
     """Sets the offset of the open file to the one that the call returned."""
-    file = process.descriptors.files.get(call.descriptor().number)
+    file = process.open_file(call.descriptor())
     if file is not None:
         file.offset = call.result
 
 
 def on_llseek(files: LiveFiles, process: Process, call: Call) -> None:
-    """Sets the offset of the open file by the lseek of 32-bit programs, whose result is only 0:
-    strace shows the offset in the first argument such as `[42]`. If it shows none, the offset
-    stays."""
-    file = process.descriptors.files.get(call.descriptor().number)
+    """Sets the offset of the open file by the lseek of 32-bit programs, whose result is only 0: the
+    offset is in the first argument that strace shows as `[42]`. If none is shown so, it stays."""
+    file = process.open_file(call.descriptor())
     cells = [arguments.parse_pointed_integer(word) for word in call.arguments]
     offsets = [cell for cell in cells if cell is not None]
     if file is not None and offsets:
@@ -49,7 +48,7 @@ def on_llseek(files: LiveFiles, process: Process, call: Call) -> None:
 
 
 def on_write(files: LiveFiles, process: Process, call: Call) -> None:
-    """Writes the bytes of a string at the offset of the open file, or to a stream."""
+    """Writes the bytes of a string at the offset of the open file, which moves, or to a stream."""
     write_to_descriptor(files, process, call, arguments.parse_bytes(call.argument(1)))
 
 
@@ -62,14 +61,14 @@ def on_pwrite(files: LiveFiles, process: Process, call: Call) -> None:
 
 
 def on_writev(files: LiveFiles, process: Process, call: Call) -> None:
-    """Writes several pieces at the offset of the open file, or to a stream. vmsplice has the same
-    arguments."""
+    """Writes several pieces at the offset of the open file, which moves, or to a stream. vmsplice
+    has the same arguments."""
     write_to_descriptor(files, process, call, arguments.parse_vector(call.argument(1)))
 
 
 def on_pwritev(files: LiveFiles, process: Process, call: Call) -> None:
-    """Writes several pieces at an offset that the call names, as on_pwrite() does. The offset -1
-    means that of the open file; only pwritev2 has flags."""
+    """Writes several pieces at an offset that the call names, as on_pwrite() does, or, if that is
+    -1, at the offset of the open file. Only pwritev2 has flags."""
     offset = arguments.parse_integer(call.argument(3))
     write_to_descriptor(
         files,
@@ -82,8 +81,8 @@ def on_pwritev(files: LiveFiles, process: Process, call: Call) -> None:
 
 
 def on_send(files: LiveFiles, process: Process, call: Call) -> None:
-    """Adds the bytes that are sent over a socket, if it is an output stream. If the log lacks some
-    of them, none is added, and that is reported."""
+    """Adds the bytes that are sent over a socket, if that is an output stream. If the log lacks
+    some of them, none is added, and that is reported."""
     stream = files.find_output_stream(process, call)
     if stream is None:
         return
@@ -95,8 +94,8 @@ def on_send(files: LiveFiles, process: Process, call: Call) -> None:
 
 
 def on_accept(files: LiveFiles, process: Process, call: Call) -> None:
-    """Adds a connection to the streams, if --say-fd asks for connections. Its descriptor replaces
-    an older one with its number."""
+    """Adds a connection to the streams, if --say-fd asks for connections. An older descriptor with
+    the number of the new one isn't followed any more."""
     is_closed_by_exec = 'SOCK_CLOEXEC' in call.argument(3)
     process.descriptors.set_file(call.result, None, is_closed_by_exec=is_closed_by_exec)
     files.recording.streams.add_connection(call.result_descriptor.text)
@@ -114,33 +113,42 @@ def write_to_descriptor(
     missing_reason: str = NOT_IN_LOG,
 ) -> None:
     """Writes the bytes that a call wrote, as many as its result, to the descriptor in the argument
-    with this index: at the offset, or at that of the open file (None). If data is None, or has
-    fewer bytes, an acknowledging stream is reported, and a file's bytes aren't followed any more.
-    If the descriptor isn't followed, find_open_file() may report it, and nothing is written."""
-    if data is not None and len(data) < call.result:
-        data = None
+    with this index: to a stream, or to a file, at the offset, or at that of the open file (None).
+    If data is None, or has fewer bytes, missing_reason is reported, as write_to_stream() and
+    drop_bytes() do. If the descriptor isn't followed, find_open_file() may report it, and nothing
+    is written."""
+    written = None if data is None or len(data) < call.result else data[: call.result]
+    reason = f'{call.name}: {missing_reason}'
     stream = files.find_output_stream(process, call, index)
     if stream is not None:
-        if data is not None:
-            files.recording.add_output(stream, data[: call.result])
-        elif stream.is_acknowledged:
-            files.recording.report(f'{call.name}: {missing_reason}', stream.name)
+        write_to_stream(files, stream, written, reason)
         return
     file = files.find_open_file(process, call, index)
     if file is None or file.node is None or file.node.is_directory:
         return
-    if data is None:
-        files.drop_bytes(file.node, f'{call.name}: {missing_reason}')
+    if written is None:
+        files.drop_bytes(file.node, reason)
     else:
-        write_to_file(files, file, data[: call.result], offset, flags)
+        write_to_file(files, file, written, offset, flags)
+
+
+def write_to_stream(
+    files: LiveFiles, stream: OutputStream, data: Optional[bytes], missing_reason: str
+) -> None:
+    """Adds bytes that were written to a stream. If they aren't known (None), missing_reason is
+    reported, unless the stream acknowledges nothing."""
+    if data is not None:
+        files.recording.add_output(stream, data)
+    elif stream.is_acknowledged:
+        files.recording.report(missing_reason, stream.name)
 
 
 def write_to_file(
     files: LiveFiles, file: OpenFile, data: bytes, offset: Optional[int], flags: str
 ) -> None:
-    """Writes bytes to an open file, which must not be a stream: at the offset, or at that of the
-    file (None), which then moves. With O_APPEND or RWF_APPEND they go to the end, whatever the
-    offset. Adds a sync of these bytes only, if the file or the call's flags ask for one."""
+    """Writes bytes to an open file, which must not be a stream: at the offset, or at the file's own
+    one (None), which then moves. With O_APPEND or RWF_APPEND they go to the file's end instead. If
+    the file or the call's flags ask for a sync, one of these bytes only is added."""
     node = file.node
     assert node is not None
     offset_source: object = file if offset is None else None
@@ -156,9 +164,9 @@ def write_to_file(
 
 def on_ftruncate(files: LiveFiles, process: Process, call: Call) -> None:
     """Sets the length of an open file, as LiveFiles.set_length() does."""
-    file = files.find_open_file(process, call)
-    if file is not None and file.node is not None:
-        files.set_length(file.node, arguments.parse_integer(call.argument(1)))
+    node = node_of(files.find_open_file(process, call))
+    if node is not None:
+        files.set_length(node, arguments.parse_integer(call.argument(1)))
 
 
 def on_truncate(files: LiveFiles, process: Process, call: Call) -> None:
@@ -170,13 +178,12 @@ def on_truncate(files: LiveFiles, process: Process, call: Call) -> None:
 
 
 def on_fallocate(files: LiveFiles, process: Process, call: Call) -> None:
-    """Makes a file longer, or, with PUNCH_HOLE or ZERO_RANGE, writes zeros to a range. KEEP_SIZE
-    keeps the length. After COLLAPSE_RANGE or INSERT_RANGE the file's bytes aren't followed any
-    more, which is reported."""
-    file = files.find_open_file(process, call)
-    if file is None or file.node is None:
+    """Makes a file longer, if it is shorter than the range's end, or, with PUNCH_HOLE or
+    ZERO_RANGE, writes zeros to the range. With KEEP_SIZE the length stays. After COLLAPSE_RANGE or
+    INSERT_RANGE the file's bytes aren't followed any more, which is reported."""
+    mode, node = call.argument(1), node_of(files.find_open_file(process, call))
+    if node is None:
         return
-    mode, node = call.argument(1), file.node
     offset = arguments.parse_integer(call.argument(2))
     end = offset + arguments.parse_integer(call.argument(3))
     if 'COLLAPSE' in mode or 'INSERT' in mode:
@@ -198,20 +205,14 @@ def copy_between_descriptors(
     source_offset: Optional[int],
     target_offset: Optional[int],
 ) -> None:
-    """Copies as many bytes as the call did between the descriptors in two of its arguments. An
-    offset that is None is that of the open file, which then moves. The log doesn't show the bytes:
-    if the source isn't followed, or has fewer there, those of the target aren't known, as in
-    write_to_descriptor()."""
+    """Copies as many bytes as the call did between the descriptors in the arguments with these
+    indexes. An offset that is None is that of the open file, which then moves. The log doesn't show
+    the bytes: they are those that the source has now, as read_bytes() returns them. If it returns
+    too few, or None, write_to_descriptor() reports that."""
     if call.result == 0:
         return
-    data = None
-    file = process.descriptors.files.get(call.descriptor(source_index).number)
-    if file is not None and file.node is not None:
-        start = file.offset if source_offset is None else source_offset
-        if source_offset is None:
-            file.offset += call.result
-        if file.node.data is not None:
-            data = bytes(file.node.data[start : start + call.result])
+    source = process.open_file(call.descriptor(source_index))
+    data = read_bytes(source, source_offset, call.result)
     write_to_descriptor(
         files,
         process,
@@ -221,6 +222,19 @@ def copy_between_descriptors(
         offset=target_offset,
         missing_reason='its bytes come from a file that is not followed',
     )
+
+
+def read_bytes(file: Optional[OpenFile], offset: Optional[int], length: int) -> Optional[bytes]:
+    """So many bytes of an open file from an offset on, or from the file's own one (None), which
+    then moves; fewer at the file's end. None if its bytes aren't followed, for a stream, and for a
+    file that isn't followed (None)."""
+    node = node_of(file)
+    if file is None or node is None:
+        return None
+    start = file.offset if offset is None else offset
+    if offset is None:
+        file.offset += length
+    return None if node.data is None else bytes(node.data[start : start + length])
 
 
 def on_sendfile(files: LiveFiles, process: Process, call: Call) -> None:
@@ -252,24 +266,23 @@ def on_copy_file_range(files: LiveFiles, process: Process, call: Call) -> None:
 
 
 def on_tee(files: LiveFiles, process: Process, call: Call) -> None:
-    """Copies the bytes in a pipe to another pipe. The log lacks these bytes: that is reported if
-    the other pipe acknowledges something."""
+    """Copies bytes of a pipe to another pipe. The log lacks these bytes, which is reported if the
+    other pipe acknowledges something. Nothing if no bytes were copied."""
     if call.result > 0:
         write_to_descriptor(files, process, call, None, index=1)
 
 
 def on_ioctl(files: LiveFiles, process: Process, call: Call) -> None:
-    """Stops following the bytes of the file that is the first argument, and reports that, if the
-    call is FICLONE or FICLONERANGE: it gets the bytes of another file, which the log lacks. Any
-    other ioctl is left out."""
-    file = process.descriptors.files.get(call.descriptor().number)
-    if file is not None and file.node is not None and 'FICLONE' in call.argument(1):
-        files.drop_bytes(file.node, f'ioctl {call.argument(1)}: {NOT_IN_LOG}')
+    """Stops following the bytes of the file in the first argument, and reports that, for FICLONE
+    and FICLONERANGE: the file gets bytes of another one, which the log lacks. Any other ioctl is
+    left out."""
+    node = node_of(process.open_file(call.descriptor()))
+    if node is not None and 'FICLONE' in call.argument(1):
+        files.drop_bytes(node, f'ioctl {call.argument(1)}: {NOT_IN_LOG}')
 
 
 def on_io_uring(files: LiveFiles, process: Process, call: Call) -> None:
-    """Reports, with the path of the whole directory, that what is done by io_uring, or by aio, is
-    not in the log."""
+    """Reports, with the path `/`, that the log lacks what is done by io_uring or by aio."""
     files.recording.report(f'{call.name}: what is done by it is not in the log', '/')
 
 

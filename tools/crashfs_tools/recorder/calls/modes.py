@@ -11,7 +11,7 @@ from crashfs_tools.recorder import acl, arguments
 from crashfs_tools.recorder.arguments import parse_integer, parse_octal
 from crashfs_tools.recorder.directory import group_name, user_name
 from crashfs_tools.recorder.live_tree import Node
-from crashfs_tools.recorder.processes import Process
+from crashfs_tools.recorder.processes import Process, node_of
 from crashfs_tools.recorder.live_files import LiveFiles
 from crashfs_tools.recorder.strace_log import Call
 
@@ -26,8 +26,7 @@ def on_chmod(files: LiveFiles, process: Process, call: Call) -> None:
 
 def on_fchmod(files: LiveFiles, process: Process, call: Call) -> None:
     """Sets the mode of an open file or directory."""
-    file = files.find_open_file(process, call)
-    set_mode(files, file.node if file else None, call.argument(1))
+    set_mode(files, node_of(files.find_open_file(process, call)), call.argument(1))
 
 
 def on_fchmodat(files: LiveFiles, process: Process, call: Call) -> None:
@@ -36,10 +35,10 @@ def on_fchmodat(files: LiveFiles, process: Process, call: Call) -> None:
 
 
 def set_mode(files: LiveFiles, node: Optional[Node], word: str) -> None:
-    """Gives a file or directory the mode in an argument. If it has another one in the trace, the
-    trace changes it, and has_new_rights of the node is set. Bits beyond 777 are only noted. Nothing
-    if the node is None, as it isn't followed."""
-    # Some programs pass the kind of the file too, which the kernel ignores.
+    """Gives a file or directory the mode in an argument (`word`). If it has another mode in the
+    trace, a chmod is added, and has_new_rights of the node is set. Bits beyond 777 are only noted.
+    Nothing if the node is None, as it isn't followed."""
+    # Some programs also pass the bits of the file's kind, which the kernel ignores.
     mode = parse_octal(word) & 0o7777
     if node is not None:
         node.mode = mode & PERMISSIONS
@@ -52,14 +51,14 @@ def set_mode(files: LiveFiles, node: Optional[Node], word: str) -> None:
 
 
 def mode_of_new_node(process: Process, word: str) -> int:
-    """The mode of a file or directory that a process makes: that in an argument without the bits of
-    the umask. It may have bits beyond 777, which note_extra_bits() notes."""
+    """The mode of a file or directory that a process makes: that in an argument (`word`) without
+    the bits of the umask. It may have bits beyond 777, which note_extra_bits() notes."""
     return parse_octal(word) & ~process.path_context.umask & 0o7777
 
 
 def note_extra_bits(files: LiveFiles, node: Node, mode: int) -> None:
-    """Notes the bits beyond 777 of the mode that a file or directory gets; nothing if it has none,
-    or if the trace doesn't have the file."""
+    """Notes the bits beyond 777 of a mode that a file or directory gets. Nothing if the mode has
+    none, or if the trace doesn't have the file."""
     path = path_in_trace(node)
     if path is not None and mode & ~PERMISSIONS:
         files.recording.report_note(
@@ -68,8 +67,8 @@ def note_extra_bits(files: LiveFiles, node: Node, mode: int) -> None:
 
 
 def on_chown(files: LiveFiles, process: Process, call: Call) -> None:
-    """Sets the owner and group of the file at a path; lchown sets those of a symbolic link
-    itself."""
+    """Sets the owner and group of the file at a path. For lchown, and lchown32, a symbolic link at
+    the path's end isn't followed."""
     follow_last_link = not call.name.startswith('l')
     node = files.node_argument(process, call, 0, follow_last_link=follow_last_link)
     set_owner(files, node, call.argument(1), call.argument(2))
@@ -77,14 +76,14 @@ def on_chown(files: LiveFiles, process: Process, call: Call) -> None:
 
 def on_fchown(files: LiveFiles, process: Process, call: Call) -> None:
     """Sets the owner and group of an open file or directory."""
-    file = files.find_open_file(process, call)
-    set_owner(files, file.node if file else None, call.argument(1), call.argument(2))
+    node = node_of(files.find_open_file(process, call))
+    set_owner(files, node, call.argument(1), call.argument(2))
 
 
 def on_fchownat(files: LiveFiles, process: Process, call: Call) -> None:
-    """Sets the owner and group of the file at a path that is relative to a directory; with
-    AT_SYMLINK_NOFOLLOW those of a symbolic link itself. An empty path means the descriptor's own
-    file."""
+    """Sets the owner and group of the file at a path that is relative to a directory. With
+    AT_SYMLINK_NOFOLLOW a symbolic link at its end isn't followed. An empty path means the
+    descriptor's own file."""
     follow_last_link = 'AT_SYMLINK_NOFOLLOW' not in call.argument(4)
     node = files.node_argument_at(process, call, 0, follow_last_link=follow_last_link)
     set_owner(files, node, call.argument(2), call.argument(3))
@@ -92,8 +91,9 @@ def on_fchownat(files: LiveFiles, process: Process, call: Call) -> None:
 
 def set_owner(files: LiveFiles, node: Optional[Node], owner_number: str, group_number: str) -> None:
     """Gives a file or directory in the trace the owner and group with these numbers, by their names
-    on this system; the number -1 leaves what it has. If one is new, has_new_rights of the node is
-    set. Nothing if the node is None, or the trace doesn't have it."""
+    on this system. The number -1 keeps the old owner, or the old group. If one of them is new, a
+    chown is added, and has_new_rights of the node is set. Nothing if the node is None, or the trace
+    doesn't have it."""
     path = path_in_trace(node)
     if node is None or path is None:
         return
@@ -108,14 +108,14 @@ def set_owner(files: LiveFiles, node: Optional[Node], owner_number: str, group_n
 
 
 def path_in_trace(node: Optional[Node]) -> Optional[str]:
-    """The first path at which the trace has a file or directory. None if it has no name any more,
-    if the trace doesn't have it, or if the node is None."""
+    """The first path at which the trace has a file or directory. None if the node has no name any
+    more, if the trace doesn't have it, or if it is None."""
     return node.traced_path if node is not None and node.names else None
 
 
 def on_attribute(files: LiveFiles, process: Process, call: Call) -> None:
-    """Notes a change of the extended attributes of a file in the trace, which no trace has. An
-    access control list sets the file's mode; it isn't noted if it has no more than a mode has."""
+    """Notes a change of the extended attributes of a file in the trace. If an access control list
+    is set, its rights become the file's mode, and a list that has only a mode isn't noted."""
     node = node_with_attributes(files, process, call)
     path = path_in_trace(node)
     if path is None:
@@ -130,14 +130,13 @@ def on_attribute(files: LiveFiles, process: Process, call: Call) -> None:
 
 
 def node_with_attributes(files: LiveFiles, process: Process, call: Call) -> Optional[Node]:
-    """The file whose extended attributes a call changes, by a descriptor (fsetxattr) or a path;
-    lsetxattr and lremovexattr mean a symbolic link itself. None if it isn't followed, which may be
-    reported as in LiveFiles.find_open_file()."""
-    if not call.name.startswith('f'):
-        follow_last_link = not call.name.startswith('l')
-        return files.node_argument(process, call, 0, follow_last_link=follow_last_link)
-    file = files.find_open_file(process, call)
-    return file.node if file else None
+    """The file or directory whose extended attributes a call changes: by a descriptor (fsetxattr,
+    fremovexattr), or by a path; lsetxattr and lremovexattr mean a symbolic link itself. None if it
+    isn't followed, which may be reported as in LiveFiles.find_open_file()."""
+    if call.name.startswith('f'):
+        return node_of(files.find_open_file(process, call))
+    follow_last_link = not call.name.startswith('l')
+    return files.node_argument(process, call, 0, follow_last_link=follow_last_link)
 
 
 HANDLERS = {

@@ -22,17 +22,18 @@ SET_ID = 0o6000
 
 
 def on_unlink(files: LiveFiles, process: Process, call: Call) -> None:
-    """Removes a name of a file or symbolic link."""
+    """Removes a name of a file or symbolic link, as remove_name() does."""
     remove_name(files, files.path_argument(process, call, 0))
 
 
 def on_rmdir(files: LiveFiles, process: Process, call: Call) -> None:
-    """Removes a directory."""
+    """Removes a directory, as remove_directory() does."""
     remove_directory(files, files.full_path(process.path_context.directory, call.argument(0)))
 
 
 def on_unlinkat(files: LiveFiles, process: Process, call: Call) -> None:
-    """Removes a name by a path relative to a directory; with AT_REMOVEDIR that of a directory."""
+    """Removes a name by a path that is relative to a directory; with AT_REMOVEDIR it must be that
+    of a directory."""
     full_path = files.full_path(process.directory_of(call.descriptor(0)), call.argument(1))
     if 'AT_REMOVEDIR' in call.argument(2):
         remove_directory(files, full_path)
@@ -41,9 +42,9 @@ def on_unlinkat(files: LiveFiles, process: Process, call: Call) -> None:
 
 
 def remove_name(files: LiveFiles, path: Optional[str]) -> None:
-    """Removes a name, in the trace too if that has it. If the file keeps only names that the trace
-    lacks, the trace renames it to the first of them. If the trace has the file, but not by the
-    removed name, that is reported. Nothing if the path is None or nothing is known there."""
+    """Removes a name of a file, in the trace too if that has it. If the file keeps only names that
+    the trace lacks, the trace renames it to the first of them. If the trace has the file by other
+    names only, that is reported. Nothing if the path is None, or if nothing is known there."""
     if path is None or path not in files.tree.nodes:
         return
     node = files.tree.remove_name(path)
@@ -59,17 +60,17 @@ def remove_name(files: LiveFiles, path: Optional[str]) -> None:
 
 
 def rename_in_trace(files: LiveFiles, node: Node, source: str, target: str) -> None:
-    """Renames a file in the trace only. If the trace can't have that, which is reported, neither
-    path is among the file's traced paths."""
+    """Renames a file in the trace; in the live tree it must have the new name already. If the trace
+    can't have the rename, which is reported, neither path is among the file's traced paths."""
     node.traced_paths.discard(source)
     if files.recording.add_operation(Rename(source, target)):
         node.traced_paths.add(target)
 
 
 def remove_directory(files: LiveFiles, full_path: Optional[str]) -> None:
-    """Removes the empty directory at an absolute path, which may be outside: the processes that are
-    in it have it as removed_path() from now on, and remove_directory_name() does the rest. Nothing
-    if the path is None."""
+    """Removes an empty directory by its absolute path, as remove_directory_name() does, and gives
+    the processes that are in it removed_path() as their working directory: also if it is outside
+    the recorded directory. Nothing if the path is None."""
     if full_path is not None:
         new_paths = {full_path: removed_path(full_path)}
         move_working_directories(files.processes.values(), new_paths)
@@ -77,8 +78,8 @@ def remove_directory(files: LiveFiles, full_path: Optional[str]) -> None:
 
 
 def remove_directory_name(files: LiveFiles, path: Optional[str]) -> None:
-    """Removes an empty directory from the live tree, and from the trace too if that has it. If it
-    is the recorded directory itself, that is only reported. Nothing if the path is None or nothing
+    """Removes an empty directory from the live tree, and from the trace if that has it. If it is
+    the recorded directory itself, that is only reported. Nothing if the path is None, or if nothing
     is known there."""
     if path is None or path not in files.tree.nodes:
         return
@@ -92,7 +93,7 @@ def remove_directory_name(files: LiveFiles, path: Optional[str]) -> None:
 
 
 def on_mkdir(files: LiveFiles, process: Process, call: Call) -> None:
-    """Makes a directory."""
+    """Makes a directory, as make_directory() does."""
     make_directory(files, process, files.path_argument(process, call, 0), call.argument(1))
 
 
@@ -101,18 +102,19 @@ def on_mkdirat(files: LiveFiles, process: Process, call: Call) -> None:
     make_directory(files, process, files.path_argument_at(process, call, 0), call.argument(2))
 
 
-def make_directory(files: LiveFiles, process: Process, path: Optional[str], mode: str) -> None:
+def make_directory(files: LiveFiles, process: Process, path: Optional[str], mode_word: str) -> None:
     """Makes a directory with the mode in an argument, without the bits of the umask; bits beyond
     777 are only noted. Nothing if the path is None."""
     if path is not None:
-        bits = mode_of_new_node(process, mode) & ~SET_ID
+        bits = mode_of_new_node(process, mode_word) & ~SET_ID
         node = Node.directory(bits & PERMISSIONS)
         files.add_new_node(path, node)
         note_extra_bits(files, node, bits)
 
 
 def on_link(files: LiveFiles, process: Process, call: Call) -> None:
-    """Gives a file another name. A symbolic link at the end of the old path is linked itself."""
+    """Gives a file another name, as add_link() does. A symbolic link at the end of the old path
+    isn't followed: it gets the name itself."""
     node = files.node_argument(process, call, 0, follow_last_link=False)
     add_link(files, node, files.path_argument(process, call, 1))
 
@@ -127,9 +129,9 @@ def on_linkat(files: LiveFiles, process: Process, call: Call) -> None:
 
 
 def add_link(files: LiveFiles, node: Optional[Node], target: Optional[str]) -> None:
-    """Gives a file another name, which is the first for one of O_TMPFILE; in the trace too if that
-    has the file. If the node is None, the file isn't known: that is reported, and the name is that
-    of a file whose bytes aren't known. Nothing if the target is None."""
+    """Gives a file another name, in the trace too if that has the file; one of O_TMPFILE may get
+    its first name. If the file isn't known (None), that is reported, and the name is that of a file
+    whose bytes aren't known. Nothing if the target is None."""
     if target is None:
         return
     if node is None:
@@ -147,9 +149,9 @@ def add_link(files: LiveFiles, node: Optional[Node], target: Optional[str]) -> N
 
 
 def name_temporary_file(files: LiveFiles, node: Node, path: str) -> None:
-    """Gives a file of O_TMPFILE its first name. The trace makes it there, with all its bytes; if
-    these aren't followed any more, that is reported. If the file was synced before, the trace has
-    a sync after the name, which is reported too."""
+    """Gives a file of O_TMPFILE its first name. The trace gets a file of this name, with all its
+    bytes; if these aren't followed any more, that is reported. If the file was synced before, the
+    trace gets a sync after the name, which is reported too."""
     files.add_new_node(path, node)
     is_traced = path in node.traced_paths
     if is_traced and node.data is None:
@@ -166,21 +168,21 @@ def name_temporary_file(files: LiveFiles, node: Node, path: str) -> None:
 
 
 def on_symlink(files: LiveFiles, process: Process, call: Call) -> None:
-    """Makes a symbolic link; its target is the first argument."""
+    """Makes a symbolic link, whose target is the first argument."""
     make_symbolic_link(files, files.path_argument(process, call, 1), call.argument(0))
 
 
 def on_symlinkat(files: LiveFiles, process: Process, call: Call) -> None:
-    """Makes a symbolic link at a path that is relative to a directory; its target is the first
-    argument."""
+    """Makes a symbolic link, whose target is the first argument, at a path that is relative to a
+    directory."""
     make_symbolic_link(files, files.path_argument_at(process, call, 1), call.argument(0))
 
 
-def make_symbolic_link(files: LiveFiles, path: Optional[str], word: str) -> None:
-    """Makes a symbolic link; `word` is the argument that has its target. If no trace may have the
-    target, or strace cut it, that is reported, and the link isn't followed. Nothing if the path is
-    None."""
-    target = arguments.parse_path(word)
+def make_symbolic_link(files: LiveFiles, path: Optional[str], target_word: str) -> None:
+    """Makes a symbolic link with the target in an argument. If no trace may have the target, or
+    strace cut it, that is reported, as add_untraceable_node() does, and the link isn't followed.
+    Nothing if the path is None."""
+    target = arguments.parse_path(target_word)
     if target is None:
         what = 'a symbolic link whose target is not in the log was made'
         add_untraceable_node(files, path, what)
@@ -191,23 +193,24 @@ def make_symbolic_link(files: LiveFiles, path: Optional[str], word: str) -> None
 
 
 def on_mknod(files: LiveFiles, process: Process, call: Call) -> None:
-    """Makes a plain file; reports a device or a pipe."""
+    """Makes a plain file, or reports another kind of node, as make_file() does."""
     make_file(files, process, files.path_argument(process, call, 0), call.argument(1))
 
 
 def on_mknodat(files: LiveFiles, process: Process, call: Call) -> None:
-    """Makes a plain file at a path that is relative to a directory; reports a device or a pipe."""
+    """Makes a plain file at a path that is relative to a directory, or reports another kind of
+    node."""
     make_file(files, process, files.path_argument_at(process, call, 0), call.argument(2))
 
 
-def make_file(files: LiveFiles, process: Process, path: Optional[str], mode: str) -> None:
+def make_file(files: LiveFiles, process: Process, path: Optional[str], mode_word: str) -> None:
     """Makes a plain file with the mode in an argument, without the bits of the umask; bits beyond
-    777 are only noted. If the mode is that of a device, a pipe or a socket, that is reported, and
-    it isn't followed. Nothing if the path is None."""
+    777 are only noted. A device, a pipe or a socket, by that argument, is reported and isn't
+    followed. Nothing if the path is None."""
     if path is None:
         return
-    if 'S_IFREG' in mode or not mode.startswith('S_IF'):
-        bits = mode_of_new_node(process, mode.rpartition('|')[2])
+    if 'S_IFREG' in mode_word or not mode_word.startswith('S_IF'):
+        bits = mode_of_new_node(process, mode_word.rpartition('|')[2])
         node = Node.file(bits & PERMISSIONS)
         files.add_new_node(path, node)
         note_extra_bits(files, node, bits)
@@ -216,8 +219,8 @@ def make_file(files: LiveFiles, process: Process, path: Optional[str], mode: str
 
 
 def on_bind(files: LiveFiles, process: Process, call: Call) -> None:
-    """Reports a socket that is bound to a path. Nothing if it is bound to an abstract name, or to
-    an address of another kind."""
+    """Reports a socket that is bound to a path, as add_untraceable_node() does. Nothing if it is
+    bound to an abstract name, or to an address of another kind."""
     word = call.argument(1).partition('sun_path=')[2].partition('}')[0]
     if word.startswith('"'):
         path = files.resolve_argument(process.path_context.directory, word)
@@ -225,8 +228,8 @@ def on_bind(files: LiveFiles, process: Process, call: Call) -> None:
 
 
 def add_untraceable_node(files: LiveFiles, path: Optional[str], what: str) -> None:
-    """Adds to the live tree something that no trace can have. It is reported, as `what`, if the
-    trace has its directory. Nothing if the path is None."""
+    """Adds to the live tree, as a file that isn't known, something that no trace can have. If the
+    trace has its directory, `what` is reported. Nothing if the path is None."""
     if path is None:
         return
     parent = files.tree.node_at(parent_of(path))

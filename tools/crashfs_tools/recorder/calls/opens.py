@@ -20,37 +20,37 @@ CREAT_FLAGS = 'O_WRONLY|O_CREAT|O_TRUNC'
 
 def on_open(files: LiveFiles, process: Process, call: Call) -> None:
     """Opens a path, which may be relative to the working directory, as open_path() does."""
-    word, flags, mode = call.argument(0), call.argument(1), call.argument(2)
+    word, flags, mode_word = call.argument(0), call.argument(1), call.argument(2)
     path = files.path_argument(process, call, 0, follow_last_link=may_follow_last_link(flags))
-    open_path(files, process, call, word=word, path=path, flags=flags, mode=mode)
+    open_path(files, process, call, word=word, path=path, flags=flags, mode_word=mode_word)
 
 
 def on_openat(files: LiveFiles, process: Process, call: Call) -> None:
     """Opens a path that may be relative to a directory's descriptor, as open_path() does."""
-    word, flags, mode = call.argument(1), call.argument(2), call.argument(3)
+    word, flags, mode_word = call.argument(1), call.argument(2), call.argument(3)
     path = files.path_argument_at(process, call, 0, follow_last_link=may_follow_last_link(flags))
-    open_path(files, process, call, word=word, path=path, flags=flags, mode=mode)
+    open_path(files, process, call, word=word, path=path, flags=flags, mode_word=mode_word)
 
 
 def on_openat2(files: LiveFiles, process: Process, call: Call) -> None:
-    """Opens a path as openat does. Flags and mode are fields of one argument; the mode is 0 if it
-    has none."""
+    """Opens a path as on_openat() does. Flags and mode are fields of one argument; if it has no
+    mode, that is 0."""
     word, flags = call.argument(1), call.argument(2)
     match = re.search(r'mode=(0[0-7]*)', flags)
-    mode = match[1] if match else ''
+    mode_word = match[1] if match else '0'
     path = files.path_argument_at(process, call, 0, follow_last_link=may_follow_last_link(flags))
-    open_path(files, process, call, word=word, path=path, flags=flags, mode=mode)
+    open_path(files, process, call, word=word, path=path, flags=flags, mode_word=mode_word)
 
 
 def on_creat(files: LiveFiles, process: Process, call: Call) -> None:
-    """Opens a path as open does with CREAT_FLAGS: makes the file, or truncates it."""
-    word, mode = call.argument(0), call.argument(1)
+    """Opens a path as on_open() does, with CREAT_FLAGS: makes the file, or truncates it."""
+    word, mode_word = call.argument(0), call.argument(1)
     path = files.path_argument(process, call, 0, follow_last_link=True)
-    open_path(files, process, call, word=word, path=path, flags=CREAT_FLAGS, mode=mode)
+    open_path(files, process, call, word=word, path=path, flags=CREAT_FLAGS, mode_word=mode_word)
 
 
 def may_follow_last_link(flags: str) -> bool:
-    """Whether an open with these flags follows a symbolic link at its path's end: not with
+    """Whether an open with these flags follows a symbolic link at its path's end. False with
     O_NOFOLLOW or O_EXCL."""
     return 'O_NOFOLLOW' not in flags and 'O_EXCL' not in flags
 
@@ -63,77 +63,89 @@ def open_path(
     word: str,
     path: Optional[str],
     flags: str,
-    mode: str,
+    mode_word: str,
 ) -> None:
-    """Sets the file of the descriptor that an open returned; flags and mode are the call's. If the
-    path in its argument `word` means an open file or stream, as /dev/stdout does, that is opened
-    again. Else it is the file at the path that strace shows for the descriptor, or at `path`. If
-    strace cut that (None), and may have left out a new or truncated file, it is reported."""
-    opened, shown = files.open_file_of_path(process, word), call.result_descriptor
-    is_closed_by_exec = 'O_CLOEXEC' in flags
-    if opened is not None and opened.node is None:
-        file: Optional[OpenFile] = OpenFile(None, stream=opened.stream)
-        process.descriptors.set_file(call.result, file, is_closed_by_exec=is_closed_by_exec)
-        return
-    if opened is not None and opened.node is not None:
-        node: Optional[Node] = reopen_file(files, opened.node, flags)
-    elif shown.text is not None and not shown.is_deleted:
-        shown_path = shown.path and files.resolve_path(shown.path)
-        node = open_node(files, process, shown_path, flags, mode)
+    """Sets the open file of the descriptor that an open returned. If the path in its argument
+    `word` means an open file or stream, as /dev/stdout does, that is opened again. Else it is the
+    file at opened_path(), which open_node() makes or truncates; if that is None, the descriptor
+    isn't followed. `path` is that argument's path in the tree."""
+    file = files.open_file_of_path(process, word)
+    if file is not None:
+        file = reopen_file(files, file, flags)
     else:
-        if arguments.parse_path(word) is None and ('O_CREAT' in flags or 'O_TRUNC' in flags):
-            files.recording.report(f'{call.name} of a path that strace cut', '/')
-        node = open_node(files, process, path, flags, mode)
-    file = None if node is None else OpenFile.opened_with(node, flags)
-    process.descriptors.set_file(call.result, file, is_closed_by_exec=is_closed_by_exec)
+        path = opened_path(files, call, word=word, path=path, flags=flags)
+        node = open_node(files, process, path, flags, mode_word)
+        file = None if node is None else OpenFile.opened_with(node, flags)
+    process.descriptors.set_file(call.result, file, is_closed_by_exec='O_CLOEXEC' in flags)
 
 
-def reopen_file(files: LiveFiles, node: Node, flags: str) -> Node:
-    """Opens a file again by a path that means a descriptor of it, and returns it. O_TRUNC truncates
-    it, even if it has no name any more."""
-    if 'O_TRUNC' in flags and node.size:
-        files.set_length(node, 0)
-    return node
+def opened_path(
+    files: LiveFiles, call: Call, *, word: str, path: Optional[str], flags: str
+) -> Optional[str]:
+    """The path in the tree of the file that an open has opened: that of the path that strace shows
+    for the descriptor, or else, also if the file is unlinked, the given one. If strace cut this
+    one in the argument `word`, and the open may make or truncate a file, that is reported."""
+    shown = call.result_descriptor
+    if shown.text is not None and not shown.is_deleted:
+        return files.resolve_path(shown.path) if shown.path else None
+    if arguments.parse_path(word) is None and ('O_CREAT' in flags or 'O_TRUNC' in flags):
+        files.recording.report(f'{call.name} of a path that strace cut', '/')
+    return path
+
+
+def reopen_file(files: LiveFiles, file: OpenFile, flags: str) -> OpenFile:
+    """Opens a file or stream again by a path that means a descriptor of it, and returns the new
+    open file. O_TRUNC truncates a file, even if it has no name any more."""
+    if file.node is None:
+        return OpenFile(None, stream=file.stream)
+    if 'O_TRUNC' in flags and file.node.size:
+        files.set_length(file.node, 0)
+    return OpenFile.opened_with(file.node, flags)
 
 
 def open_node(
-    files: LiveFiles, process: Process, path: Optional[str], flags: str, mode: str
+    files: LiveFiles, process: Process, path: Optional[str], flags: str, mode_word: str
 ) -> Optional[Node]:
-    """Makes or truncates the file at a path as the flags say, and returns it; with O_TMPFILE a new
-    file without a name. Mode bits beyond 777 are only noted, of O_TMPFILE not at all. None if the
-    path is elsewhere (None), or if nothing is known there, which is reported unless O_PATH is
+    """Makes or truncates the file at a path as the flags say, and returns its node; with O_TMPFILE
+    that of a new file without a name. Mode bits beyond 777 are only noted, of O_TMPFILE not at all.
+    None if the path is None, or if nothing is known there, which is reported unless O_PATH is
     set."""
     if path is None:
         return None
     if 'O_PATH' in flags:
         return files.tree.node_at(path)
-    bits = mode_of_new_node(process, mode or '0')
+    bits = mode_of_new_node(process, mode_word or '0')
     if 'O_TMPFILE' in flags:
-        new_file = Node.file(bits & PERMISSIONS)
-        new_file.is_temporary = True
-        files.temporary_files.add(new_file)
-        return new_file
+        return new_temporary_file(files, bits)
     node = files.tree.node_at(path)
     if node is None and 'O_CREAT' in flags:
-        new_file = Node.file(bits & PERMISSIONS)
-        files.add_new_node(path, new_file)
-        note_extra_bits(files, new_file, bits)
-        return new_file
-    if node is None:
+        node = Node.file(bits & PERMISSIONS)
+        files.add_new_node(path, node)
+        note_extra_bits(files, node, bits)
+    elif node is None:
         files.recording.report(f'opened, and it was made {UNKNOWN}', path)
     elif 'O_TRUNC' in flags and not node.is_directory and node.size:
         files.set_length(node, 0)
     return node
 
 
+def new_temporary_file(files: LiveFiles, mode: int) -> Node:
+    """A new file of O_TMPFILE, without a name, which is among the temporary_files from now on.
+    Bits of the mode beyond 777 are left out."""
+    node = Node.file(mode & PERMISSIONS)
+    node.is_temporary = True
+    files.temporary_files.add(node)
+    return node
+
+
 def on_close(files: LiveFiles, process: Process, call: Call) -> None:
-    """Closes the descriptor in the first argument; nothing for one that isn't followed."""
+    """Closes the descriptor in the first argument. Nothing if it isn't followed."""
     process.descriptors.close(call.descriptor().number)
 
 
 def on_close_range(files: LiveFiles, process: Process, call: Call) -> None:
-    """Closes the followed descriptors in a range, both ends included; with CLOEXEC they are closed
-    by the next exec. With UNSHARE the process gets a table of its own first."""
+    """Closes the followed descriptors in a range, both ends included; with CLOEXEC the next exec
+    closes them. With UNSHARE the process first gets a table of its own, a copy."""
     descriptors = process.descriptors
     if 'UNSHARE' in call.argument(2):
         descriptors = process.descriptors = descriptors.copy()
@@ -148,13 +160,13 @@ def on_close_range(files: LiveFiles, process: Process, call: Call) -> None:
 def duplicate_descriptor(
     files: LiveFiles, process: Process, call: Call, *, is_closed_by_exec: bool
 ) -> None:
-    """Makes the call's result a descriptor of the same open file or stream as its first argument;
-    nothing if both are one number. If --say-fd names one of the two, the stream acknowledges
-    something. If the first isn't followed, neither is the result."""
+    """Makes the call's result a descriptor of the same open file or stream as its first argument.
+    If --say-fd names the number of one of the two, the stream acknowledges something. If the first
+    isn't followed, neither is the result. Nothing if both have one number."""
     old, streams = call.descriptor(), files.recording.streams
     if old.number == call.result:
         return
-    file = process.descriptors.files.get(old.number)
+    file = process.open_file(old)
     if file is None and streams.is_named_by_option(old.number):
         file = OpenFile(None, stream=streams.find_stream(old.number, old.text))
         process.descriptors.files[old.number] = file
@@ -164,14 +176,15 @@ def duplicate_descriptor(
 
 
 def on_dup(files: LiveFiles, process: Process, call: Call) -> None:
-    """Duplicates a descriptor. Only dup3 has flags: with O_CLOEXEC an exec closes the duplicate."""
+    """Duplicates a descriptor. Only dup3 has flags: O_CLOEXEC means that an exec closes the
+    duplicate."""
     is_closed_by_exec = 'O_CLOEXEC' in call.argument(2)
     duplicate_descriptor(files, process, call, is_closed_by_exec=is_closed_by_exec)
 
 
 def on_fcntl(files: LiveFiles, process: Process, call: Call) -> None:
-    """Duplicates a descriptor, or sets whether exec closes it and whether its writes append. Other
-    commands change nothing here."""
+    """Duplicates a descriptor, or sets whether an exec closes it, or whether its writes append, as
+    the command says. Any other command changes nothing here."""
     number, command = call.descriptor().number, call.argument(1)
     if command.startswith('F_DUPFD'):
         duplicate_descriptor(files, process, call, is_closed_by_exec='CLOEXEC' in command)

@@ -13,15 +13,15 @@ from crashfs_tools.recorder.strace_log import Call
 
 
 def on_clone(files: LiveFiles, process: Process, call: Call) -> None:
-    """Adds the process or thread that a fork made, unless it is known already, because it made a
-    call before the fork returned."""
+    """Adds the process or thread that a fork made, unless it is known already, as it made a call
+    before the fork returned."""
     if call.result > 0 and call.result not in files.processes:
         files.processes[call.result] = process.forked_child(call)
 
 
 def on_execve(files: LiveFiles, process: Process, call: Call) -> None:
-    """Starts another program in a process. The descriptors that exec closes are closed, no file is
-    mapped any more, and nothing is shared with other threads."""
+    """Starts another program in a process: closes the descriptors that an exec closes, and unmaps
+    all files. From then on the process shares nothing with other threads."""
     process.descriptors = process.descriptors.copy_after_exec()
     process.path_context = process.path_context.copy()
     process.memory = Memory()
@@ -29,7 +29,7 @@ def on_execve(files: LiveFiles, process: Process, call: Call) -> None:
 
 def on_chdir(files: LiveFiles, process: Process, call: Call) -> None:
     """Sets the working directory by a path, for all threads that share it. A path through too many
-    symbolic links is taken as it is written. A path that strace cut leaves the old directory."""
+    symbolic links is taken as it is written. If strace cut the path, the old directory stays."""
     path = arguments.parse_path(call.argument(0))
     if path is not None:
         context = process.path_context
@@ -39,19 +39,19 @@ def on_chdir(files: LiveFiles, process: Process, call: Call) -> None:
 
 
 def on_fchdir(files: LiveFiles, process: Process, call: Call) -> None:
-    """Sets the working directory by a descriptor. The old one stays if strace shows no path of the
-    descriptor."""
+    """Sets the working directory to that of a descriptor, for all threads that share it. If strace
+    shows no path of the descriptor, the old directory stays."""
     process.path_context.directory = process.directory_of(call.descriptor())
 
 
 def on_umask(files: LiveFiles, process: Process, call: Call) -> None:
-    """Sets the umask."""
+    """Sets the umask, for all threads that share it."""
     process.path_context.umask = arguments.parse_octal(call.argument(0))
 
 
 def on_chroot(files: LiveFiles, process: Process, call: Call) -> None:
     """Reports that the paths of a process mean other files from here on; they are followed as
-    before. The report is of the path in the call, or of `/` if strace cut that."""
+    before. The report has the path of the call's argument, or `/` if strace cut that."""
     path = arguments.parse_path(call.argument(0)) or '/'
     files.recording.report('chroot: paths of that process mean other files from here on', path)
 

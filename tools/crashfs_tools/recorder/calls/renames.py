@@ -20,27 +20,28 @@ from crashfs_tools.recorder.strace_log import Call
 
 
 def on_rename(files: LiveFiles, process: Process, call: Call) -> None:
-    """Renames a file or directory by paths; the call has no flags."""
+    """Renames a file or directory by two paths, as rename_path() does."""
     base = process.path_context.directory
     source = files.full_path(base, call.argument(0))
     target = files.full_path(base, call.argument(1))
-    rename_path(files, source, target, '')
+    rename_path(files, source, target, flags='')
 
 
 def on_renameat(files: LiveFiles, process: Process, call: Call) -> None:
-    """Renames a file or directory by paths that are relative to directories; only renameat2 has
-    flags."""
+    """Renames a file or directory by paths that are relative to directories, as rename_path() does.
+    Only renameat2 has flags."""
     source = files.full_path(process.directory_of(call.descriptor(0)), call.argument(1))
     target = files.full_path(process.directory_of(call.descriptor(2)), call.argument(3))
-    rename_path(files, source, target, call.argument(4))
+    rename_path(files, source, target, flags=call.argument(4))
 
 
 def rename_path(
-    files: LiveFiles, full_source: Optional[str], full_target: Optional[str], flags: str
+    files: LiveFiles, full_source: Optional[str], full_target: Optional[str], *, flags: str
 ) -> None:
-    """Renames a file or directory, or exchanges two, as the flags say; the paths are absolute. A
-    rename of the recorded directory itself, or onto it, is only reported; so is a device that
-    RENAME_WHITEOUT leaves. Nothing if path_in_tree() has neither path."""
+    """Renames what is at an absolute path, or exchanges it, as the flags say; processes keep their
+    working directories by new paths. A rename of the recorded directory itself, or onto it, is only
+    reported; so is a device that RENAME_WHITEOUT leaves. Nothing if both paths are outside the
+    directory, ignored, or None."""
     source, target = files.path_in_tree(full_source), files.path_in_tree(full_target)
     if source is None and target is None:
         return
@@ -60,16 +61,17 @@ def rename_path(
 
 
 def paths_after_rename(source: str, target: str, *, has_exchange: bool) -> Dict[str, str]:
-    """The new paths, by the old ones, of a directory that was renamed and of the one that it
-    replaced or was exchanged with, as the processes that are in them have them. All are absolute.
-    The replaced one has its removed_path(), unless both are one directory."""
+    """The new paths, by the old ones, of the directories at two absolute paths after a rename: that
+    at the target is exchanged with the other, or replaced, which gives it its removed_path(). If
+    both paths are one, it stays."""
     target_after = source if has_exchange else removed_path(target)
+    # If both paths are one, the last value counts.
     return {target: target_after, source: target}
 
 
 def exchange_paths(files: LiveFiles, source: Optional[str], target: Optional[str]) -> None:
-    """Exchanges what is at two paths of the tree, as exchange_names() does. If nothing is known at
-    the source, or one path is None, the other path gets a file from outside."""
+    """Exchanges what is at two paths of the tree, as exchange_names() does. If one path is None, or
+    nothing is known at the source, the other path gets a file, as add_from_outside() adds it."""
     if source is None or files.tree.node_at(source) is None:
         add_from_outside(files, target)
     elif target is None:
@@ -79,9 +81,9 @@ def exchange_paths(files: LiveFiles, source: Optional[str], target: Optional[str
 
 
 def move_path(files: LiveFiles, source: Optional[str], target: Optional[str]) -> None:
-    """Moves what is at one path of the tree to another, which may be None: then it is removed. If
-    nothing is known at the source, or that is None, the target gets a file from outside. Nothing
-    happens if both are names of one file."""
+    """Moves what is at one path of the tree to another; if that is None, it is removed. If nothing
+    is known at the source, or that is None, the target gets a file, as add_from_outside() adds it.
+    Nothing happens if both paths are names of one file."""
     node = files.tree.node_at(source)
     if source is None or node is None:
         add_from_outside(files, target)
@@ -92,9 +94,9 @@ def move_path(files: LiveFiles, source: Optional[str], target: Optional[str]) ->
 
 
 def add_from_outside(files: LiveFiles, target: Optional[str]) -> None:
-    """Adds a file whose bytes aren't known, as it was renamed from outside or from an ignored name,
-    and reports it. It replaces what is at the path and below it, but the trace keeps that. Nothing
-    if the path is None."""
+    """Adds a file whose bytes aren't known, since it was renamed from outside or from an ignored
+    path, and reports that. What is at the target, and below it, is replaced in the live tree; the
+    trace keeps it. Nothing if the target is None."""
     if target is None:
         return
     files.recording.report('renamed to from outside the directory, or from an ignored name', target)
@@ -104,9 +106,9 @@ def add_from_outside(files: LiveFiles, target: Optional[str]) -> None:
 
 
 def move_outside(files: LiveFiles, source: str, node: Node) -> None:
-    """Removes a file or directory that was renamed to a path outside, or to an ignored one. If it
-    is a directory with entries, that is reported: it isn't followed any more, but the trace keeps
-    it. The processes that are in it have their new working directory already."""
+    """Removes a file or directory that was renamed to a path outside, or to an ignored one. A
+    directory with entries is reported: it isn't followed any more, but the trace keeps it. The
+    processes that are in it must have their new working directory already."""
     if node.is_directory and files.tree.paths_below(source):
         files.recording.report('a directory with entries was renamed out of the directory', source)
         forget_tree(files, source)
@@ -117,36 +119,40 @@ def move_outside(files: LiveFiles, source: str, node: Node) -> None:
 
 
 def forget_tree(files: LiveFiles, path: str) -> None:
-    """Removes a path, and what is below it, from the live tree only; the trace keeps both, but
-    they aren't followed any more."""
+    """Removes what is at a path, which must be known, and below it, from the live tree only. The
+    trace keeps it, but not as a traced path of its node: it isn't followed any more."""
     for forgotten_path in [path] + files.tree.paths_below(path):
         files.tree.remove_name(forgotten_path).traced_paths.discard(forgotten_path)
 
 
 def exchange_names(files: LiveFiles, source: str, target: str) -> None:
-    """Exchanges two names. No trace has that: it is reported, and the trace keeps what it has at
-    both names, which may differ at the end. In the live tree two files get each other's name. A
-    directory is forgotten, and a file that is exchanged with it keeps its name."""
+    """Exchanges what is at two paths. No trace has that: it is reported, and what the trace has at
+    the paths may differ at the end. In the live tree two files get each other's name. A directory
+    is forgotten, and a file that is exchanged with it keeps its name."""
     files.recording.report(f'exchanged with {target}, which no trace can say', source)
     files.recording.differing_paths.add(target)
     for path in (source, target):
-        node = files.tree.node_at(path)
-        if node is not None and node.is_directory:
-            forget_tree(files, path)
-        elif node is not None:
-            node.traced_paths.discard(path)
-    source_node, target_node = files.tree.node_at(source), files.tree.node_at(target)
-    if source_node is not None and target_node is not None:
-        files.tree.remove_name(source)
-        files.tree.remove_name(target)
+        stop_tracing_path(files, path)
+    if source in files.tree.nodes and target in files.tree.nodes:
+        source_node, target_node = files.tree.remove_name(source), files.tree.remove_name(target)
         files.tree.add_name(target, source_node)
         files.tree.add_name(source, target_node)
 
 
+def stop_tracing_path(files: LiveFiles, path: str) -> None:
+    """Removes a path from the traced paths of the file that is there, or forgets the directory that
+    is there, as forget_tree() does. Nothing if nothing is known there."""
+    node = files.tree.node_at(path)
+    if node is not None and node.is_directory:
+        forget_tree(files, path)
+    elif node is not None:
+        node.traced_paths.discard(path)
+
+
 def rename_node(files: LiveFiles, source: str, target: str, node: Node) -> None:
-    """Renames a file or directory within the recorded directory, in the trace too if that has it.
-    It replaces a file or directory that has the target's name. If the trace has no name of the
-    file, that is reported."""
+    """Renames a file or directory within the recorded directory, in the trace too if that has it. A
+    file or directory at the target is replaced. If the trace has no name of a file that is renamed,
+    that is reported."""
     if target in files.tree.nodes:
         remove_replaced_name(files, files.tree.remove_name(target), target)
     files.tree.move_node(source, target)
@@ -159,9 +165,9 @@ def rename_node(files: LiveFiles, source: str, target: str, node: Node) -> None:
 
 
 def remove_replaced_name(files: LiveFiles, node: Node, path: str) -> None:
-    """Removes a path, to which another file is renamed, from a node's traced paths; the live tree
-    must have removed the name already. If the file keeps only names that the trace lacks, that is
-    reported."""
+    """Removes a path, to which another node is renamed, from the traced paths of the node that was
+    there; the live tree must have removed its name already. If it keeps only names that the trace
+    lacks, that is reported."""
     if path in node.traced_paths:
         node.traced_paths.discard(path)
         if node.names and not node.traced_paths:
@@ -169,9 +175,9 @@ def remove_replaced_name(files: LiveFiles, node: Node, path: str) -> None:
 
 
 def rename_directory_in_trace(files: LiveFiles, node: Node, source: str, target: str) -> None:
-    """Renames a directory in the trace, after move_node() has moved it in the live tree. If the
-    trace lacks the directory, or can't rename it, that is reported, and what is done below it is
-    left out from then on."""
+    """Renames a directory in the trace; the live tree must have moved it already. If the trace
+    lacks the directory, or can't rename it, that is reported, and what is done below it is left out
+    from then on."""
     if source in node.traced_paths and files.recording.may_have_newest_version:
         if files.recording.add_operation(Rename(source, target)):
             files.tree.move_traced_paths(source, target)

@@ -7,7 +7,7 @@ from __future__ import annotations
 from crashfs_tools.common.trace import Sync
 from crashfs_tools.recorder.arguments import parse_integer
 from crashfs_tools.recorder.mappings import Mapping, round_up_to_pages
-from crashfs_tools.recorder.processes import Process
+from crashfs_tools.recorder.processes import Process, node_of
 from crashfs_tools.recorder.live_files import LiveFiles
 from crashfs_tools.recorder.strace_log import Call
 
@@ -17,18 +17,18 @@ NOT_FOLLOWED = (
 
 
 def on_fsync(files: LiveFiles, process: Process, call: Call) -> None:
-    """Syncs an open file or directory, with its mode and owner."""
-    file = files.find_open_file(process, call)
-    if file is not None and file.node is not None:
-        files.sync_file(file.node)
+    """Syncs an open file or directory, with its mode and owner: LiveFiles.sync_file()."""
+    node = node_of(files.find_open_file(process, call))
+    if node is not None:
+        files.sync_file(node)
 
 
 def on_fdatasync(files: LiveFiles, process: Process, call: Call) -> None:
-    """Syncs the bytes and the size of an open file. An open directory is synced as by fsync, with a
-    report if its mode or owner was changed since its last sync."""
-    file = files.find_open_file(process, call)
-    if file is not None and file.node is not None:
-        files.sync_data(file.node)
+    """Syncs the bytes and the size of an open file. An open directory is synced as by fsync; if its
+    mode or owner was changed since its last sync, that is reported."""
+    node = node_of(files.find_open_file(process, call))
+    if node is not None:
+        files.sync_data(node)
 
 
 def on_sync(files: LiveFiles, process: Process, call: Call) -> None:
@@ -37,8 +37,8 @@ def on_sync(files: LiveFiles, process: Process, call: Call) -> None:
 
 
 def on_syncfs(files: LiveFiles, process: Process, call: Call) -> None:
-    """Syncs all files and directories if the descriptor's file is in the directory and not ignored;
-    any other call is left out and reported."""
+    """Syncs all files and directories, if the path that strace shows for the descriptor is in the
+    directory and not ignored. Any other syncfs is left out, which is reported."""
     path = call.descriptor().path
     if path is not None and files.resolve_path(path) is not None:
         sync_all(files)
@@ -47,38 +47,33 @@ def on_syncfs(files: LiveFiles, process: Process, call: Call) -> None:
 
 
 def sync_all(files: LiveFiles) -> None:
-    """Adds a sync of everything. Sets was_synced of files of O_TMPFILE, since the trace has them
-    only once they get their names, and clears has_new_rights of all nodes."""
-    for node in files.temporary_files:
-        node.was_synced = True
-    for node in files.tree.nodes.values():
-        node.has_new_rights = False
+    """Adds a sync of everything. Sets was_synced of all nodes, since a file of O_TMPFILE may get
+    its name later, and clears their has_new_rights, as LiveFiles.sync_file() does for one."""
+    for node in {*files.temporary_files, *files.tree.nodes.values()}:
+        node.was_synced, node.has_new_rights = True, False
     files.recording.add_operation(Sync())
 
 
 def on_sync_file_range(files: LiveFiles, process: Process, call: Call) -> None:
     """Notes a sync_file_range, if the trace has the file. The trace gets no sync, as the call
     promises nothing about a crash."""
-    file = files.find_open_file(process, call)
-    if file is not None and file.node is not None and file.node.traced_path is not None:
-        files.recording.report_note(
-            'sync_file_range: it promises nothing of a crash, and is left out',
-            file.node.traced_path,
-        )
+    node = node_of(files.find_open_file(process, call))
+    if node is not None and node.traced_path is not None:
+        what = 'sync_file_range: it promises nothing of a crash, and is left out'
+        files.recording.report_note(what, node.traced_path)
 
 
 def on_mmap(files: LiveFiles, process: Process, call: Call) -> None:
-    """Unmaps what was mapped at the addresses, and adds a shared mapping of a followed file; a
-    private one changes no file. A shared one for writing is reported, unless copies show what is
-    stored."""
+    """Unmaps what was mapped at the addresses of a new mapping, and adds the new one if it is
+    shared and of a followed file: a private one changes no file. A shared one for writing is
+    reported, unless copies show what is stored through it."""
     length = round_up_to_pages(parse_integer(call.argument(1)))
     process.memory.unmap(call.result, length)
-    file = process.descriptors.files.get(call.descriptor(4).number)
-    if file is None or file.node is None or 'MAP_SHARED' not in call.argument(3):
+    node = node_of(process.open_file(call.descriptor(4)))
+    if node is None or 'MAP_SHARED' not in call.argument(3):
         return
-    process.memory.map(
-        Mapping(call.result, length, file.node, parse_integer(call.argument(5, '0')))
-    )
+    offset = parse_integer(call.argument(5, '0'))
+    process.memory.map(Mapping(call.result, length, node, offset))
     if 'PROT_WRITE' in call.argument(2):
         report_mapped(files, process, call.result, length)
 
@@ -89,8 +84,8 @@ def on_munmap(files: LiveFiles, process: Process, call: Call) -> None:
 
 
 def on_mremap(files: LiveFiles, process: Process, call: Call) -> None:
-    """Moves a mapping, or gives it another length. With MREMAP_DONTUNMAP the old addresses stay
-    mapped."""
+    """Moves a mapping, or gives it another length, as Memory.move() does. With MREMAP_DONTUNMAP the
+    old addresses stay mapped."""
     old, old_length, new_length = [parse_integer(call.argument(index)) for index in range(3)]
     keep_old = 'DONTUNMAP' in call.argument(3)
     process.memory.move(old, old_length, call.result, new_length, keep_old=keep_old)
@@ -105,8 +100,8 @@ def on_mprotect(files: LiveFiles, process: Process, call: Call) -> None:
 
 
 def report_mapped(files: LiveFiles, process: Process, address: int, length: int) -> None:
-    """Reports the files of the trace that are mapped in a range of addresses, which must be
-    writable. Nothing if copies show what is stored there."""
+    """Reports each file of the trace that is mapped in a range of addresses, to which the caller
+    found that the process may store. Nothing if copies show what is stored there."""
     if files.has_copies:
         return
     for part in process.memory.parts_in(address, length):
@@ -115,8 +110,8 @@ def report_mapped(files: LiveFiles, process: Process, address: int, length: int)
 
 
 def on_msync(files: LiveFiles, process: Process, call: Call) -> None:
-    """Syncs the bytes of files that are mapped in a range of addresses, in whole pages; nothing
-    without MS_SYNC."""
+    """Syncs the bytes of files that are mapped in a range of addresses, in whole pages. Nothing
+    without MS_SYNC, as nothing is waited for then."""
     if 'MS_SYNC' not in call.argument(2):
         return
     length = round_up_to_pages(parse_integer(call.argument(1)))

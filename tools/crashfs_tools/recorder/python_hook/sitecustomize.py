@@ -74,9 +74,10 @@ def mark_builtin_call(
     last_mark: Any = threading.local(),
     access: Callable[[str, int], bool] = os.access,
 ) -> None:
-    """Calls `access` with the program's lines if a built-in function of WATCHED is called, from
-    another line than at the thread's last mark. Python calls this at each call and return.
-    last_mark and access are parameters so that a program that changes os doesn't change them."""
+    """Calls `access` with program_lines() if a built-in function of WATCHED is called, but not
+    again from the line of the thread's last mark. Python calls this at each call and return.
+    last_mark and access are parameters so that a program that changes `os` or `threading` doesn't
+    change them."""
     if event == 'c_call' and function.__name__ in WATCHED:
         line = frame.f_code, frame.f_lineno
         if getattr(last_mark, 'line', None) != line:
@@ -85,8 +86,9 @@ def mark_builtin_call(
 
 
 def program_lines(innermost: FrameType) -> str:
-    """The innermost lines of the program itself, MOST_LINES at most, as `kv.py:85 main < ..`. Those
-    of the standard library are left out; empty if there are no others."""
+    """The innermost lines of the program itself, MOST_LINES at most, as `kv.py:85 main < ..`,
+    beginning at a frame. Lines of the standard library are left out. Empty if there are no
+    others."""
     lines: List[str] = []
     frame: Optional[FrameType] = innermost
     while frame is not None and len(lines) < MOST_LINES:
@@ -99,8 +101,8 @@ def program_lines(innermost: FrameType) -> str:
 
 
 def run_replaced_module() -> None:
-    """Runs the sitecustomize that Python would have loaded without this one, if there is one;
-    sys.modules keeps this one. It raises what that module does."""
+    """Runs the module sitecustomize that Python would load if this one weren't there; nothing if
+    there is none. sys.modules keeps this one. It raises what that module raises."""
     own_folder = os.path.dirname(os.path.abspath(__file__))
     folders = [folder for folder in sys.path if os.path.abspath(folder or '.') != own_folder]
     spec = PathFinder.find_spec('sitecustomize', folders)
