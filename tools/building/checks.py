@@ -57,8 +57,8 @@ def wait_for_child(process: int) -> Tuple[int, int]:
 
 def killed_text(name: str, check: Check, jobs: int, processors: int) -> str:
     """A line about a check that the system has killed: the memory of its largest process, with how
-    many jobs the check ran, the machine's memory, and advice. `processors` is on how many all
-    checks ran: the advice is half of them, or another machine if it was one. OSError as
+    many jobs the check ran, the machine's memory, and advice. `processors` is how many all checks
+    used: the advice is to use half as many, or another machine if it is 1. OSError as
     memory_of_machine()."""
     advice = (
         f'run tools/build --processors {processors // 2}'

@@ -13,8 +13,8 @@ def library_folder(copy: Path, name: str) -> Path:
 
 def read_stamp(library: Path) -> bytes:
     """The stamp of a library's folder: a checksum of all texts that the library was made from,
-    which `rt` writes once it is whole. Empty if there is no library, or only a part of it; OSError
-    if the stamp can't be read."""
+    which `rt` writes once the library is whole. Empty if there is no library, or only a part of
+    one; OSError if the stamp can't be read."""
     stamp = library / 'stamp'
     return stamp.read_bytes() if stamp.is_file() else b''
 
@@ -22,8 +22,8 @@ def read_stamp(library: Path) -> bytes:
 def copy_library(source_copy: Path, target_copy: Path, name: str) -> None:
     """Copies the proved library of a crate between copies of the repository, so that `rt` doesn't
     prove it again. Does nothing if both have the same library, or none. OSError if the source has
-    none, or it can't be copied: then the target has no library, but there may be a part of one in
-    `rlib.part`."""
+    no library, or the library can't be copied: then the target has none, but there may be a part of
+    one in `rlib.part`."""
     source_library = library_folder(source_copy, name)
     target_library = library_folder(target_copy, name)
     if read_stamp(source_library) == read_stamp(target_library):

@@ -35,9 +35,9 @@ class Share:
 
     def add_group(self, group: List[Prover], now: float) -> None:
         """Adds a sample of a group, a prover and those that it started, at the time `now`, in
-        seconds since the system began; it replaces an earlier sample of the group. The processor
-        seconds never fall, though those of an ended process are missing until the prover has waited
-        for it. IndexError for an empty group."""
+        seconds since the system began. The sample replaces an earlier one of the group, but the
+        processor seconds never fall: those of an ended process are missing until the prover has
+        waited for it. IndexError for an empty group."""
         first_prover = group[0]
         key = first_prover.number, first_prover.start_time
         seconds = sum(prover.seconds for prover in group)
@@ -59,7 +59,7 @@ def add_sample(shares: Shares, groups: List[List[Prover]], now: float) -> None:
 
 def crate_row(crate: str, shares: Shares) -> List[str]:
     """A crate's row of the table: processor seconds by kind, their sum, the wall seconds of the
-    group that ran longest, and the megabytes of the group that had most. ValueError if `shares` has
+    group that ran longest, and the most megabytes that a group had. ValueError if `shares` has
     nothing of the crate."""
     crate_shares = {kind: share for (name, kind), share in shares.items() if name == crate}
     seconds = [
@@ -107,9 +107,10 @@ def sample_until_end(process: int, pause_seconds: float, is_stopped: threading.E
 
 
 def main(words: Optional[List[str]] = None) -> int:
-    """Runs gate-times until the process ends or SIGTERM or SIGINT comes, and returns 0, also if
-    there is no such process. `words` None means those of the command line. These two signals don't
-    end this process afterwards either. A wrong word ends the program (SystemExit)."""
+    """Runs gate-times with these words, or with those of its command line if they are None, until
+    the process ends or SIGTERM or SIGINT comes. Returns 0, also if there is no such process. The
+    two signals don't end this process afterwards either. A wrong word ends the program
+    (SystemExit)."""
     parser = argparse.ArgumentParser(
         prog='gate-times', description=ABOUT, formatter_class=argparse.RawDescriptionHelpFormatter
     )

@@ -37,8 +37,9 @@ TOOLS = {
 
 @dataclass(frozen=True)
 class Option:
-    """An option: its names and its help. If it takes a value, `value` is the name of the value in
-    the help, and `choices` has the only values that are accepted; any is if it is empty."""
+    """An option: its names and its help. `value` is the name of its value in the help, or None if
+    it takes none. `choices` has the only values that it accepts; if it is empty, any is accepted.
+    """
 
     names: Tuple[str, ...]
     help: str

@@ -20,8 +20,8 @@ def outdated_files(texts: Dict[Path, str]) -> List[Path]:
 
 
 def outdated_lines(texts: Dict[Path, str], sources: str, command: str) -> List[str]:
-    """A line for each outdated file, also if it is missing, with what it is older than, `sources`,
-    and which command of tools/ writes it. ValueError if the file isn't in the repository; errors as
+    """A line for each path of outdated_files(), with what the file is older than, `sources`, and
+    which command of tools/ writes it. ValueError if such a path isn't in the repository; errors as
     outdated_files()."""
     return [
         f'{path.relative_to(TOP)} is older than {sources}: run tools/{command}'

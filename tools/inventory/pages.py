@@ -104,8 +104,8 @@ def calls_text(calls: List[str]) -> str:
 
 def lines_of_words(crate: str, calls: Dict[str, List[str]]) -> List[str]:
     """The lines that list the words of a crate: a heading, and a table with what each word says,
-    its file, and the calls that cite it. `calls` has these by word, but no word that nothing cites.
-    Empty if the crate has no words."""
+    its file, and the calls that cite it. `calls` has these calls by word, without the words that
+    nothing cites. Empty if the crate has no words."""
     rows = [
         f'| `{table_cell(word.name)}` | {table_cell(word.sentence)} | {word.file} '
         f'| {calls_text(calls.get(word.name, []))} |'

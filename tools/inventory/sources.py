@@ -102,8 +102,8 @@ def read_head_comment(path: Path) -> str:
 
 
 def tests_of_tools() -> List[DescribedTest]:
-    """The files of the tools' tests, sorted, each with its docstring, as one line, as its sentence;
-    a file without a docstring has an empty sentence. SyntaxError if a file isn't Python."""
+    """The files of the tools' tests, sorted. The sentence of a file is its docstring, as one line,
+    or empty if there is none. SyntaxError if a file isn't Python."""
     tests: List[DescribedTest] = []
     for path in sorted(TOOLS_TESTS.glob('test_*.py')):
         text = ast.get_docstring(ast.parse(path.read_text(encoding='utf-8'))) or ''
@@ -118,8 +118,8 @@ def case_areas() -> List[str]:
 
 
 def cases_in(area: str) -> List[DescribedTest]:
-    """The tests of a folder of CASES, sorted by file, each with the text before its first section
-    as one line. Empty if there is no such folder."""
+    """The tests of a folder of CASES, sorted by file. The sentence of a test is the text before the
+    first section of its file, as one line. Empty if there is no such folder."""
     cases: List[DescribedTest] = []
     for path in sorted((CASES / area).glob('*.case')):
         text = path.read_text(encoding='utf-8').partition('\n== ')[0]
@@ -133,9 +133,9 @@ def edits_of(crate: str) -> List[str]:
 
 
 def words_in(path: Path, file: str) -> List[Word]:
-    """The public words of the file of specs/ at a path, in their order; `file` is the name of the
-    file that they get. The sentence of a word without a comment is empty. OSError if the file can't
-    be read."""
+    """The public words of a file of specs/, in their order. `path` is the path of the file, and
+    `file` its name for the words. The sentence of a word without a comment is empty. OSError if the
+    file can't be read."""
     lines = path.read_text(encoding='utf-8').splitlines()
     words: List[Word] = []
     for index, line in enumerate(lines):

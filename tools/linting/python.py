@@ -24,9 +24,9 @@ def missing_linters() -> List[str]:
 
 
 def install_packages(names: List[str]) -> None:
-    """Installs Debian's packages by apt-get, and waits for it without limit. Does nothing if there
-    is no name, if this user isn't root, or if apt-get isn't there. If apt-get fails, only its own
-    errors are shown."""
+    """Installs Debian's packages by apt-get, and waits for it without limit. Does nothing if
+    `names` is empty, if this user isn't root, or if apt-get isn't there. If apt-get fails, only its
+    own errors are shown."""
     if names and os.geteuid() == 0 and shutil.which('apt-get'):
         words = ['apt-get', 'install', '--yes', '--no-install-recommends', *names]
         environment = {**os.environ, 'DEBIAN_FRONTEND': 'noninteractive'}

@@ -187,8 +187,8 @@ def unused_allowance_faults() -> List[str]:
 
 def retired_word_faults() -> List[str]:
     """A sentence for each retired word in the pages, in what is printed, and in documentation and
-    names of Python; but none for the words of a line that is_allowed(), and one for each entry of
-    ALLOWED that nothing needs. Errors as all_lines()."""
+    names of Python, except in lines that is_allowed() accepts; and for each entry of ALLOWED that
+    nothing needs. Errors as all_lines()."""
     lines = [line for line in all_lines() if not is_allowed(line)]
     faults = [fault for line in lines for fault in word_faults(line)]
     faults += [fault for line in names_of_tools() for fault in name_faults(line)]
