@@ -46,10 +46,10 @@ def check(
     one program. A command runs in a directory that has the files as the crash left them, with the
     acknowledged lines on its standard input. A function is called in a fork of this process.
 
-    The options are those of crashfs-check. jobs is one for each processor by default; every goes
-    with no families, prefixes or quick; fail_fast ends the check at an accepted failure too.
-    time_limit needs the main thread, and takes SIGALRM, whose handler it replaces, and its timer;
-    once it has passed, the report has what was tried.
+    The options are those of crashfs-check. jobs is one for each processor by default; every can't
+    be combined with families, prefixes or quick; fail_fast ends the check at an accepted failure
+    too. time_limit needs the main thread: it uses the timer of SIGALRM, and replaces the signal's
+    handler. Once it has passed, the report has what was tried.
 
     Refused is raised for bad input, and if the recovery fails though nothing is lost. Any other
     fault is raised too, and then there is no report."""
@@ -65,8 +65,8 @@ def check(
 
 def run_check(options: Options) -> Report:
     """Runs a check with these options, which must have their recovery, and returns its report. An
-    exception that ends the check is raised, and there is no report then; Refused too as in
-    refuse_every_with_families()."""
+    exception that ends the check early is raised, and what was tried is lost then. Refused too as
+    in refuse_every_with_families()."""
     refuse_every_with_families(options)
     with Guard(NAME, may_reap=False) as guard:
         checked = check_trace(options, guard, Progress(io.StringIO()), has_states=True)
@@ -81,8 +81,8 @@ def path_text(path: Optional[PathLike]) -> Optional[str]:
 
 
 def refuse_every_with_families(options: Options) -> None:
-    """Refused if the options have `every`, but ask only for families of states, with which it
-    doesn't go."""
+    """Refused if the options have `every` and ask only for families of states: these can't be
+    combined."""
     if options.every is not None and not options.has_every:
         raise Refused('every goes with no families, prefixes or quick')
 

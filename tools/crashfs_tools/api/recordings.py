@@ -67,9 +67,10 @@ def record(
     """Runs a session in a directory under strace, and writes what it does as a trace.
 
     session is a list of words, or a text that is one program, whose standard output is
-    acknowledged; or a function of a module or a script. A new Python, which imports that, calls the
-    function with the directory and a function that acknowledges a line; what it prints is not
-    acknowledged. The content of the directory before it is the start tree.
+    acknowledged; or a function of a module or a script. A new Python imports the module or script,
+    and calls the function with the directory and a function that acknowledges a line; what the
+    session's function prints is not acknowledged. What is in the directory before the session is
+    the start tree.
 
     The options are those of crashfs-record, and acknowledged is its --say-fd. environment is that
     of the session and of crashfs-record; None is that of this process. It waits until the session

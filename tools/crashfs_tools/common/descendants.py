@@ -35,7 +35,7 @@ def die_with_parent() -> None:
 
 def become_reaper() -> bool:
     """From here on orphans of this process's descendants become its children. Returns whether the
-    system could do it; if not, they become children of another process."""
+    system allows that; if not, they become children of another process."""
     try:
         import ctypes
 

@@ -35,7 +35,9 @@ class Guard:
     the lines that are printed. A guard that may not reap ends only what was started with
     `environment`, and no other children of this process."""
 
-    def __init__(self, program: str, folder: Optional[str] = None, may_reap: bool = True) -> None:
+    def __init__(
+        self, program: str, folder: Optional[str] = None, *, may_reap: bool = True
+    ) -> None:
         """Makes and starts nothing yet: __enter__() does."""
         self.program = program
         self.folder = folder
@@ -101,8 +103,8 @@ class Guard:
 
     @property
     def environment(self) -> Dict[str, str]:
-        """The environment with which processes must be started so that the guard ends them: that of
-        this process now, with the token."""
+        """The environment with which processes must be started so that the guard ends them: a copy
+        of that of this process now, with the token."""
         return with_token(os.environ, self.token)
 
     def end_processes(self, spared: Iterable[int] = ()) -> Dict[int, str]:

@@ -115,9 +115,9 @@ class Crashfs:
 
     def program_for_version(self, version: int) -> Crashfs:
         """This program; or, if it doesn't read traces of a version, the second reading, with the
-        version as refused_version. Sets has_sparse of this program if it can write large files in
-        pieces. It isn't started for versions before NEW_VERSION, which all programs read. OSError
-        as can_read_version()."""
+        version as refused_version. Sets has_sparse, whether this program can write large files in
+        pieces. The program isn't started for versions before NEW_VERSION, which each program reads.
+        OSError as can_read_version()."""
         if self.is_unproved or version < NEW_VERSION:
             return self
         if not self.can_read_version(version):
@@ -154,8 +154,8 @@ class Crashfs:
 
     def output_of(self, words: List[str], environment: Optional[Dict[str, str]] = None) -> str:
         """What a command prints on standard output; what it prints as an error is dropped.
-        ProgramFault if its status isn't 0; errors as start() too. An `environment` of None is that
-        of this process, which the second reading has in any case."""
+        ProgramFault if its status isn't 0; other errors as start() raises them. An `environment` of
+        None means that of this process, which the second reading always has."""
         child = self.start(words, environment)
         output, error_text = child.communicate()
         if child.returncode != 0:
@@ -188,7 +188,7 @@ class Crashfs:
         """Yields the entries of the archive that `crashfs tar` writes, as a stream that can be read
         once, within the `with`; its end drops what wasn't read. ProgramFault at the end if the
         program failed, or if an ArchiveFault was raised within. Any other exception within kills
-        the program, and is raised. Errors of the start as start() raises them."""
+        the program, and is raised. Errors as start() too."""
         sparse = ['--sparse'] if self.has_sparse else []
         child = self.start(['tar', *sparse, *words], environment)
         assert child.stdout is not None and child.stderr is not None
@@ -198,10 +198,7 @@ class Crashfs:
         except ArchiveFault as error:
             fault: Optional[str] = f'what it wrote is no archive: {error}'
         except BaseException:
-            child.kill()
-            child.wait()
-            child.stdout.close()
-            child.stderr.close()
+            end_program(child)
             raise
         else:
             fault = None
@@ -323,6 +320,14 @@ class ProgramOutput(io.RawIOBase):
         while self.read_errors():
             pass
         return self.error_text
+
+
+def end_program(child: RunningProgram) -> None:
+    """Kills a program, drops what it printed, and waits for its end."""
+    assert child.stdout is not None and child.stderr is not None
+    with child.stdout, child.stderr:
+        child.kill()
+        child.wait()
 
 
 def read_rest_and_wait(child: RunningProgram, output: ProgramOutput) -> bytes:

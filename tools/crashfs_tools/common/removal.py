@@ -73,8 +73,8 @@ def remove_if_empty(path: str, dir_fd: Optional[int]) -> bool:
 
 
 def make_trash(trash: str, path: str, dir_fd: Optional[int]) -> None:
-    """Makes the directory `trash`. If the disk has no room for it, make_room() frees some in the
-    directory `path` first. OSError if it can't be made even then."""
+    """Makes the directory `trash`. If the disk is full, make_room() first removes something from
+    the directory `path`. OSError if `trash` can't be made even then."""
     try:
         os.mkdir(trash, OPEN_MODE)
     except OSError as error:
@@ -179,8 +179,9 @@ class Removal:
             os.close(directory_fd)
 
     def open_in_trash(self, name: str) -> int:
-        """Opens a directory in the trash, and gives its owner all rights. Returns the descriptor,
-        which the caller closes. OSError if it can't be opened."""
+        """Opens a directory in the trash, and gives the directory's owner all rights. Returns the
+        descriptor, which the caller closes. OSError if it can't be opened, or the rights can't be
+        given."""
         try:
             directory_fd = os.open(name, FOLDER, dir_fd=self.trash_fd)
         except PermissionError:

@@ -300,7 +300,7 @@ class Trace:
 
 def json_start_line(entry: StartLine, version: int) -> str:
     """An entry of the start tree as a line of a trace of this version, without its line feed. In
-    version 4 a file is written in parts if that is shorter."""
+    version 4 a file is written in parts if that takes less room."""
     values = line_values(with_parts_if_shorter(entry) if version >= 4 else entry, version)
     if isinstance(entry, StartLink):
         return json_line({'start': 'link', **values})

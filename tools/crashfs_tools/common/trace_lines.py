@@ -39,8 +39,8 @@ RANDOM = [
 
 @lru_cache(1 << 10)
 def without_numbers(text: str) -> str:
-    """A name, or the cause of a failure, with `#` in place of each number and random part
-    (RANDOM)."""
+    """A name, or the cause of a failure, with `#` in place of each number and random part, as
+    RANDOM finds them."""
     for pattern in RANDOM:
         text = pattern.sub('#', text)
     return text

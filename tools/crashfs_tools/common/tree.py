@@ -77,7 +77,8 @@ class Tree:
     @property
     def records(self) -> int:
         """How many records the program counts for the tree in its present version: all that was
-        made or linked, also what is gone, and in version 4 each rename into another directory."""
+        made or linked, also what was removed, and in version 4 each rename into another
+        directory."""
         return self.made_count + (self.move_count if self.version >= 4 else 0)
 
     @property
@@ -169,7 +170,8 @@ class Tree:
         return f'{path} is a symbolic link' if is_link else None
 
     def rename_fault(self, operation: Rename) -> Optional[str]:
-        """Why a rename is impossible; None if it is possible, also if it does nothing."""
+        """Why a rename is impossible, by its paths, what is there, and the count of records. None
+        if it is possible, also if it does nothing."""
         source, target = operation.source, operation.target
         source_entry, target_entry = self.entries.get(source), self.entries.get(target)
         parent = self.entries.get(parent_of(target))
@@ -368,8 +370,8 @@ def start_lines(entries: Entries, files: Dict[str, int]) -> Tuple[Header, List[S
 
 
 def copy_of_bytes(entry: Entry) -> Union[bytes, SparseBytes, None]:
-    """A copy of the bytes of a file; None for a directory. A file of LARGE_BYTES or more is copied
-    to SparseBytes."""
+    """A copy of the bytes of a file; None for a directory or a symbolic link. A file of LARGE_BYTES
+    or more is copied to SparseBytes."""
     if isinstance(entry.data, SparseBytes) or len(entry.data or b'') >= LARGE_BYTES:
         return SparseBytes.copy_of(entry.data or b'')
     return None if entry.data is None else bytes(entry.data)

@@ -61,9 +61,9 @@ def possible_flushes(kind: FlushKind, unsynced: Unsynced, operation_count: int) 
 
 
 def earlier_changes(unsynced: Unsynced, operation_count: int) -> List[UnsyncedChange]:
-    """The changes after which EARLIER may write a file: of each file that the last operation didn't
-    change all but the file's last change, and of all these at most the MOST_EARLIER latest. Empty
-    if the last operation changed no file: then nothing new in other files would be written last."""
+    """The changes after which EARLIER may write a file: those of files that the last operation
+    didn't change, without the last change of each file; at most the MOST_EARLIER latest. Empty if
+    the last operation changed no file: then nothing new in other files would be written last."""
     if not any(changes[-1].operation_count == operation_count for changes in unsynced):
         return []
     other_files = [

@@ -25,8 +25,8 @@ TRIES = 100
 
 @contextmanager
 def attached_loop_device(image: str) -> Iterator[str]:
-    """Within this an image is attached to a loop device. Yields the device's path. If the device is
-    mounted meanwhile, it keeps the image until it is unmounted. Refused and OSError as
+    """Within this an image is attached to a loop device. Yields the device's path. A device that is
+    mounted meanwhile keeps the image until it is unmounted. Refused and OSError as
     open_loop_device()."""
     device, device_path = open_loop_device(image)
     try:

@@ -21,7 +21,7 @@ def use_own_mounts() -> None:
     the system doesn't allow that."""
     error_number = unshare_mounts()
     if error_number:
-        raise Refused(f'--disks: {fault_text(error_number)}')
+        raise Refused(f'--disks: {unshare_fault_text(error_number)}')
 
 
 def own_mounts_fault() -> Optional[str]:
@@ -36,7 +36,7 @@ def own_mounts_fault() -> Optional[str]:
             finally:
                 os._exit(error_number)
         error_number = os.waitstatus_to_exitcode(os.waitpid(child, 0)[1])
-    return fault_text(error_number) if error_number else None
+    return unshare_fault_text(error_number) if error_number else None
 
 
 def unshare_mounts() -> int:
@@ -48,8 +48,8 @@ def unshare_mounts() -> int:
     return 0
 
 
-def fault_text(error_number: int) -> str:
+def unshare_fault_text(error_number: int) -> str:
     """An error number of unshare_mounts() in words. EINVAL means a chroot whose `/` is an ordinary
-    directory: its mount can't be changed from there."""
+    directory: the mount that it is in can't be changed from there."""
     reason = '/ is not a mount point' if error_number == errno.EINVAL else os.strerror(error_number)
     return f"a process can't have mounts of its own: {reason}"

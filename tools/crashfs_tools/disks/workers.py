@@ -44,7 +44,8 @@ class DiskWorkers(Generic[Task, Result]):
         return self
 
     def __exit__(self, *_: object) -> None:
-        """Kills the processes, whether or not they have ended, and waits for them."""
+        """Kills the processes, whether or not they have ended, waits for them, and closes their
+        pipes."""
         for process in self.processes.values():
             os.kill(process, signal.SIGKILL)
         for connection, process in self.processes.items():
