@@ -6,7 +6,7 @@ from __future__ import annotations
 import os.path
 import re
 from dataclasses import dataclass
-from typing import Dict, List, NamedTuple, Optional
+from typing import Dict, List, NamedTuple, Optional, Union
 from weakref import WeakSet
 
 from crashfs_tools.common import limits
@@ -296,21 +296,25 @@ class LiveFiles:
                 self.set_length(node, end)
 
     def write_bytes(self, node: Node, offset: int, data: bytes) -> None:
-        """Writes bytes to a file, in the trace too if the file's bytes are followed and the trace
-        has a path of it. If the trace can't have the write, that is reported, and the bytes aren't
-        followed any more."""
+        """Writes bytes to a file; in the trace too, as add_change_of_bytes() does, if the file's
+        bytes are followed and the trace has a path of it."""
         path = node.path_of_traced_bytes
         node.write(offset, data)
-        if path is not None and not self.recording.add_operation(Write(path, offset, bytes(data))):
-            node.drop_bytes()
+        if path is not None:
+            self.add_change_of_bytes(node, Write(path, offset, bytes(data)))
 
     def set_length(self, node: Node, length: int) -> None:
-        """Cuts a file or makes it longer, in the trace too if the file's bytes are followed and the
-        trace has a path of it. If the trace can't have the length, that is reported, and the bytes
-        aren't followed any more."""
+        """Cuts a file or makes it longer; in the trace too, as add_change_of_bytes() does, if the
+        file's bytes are followed and the trace has a path of it."""
         path = node.path_of_traced_bytes
         node.resize(length)
-        if path is not None and not self.recording.add_operation(Truncate(path, length)):
+        if path is not None:
+            self.add_change_of_bytes(node, Truncate(path, length))
+
+    def add_change_of_bytes(self, node: Node, operation: Union[Write, Truncate]) -> None:
+        """Adds an operation to the trace that changes the bytes of a file. If the trace can't have
+        the operation, that is reported, and the file's bytes aren't followed any more."""
+        if not self.recording.add_operation(operation):
             node.drop_bytes()
 
     def drop_bytes(self, node: Node, reason: str) -> None:

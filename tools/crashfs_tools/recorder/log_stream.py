@@ -99,20 +99,11 @@ class LogStream:
                 raise
 
     def read_pipe(self, descriptor: int) -> None:
-        """What the thread runs: reads the pipe from its first writer until no process has it open,
-        and copies mapped files at each stop and at the end. Closes the descriptor, which is the
-        pipe's, and the kept log. Faults of the log, of mapped files and of the kept log aren't
-        raised, but set log_error or keep_fault."""
+        """What the thread runs: reads all lines, and makes the last copy of mapped files. Closes
+        the descriptor, which is the pipe's, and the kept log. Faults of the log, of mapped files
+        and of the kept log aren't raised, but set log_error or keep_fault."""
         try:
-            wait_for_writer(descriptor)
-            # A process whose mapped files are copied is stopped until its line is read.
-            lines = PipeLines(descriptor, may_gather=self.mapped_files is None)
-            line = lines.next_line()
-            while line is not None:
-                stopped_thread = self.add_line(line)
-                if stopped_thread is not None and self.mapped_files is not None:
-                    self.copy_and_continue(self.mapped_files, stopped_thread, lines)
-                line = lines.next_line()
+            self.read_lines(descriptor)
         finally:
             os.close(descriptor)
         try:
@@ -121,6 +112,19 @@ class LogStream:
         except OSError as error:
             self.log_error = self.log_error or error
         self.close_kept_log()
+
+    def read_lines(self, descriptor: int) -> None:
+        """Adds the lines of the pipe from its first writer until no process has it open, and copies
+        mapped files at each stop. Faults set log_error or keep_fault."""
+        wait_for_writer(descriptor)
+        # A process whose mapped files are copied is stopped until its line is read.
+        lines = PipeLines(descriptor, may_gather=self.mapped_files is None)
+        line = lines.next_line()
+        while line is not None:
+            stopped_thread = self.add_line(line)
+            if stopped_thread is not None and self.mapped_files is not None:
+                self.copy_and_continue(self.mapped_files, stopped_thread, lines)
+            line = lines.next_line()
 
     def add_line(self, line: str) -> Optional[int]:
         """Adds a line, with its line feed, to the log and to the kept log, and notes the mapping

@@ -147,10 +147,9 @@ def read_link_target(path: str) -> Optional[str]:
 
 
 def record(options: RecordOptions) -> int:
-    """Records a session, writes the trace, prints the summary, and returns the status. The options
-    are changed as by prepare_options(). Refused, LogError, Stopped or OSError if no trace is
-    written, or if writing it fails. An error or a signal after that is only printed; the status is
-    NOT_WHOLE then, or that of the signal."""
+    """Records a session, writes the trace, and returns the status of report_written_trace(). The
+    options are changed as by prepare_options(). Refused, LogError, Stopped or OSError if no trace
+    is written, or if writing it fails."""
     prepare_options(options)
     # A wrong --crashfs is refused before COMMAND runs.
     Crashfs.find(options.crashfs)
@@ -160,6 +159,14 @@ def record(options: RecordOptions) -> int:
     run = run_or_load_log(options, files)
     translate_run(options, files, run)
     write_trace(options, recording)
+    return report_written_trace(options, recording, start_scan, run)
+
+
+def report_written_trace(
+    options: RecordOptions, recording: Recording, start_scan: Scan, run: RecordedRun
+) -> int:
+    """Does what report_recording() does, and returns its status. An error or a signal is only
+    printed, as the trace is written already: the status is then NOT_WHOLE, or the signal's."""
     try:
         return report_recording(options, recording, start_scan, run)
     except Stopped as stopped:
@@ -241,24 +248,30 @@ def print_text(text: str) -> None:
 
 def translate_run(options: RecordOptions, files: LiveFiles, run: RecordedRun) -> None:
     """Translates the log of a run into the recording's operations, and reports what the trace
-    can't have, and a line of --begin-after that never came. With stacks it prints the programs of
-    which no source line is known. Refused if the log of --from-log changes nothing; LogError if a
-    line isn't as strace writes it; OSError if addr2line can't be started."""
+    can't have, and the faults of the run. With stacks it prints the programs of which no source
+    line is known. Refused if the log of --from-log changes nothing; LogError if a line isn't as
+    strace writes it; OSError if addr2line can't be started."""
     recording = files.recording
     report_run_faults(options, recording, run)
     recording.streams.add_text_of_output(run.output_pipe)
     if options.stacks or any(call.frames for call in run.log.calls):
         note_functions(run.log.calls)
-    begin_after = options.begin_after
-    late_start = None if begin_after is None else LateStart(recording, begin_after)
-    Translator(files, run.log, run.file_copies).translate_log()
-    if late_start is not None and not late_start.has_begun:
-        recording.report(
-            f'no acknowledged line is {begin_after}: the trace begins with COMMAND', '--begin-after'
-        )
+    translate_calls(options, files, run)
     for path in files_with_path(recording.trace, files.conditions.top):
         recording.report_note(OWN_PATH, path)
     refuse_log_without_changes(options, files)
+
+
+def translate_calls(options: RecordOptions, files: LiveFiles, run: RecordedRun) -> None:
+    """Translates the calls of a run. With --begin-after the trace begins again after the line that
+    this option names, or, if that never came, this is reported. LogError as in translate_log()."""
+    begin_after = options.begin_after
+    late_start = None if begin_after is None else LateStart(files.recording, begin_after)
+    Translator(files, run.log, run.file_copies).translate_log()
+    if late_start is not None and not late_start.has_begun:
+        files.recording.report(
+            f'no acknowledged line is {begin_after}: the trace begins with COMMAND', '--begin-after'
+        )
 
 
 def note_functions(calls: List[Call]) -> None:

@@ -4,7 +4,7 @@ were stored."""
 from __future__ import annotations
 
 import bisect
-from typing import Dict, List, Tuple
+from typing import Dict, Iterator, List, Optional, Tuple
 
 from crashfs_tools.common.file_bytes import Bytes
 from crashfs_tools.common.sparse import PAGE_BYTES, SparseBytes
@@ -26,21 +26,31 @@ def copies_by_call(
     """The copies of each call, by its id: what they show was stored before the call. A copy's call
     is that of call_after_stores(). `calls` are in the log's order, ordered_calls in the trace's.
     Copies without files, and the copy at the end, have no call."""
-    ends = [call.end for call in calls]
     indexes = {id(call): index for index, call in enumerate(ordered_calls)}
+    newest_call: Optional[Call] = None
     last_calls: Dict[int, Call] = {}
     call_copies: Dict[int, List[FileCopy]] = {}
-    begin = 0
-    for copy in [copy for copy in file_copies.copies if not copy.is_last]:
-        end = bisect.bisect_right(ends, copy.line)
-        calls_since_copy = calls[begin:end]
-        begin = end
+    for copy, calls_since_copy in copies_with_calls(calls, file_copies):
+        newest_call = calls_since_copy[-1] if calls_since_copy else newest_call
         last_calls.update((call.thread, call) for call in calls_since_copy)
-        if copy.bytes_by_number and end:
-            last_call = last_calls.get(copy.thread, calls[end - 1])
+        if copy.bytes_by_number and newest_call is not None and not copy.is_last:
+            last_call = last_calls.get(copy.thread, newest_call)
             call = call_after_stores(copy, last_call, calls_since_copy, indexes)
             call_copies.setdefault(id(call), []).append(copy)
     return call_copies
+
+
+def copies_with_calls(
+    calls: List[Call], file_copies: FileCopies
+) -> Iterator[Tuple[FileCopy, List[Call]]]:
+    """Yields each copy with the calls that ended in the log before it, but after the earlier copy.
+    The calls are in the log's order."""
+    ends = [call.end for call in calls]
+    begin = 0
+    for copy in file_copies.copies:
+        end = bisect.bisect_right(ends, copy.line)
+        yield copy, calls[begin:end]
+        begin = end
 
 
 def call_after_stores(

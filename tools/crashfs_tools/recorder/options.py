@@ -249,9 +249,14 @@ def prepare_options(options: RecordOptions) -> None:
     options.directory = os.path.realpath(options.directory)
     options.is_ignored = Ignore(options.ignore, options.directory)
     for path in (options.out, options.keep_log):
-        if path is None or path == '-':
-            continue
-        folder = folder_to_write(path)
-        if (folder + '/').startswith(options.directory.rstrip('/') + '/'):
-            raise Refused(f'{path} would be in {options.directory}, which is recorded')
+        if path is not None and path != '-':
+            refuse_output_path(path, options.directory)
     options.command = with_program_path(options.command) if options.command else []
+
+
+def refuse_output_path(path: str, directory: str) -> None:
+    """Refused if a file to write can't be made at a path, or would be in the directory, which is a
+    real path."""
+    folder = folder_to_write(path)
+    if (folder + '/').startswith(directory.rstrip('/') + '/'):
+        raise Refused(f'{path} would be in {directory}, which is recorded')
