@@ -54,7 +54,7 @@ class Sessions:
     is the file of the last recorded session, which the next recording replaces."""
 
     def __init__(self, options: CampaignOptions, folder: Path) -> None:
-        """Makes nothing yet, and the folder needn't exist."""
+        """Nothing is made yet, and the folder needn't exist before a session is recorded."""
         self.options = options
         self.folder = folder
         self.trace = folder / 'session.trace'

@@ -89,7 +89,7 @@ class ForkedReading:
     def wait(self) -> int:
         """Waits for the process to end, sets `returncode`, and returns it: the status, negative for
         a signal; or -SIGKILL if something else in this process has waited for the process. The
-        outputs aren't read: if more is printed than their pipes can have, it waits forever. Later
+        outputs aren't read: if more is printed than their pipes can hold, it waits forever. Later
         calls return the same at once."""
         if self.returncode is None:
             try:

@@ -108,10 +108,10 @@ class Guard:
         return with_token(os.environ, self.token)
 
     def end_processes(self, spared: Iterable[int] = ()) -> Dict[int, str]:
-        """Ends all that was started with `environment`; if this process is a reaper, also its other
-        children and orphans, except the spared ones. The statuses of ended children are lost. A
-        process started with `environment` can't be spared. Waits up to twice ENDING_SECONDS.
-        Returns `still_running`: what no call could end, each with its name; always empty without a
+        """Ends all that was started with `environment`, and, if this process is a reaper, its other
+        children and orphans, except the spared ones. A process started with `environment` can't be
+        spared. Waits up to twice ENDING_SECONDS; the statuses of ended children are lost. Returns
+        `still_running`: what no call could end, each with its name; always empty without a
         reaper."""
         end_processes_with_token(self.token)
         if self.is_reaper:

@@ -10,8 +10,8 @@ from typing import Tuple
 
 def open_pipe(opened: ExitStack) -> Tuple[int, int]:
     """Opens a pipe, and returns its ends for reading and writing. The stack closes both when it
-    unwinds: a caller that keeps them calls its pop_all() before. Neither has the number of a
-    standard stream, even if these are closed. Forks inherit them; programs that are started don't.
+    unwinds: to keep them open, call its pop_all() before. No end has the number of a standard
+    stream, even if these are closed. Forks inherit the ends; programs that are started don't.
     OSError if the system has no more pipes: then no end stays open."""
     low_reader, low_writer = os.pipe()
     with open(low_reader, 'rb', buffering=0), open(low_writer, 'wb', buffering=0):
@@ -22,7 +22,7 @@ def open_pipe(opened: ExitStack) -> Tuple[int, int]:
 
 
 def duplicate_above_standard_streams(descriptor: int, opened: ExitStack) -> int:
-    """A duplicate of a descriptor, whose number is no standard stream's, and which the stack closes
+    """A duplicate of a descriptor, with a number that no standard stream has. The stack closes it
     when it unwinds. Programs that are started don't inherit it. OSError if this process may open no
     more files."""
     duplicate = fcntl.fcntl(descriptor, fcntl.F_DUPFD_CLOEXEC, 3)

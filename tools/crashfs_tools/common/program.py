@@ -300,8 +300,8 @@ class ProgramOutput(io.RawIOBase):
 
     def read_errors(self) -> bool:
         """Waits without limit for a piece of what the program prints as an error, and adds it to
-        error_text, which keeps only the last PIECE_BYTES. Returns False if the pipe is at its end,
-        at each further call too."""
+        error_text, which keeps only the last PIECE_BYTES. Returns False at the end of the pipe,
+        also if it is called again then."""
         piece = os.read(self.error_pipe, PIECE_BYTES)
         self.error_text = (self.error_text + piece)[-PIECE_BYTES:]
         if not piece and not self.has_error_end:
@@ -315,8 +315,8 @@ class ProgramOutput(io.RawIOBase):
             pass
 
     def all_error_text(self) -> bytes:
-        """Reads what the program prints as an error to the end of that pipe, without limit. Returns
-        error_text, which has only the last PIECE_BYTES."""
+        """Reads the rest of what the program prints as an error, and waits for its end without
+        limit. Returns error_text, which has only the last PIECE_BYTES."""
         while self.read_errors():
             pass
         return self.error_text

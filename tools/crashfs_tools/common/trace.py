@@ -241,6 +241,8 @@ SINCE: Dict[Type[Any], int] = {
 # Smaller files of the start tree are written whole; a part takes room for so many bytes more.
 LEAST_BYTES_IN_PARTS, PART_OVERHEAD = 1_024, 16
 KIND_OF = {made: kind for kind, made in KINDS.items()}
+# The keys of a directory in the start tree, which has no bytes.
+DIRECTORY_KEYS = ('path', 'owner', 'group', 'mode')
 # The keys of a line that have another name in Python.
 KEYS = {'source': 'from', 'target': 'to', 'link': 'target'}
 
@@ -322,9 +324,6 @@ def with_parts_if_shorter(entry: StartLine) -> StartLine:
     sparse = SparseBytes.copy_of(entry.data)
     size = sum(len(part) + PART_OVERHEAD for _, part in sparse.parts())
     return dataclasses.replace(entry, data=sparse) if size < len(entry.data) else entry
-
-
-DIRECTORY_KEYS = ('path', 'owner', 'group', 'mode')
 
 
 def line_values(item: Any, version: int = 1) -> Dict[str, Any]:

@@ -33,7 +33,7 @@ class Numbers:
 
     def number(self, name: str) -> int:
         """The number of a name. The first call for a name gives it one: the number that this
-        machine's accounts have for it, or else the next one from FIRST_UNKNOWN on."""
+        machine's accounts have for it, or else one from FIRST_UNKNOWN on."""
         if name not in self.numbers:
             self.numbers[name] = self.new_number(name)
             self.names.setdefault(self.numbers[name], name)
