@@ -7,11 +7,13 @@ import unittest
 import warnings
 from typing import List, Set, Tuple
 
-from crashfs_tools.recorder.ignore import Ignore
+from crashfs_tools.recorder.ignore import IgnoreRules
 
 from .support import InFolder, needed
 
 Case = Tuple[List[str], str, bool]
+# Nothing is there, so each path may be that of a directory.
+NOWHERE = '/nowhere'
 
 # (the patterns, a path, whether it is left out)
 CASES: List[Case] = [
@@ -115,12 +117,12 @@ class Patterns(unittest.TestCase):
         for globs, path, wanted in [*CASES, *OWN_CASES]:
             with self.subTest(f'{globs} {path}'), warnings.catch_warnings():
                 warnings.simplefilter('error')
-                self.assertEqual(Ignore(globs)(path), wanted)
+                self.assertEqual(IgnoreRules(globs, NOWHERE)(path), wanted)
 
     def test_a_pattern_that_never_matches_is_refused(self):
         for glob, why in NEVER_MATCH.items():
             with self.subTest(glob), self.assertRaisesRegex(ValueError, why):
-                Ignore([glob])
+                IgnoreRules([glob], NOWHERE)
 
 
 @needed(shutil.which('git') is not None, 'git is not there')
@@ -161,7 +163,10 @@ class AsGit(InFolder):
         letters = [chr(code) for code in range(1, 128) if chr(code) != '/']
         patterns = [(f'[[:{name}:]]x', letter) for name in CLASSES for letter in letters]
         self.assert_as_git(
-            [([glob], f'/{letter}x', Ignore([glob])(f'/{letter}x')) for glob, letter in patterns]
+            [
+                ([glob], f'/{letter}x', IgnoreRules([glob], NOWHERE)(f'/{letter}x'))
+                for glob, letter in patterns
+            ]
         )
 
     def test_git_leaves_nothing_out_by_what_is_refused(self) -> None:

@@ -6,7 +6,7 @@ from __future__ import annotations
 import os
 import re
 from dataclasses import dataclass
-from typing import Dict, List, Optional, Tuple
+from typing import Dict, List, Tuple
 
 
 @dataclass(frozen=True)
@@ -131,15 +131,14 @@ def translate_item(pattern: str, item: re.Match[str]) -> str:
     return re.escape(first) + (f'-{re.escape(last)}' if first < last else '')
 
 
-class Ignore:
+class IgnoreRules:
     """All patterns of --ignore. The last one that matches a path decides, and what is below an
     ignored directory is ignored, too. `answers` has what was returned for each path. The root is
     never ignored, as its syncs are needed."""
 
-    def __init__(self, patterns: List[str], top: Optional[str] = None) -> None:
+    def __init__(self, patterns: List[str], top: str) -> None:
         """Parses the patterns; ValueError for one that never matches in git. `top` is the directory
-        on the disk, to see which paths are files; without it (None) patterns of directories also
-        match files."""
+        on the disk, to see which paths are files; it need not be there."""
         self.rules = [Rule.parse(pattern) for pattern in patterns]
         self.top = top
         self.answers: Dict[str, bool] = {}
@@ -169,5 +168,5 @@ class Ignore:
 
     def is_file(self, path: str) -> bool:
         """Whether a path is a plain file on the disk now, or a link to one. False if nothing is
-        there, and without `top`."""
-        return self.top is not None and os.path.isfile(self.top + path)
+        there: patterns of directories match such a path too."""
+        return os.path.isfile(self.top + path)

@@ -16,7 +16,7 @@ from crashfs_tools.common.command import (
 from crashfs_tools.common.trace import BLOCK_SIZES, BLOCKS, JOURNAL, PROFILES
 from crashfs_tools.common.whole_files import folder_to_write
 
-from .ignore import Ignore, Rule
+from .ignore import IgnoreRules, Rule
 from .output_streams import DEFAULT_DESCRIPTORS, SOCKETS, SayEach
 
 NAME = 'crashfs-record'
@@ -63,13 +63,13 @@ class RecordOptions:
     profile: str
     block: int
     trace_version: str
-    is_ignored: Ignore = field(init=False)
+    is_ignored: IgnoreRules = field(init=False)
 
     def __post_init__(self) -> None:
         """Sets what the parser can't: that standard output acknowledges something without --say-fd,
         and is_ignored. ValueError if a pattern of --ignore never matches in git."""
         self.acknowledging_descriptors = self.acknowledging_descriptors or [*DEFAULT_DESCRIPTORS]
-        self.is_ignored = Ignore(self.ignore, self.directory)
+        self.is_ignored = IgnoreRules(self.ignore, self.directory)
 
     @property
     def version(self) -> Optional[int]:
@@ -247,7 +247,7 @@ def prepare_options(options: RecordOptions) -> None:
     if not os.path.isdir(options.directory):
         raise Refused(f'{options.directory} is no directory')
     options.directory = os.path.realpath(options.directory)
-    options.is_ignored = Ignore(options.ignore, options.directory)
+    options.is_ignored = IgnoreRules(options.ignore, options.directory)
     for path in (options.out, options.keep_log):
         if path is not None and path != '-':
             refuse_output_path(path, options.directory)
