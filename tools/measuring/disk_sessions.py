@@ -68,7 +68,7 @@ def allowed_trees(reading: Reading, profile: str) -> Set[TreeAndCount]:
 
 def session_result(filesystem: str, seed: int, trace: Trace, disks: List[Disk]) -> SessionResult:
     """The result of a session on the file system of this name, from the different disks that its
-    crashes left there. `operations` isn't set here. A profile allows a disk as is_allowed_disk()
+    crashes left there; its `operations` is OPERATIONS. A profile allows a disk as is_allowed_disk()
     says. KeyError if PROFILE_OF has no such name."""
     reading = parse_trace(trace_text(trace).encode())
     allowed = {profile: allowed_trees(reading, profile) for profile in profile_names(reading)}
@@ -84,7 +84,7 @@ def session_result(filesystem: str, seed: int, trace: Trace, disks: List[Disk]) 
 
 
 def is_allowed_disk(disk: Disk, trees: Set[TreeAndCount]) -> bool:
-    """Whether allowed_trees(), here `trees`, have a disk's tree with one of the numbers of
+    """Whether `trees`, those of allowed_trees(), have a disk's tree with one of the numbers of
     acknowledged lines that the disk may have."""
     return any((disk.digest, count) in trees for count in disk.line_counts)
 

@@ -61,8 +61,8 @@ class Tally:
         print(f'== {name}: not built: {", ".join(programs)}', flush=True)
 
     def add_failure(self, why: str) -> None:
-        """Prints that the present benchmark has failed, and why. print_summary() then returns 1,
-        and names a benchmark once for each of its failures."""
+        """Prints that the benchmark of the last begin_benchmark() has failed, and why.
+        print_summary() then returns 1, and names a benchmark once for each of its failures."""
         self.failed.append(self.benchmark)
         print(f'{self.benchmark} failed: {why}', flush=True)
 

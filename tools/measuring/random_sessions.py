@@ -106,8 +106,8 @@ class DrawnSession:
         self.trace.operations.append(Say('end'))
 
     def draw_useful_operation(self) -> Operation:
-        """Draws operations of all kinds, as often as KINDS says, until one is useful. The tree
-        stays as it is."""
+        """Draws operations, each kind as often as KINDS says, until one is useful, and returns this
+        one. Nothing is added to the trace or the tree."""
         operation: Optional[Operation] = None
         while operation is None or not self.is_useful(operation):
             kind = self.random.choices(list(KINDS), list(KINDS.values()))[0]

@@ -58,7 +58,8 @@ def running_server(words: List[str]) -> Iterator[subprocess.Popen[str]]:
 
 def serve_words(programs: Programs, address: str, connections: int) -> List[str]:
     """The command line of `crashfs serve` for the only state of a small trace, with one worker, for
-    so many connections at once. The program must be built: if not, the first word is `None`."""
+    so many connections at once. The program must be built: if not, the first word is the text
+    `None`."""
     examples: Path = programs.top / 'examples'
     return [
         str(programs.path_if_built('crashfs')),

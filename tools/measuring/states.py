@@ -121,8 +121,8 @@ class AllTimes(NamedTuple):
 
 
 def measure_all_times(programs: Programs) -> AllTimes:
-    """Measures everything that the rows of states need, in a folder that is removed at the end.
-    OSError or CalledProcessError if a program is missing or fails."""
+    """The times that the rows of states need. They are measured one after the other, in a folder
+    that is removed at the end. OSError or CalledProcessError if a program is missing or fails."""
     with tempfile.TemporaryDirectory() as folder:
         checks = Checks(programs, folder)
         check, short_check = checks.least_times(), checks.least_times('--prefixes')

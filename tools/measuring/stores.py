@@ -193,8 +193,8 @@ def run_command(words: List[str]) -> str:
 
 def save_row(session: Session, options: argparse.Namespace) -> bool:
     """Makes the row of a session, puts it into docs/results.json, prints the first line of its
-    report, and returns true; or, if there is no row (NoResult), prints why and returns false. Then,
-    and after any other error, which is raised, the file keeps the session's earlier row."""
+    report, and returns true. If there is no row (NoResult), it prints why and returns false, and
+    the file keeps the session's earlier row. Other errors are raised, those of put_row() too."""
     try:
         with tempfile.TemporaryDirectory(prefix='measure-stores-') as folder:
             row = SessionCheck(session, options, Path(folder)).make_row()

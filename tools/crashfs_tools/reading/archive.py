@@ -66,8 +66,8 @@ class ArchiveWriter:
     def write_missing(
         self, number: int, first_tree: Dict[str, Item], tree: Dict[str, Item]
     ) -> None:
-        """Writes the file `N.missing` of write_changes() for the state of this number, whose tree
-        is `tree`; first_tree is that of state 0."""
+        """Writes the file `N.missing` of write_changes() for state N, whose tree is `tree`;
+        first_tree is that of state 0."""
         paths = [path for path in paths_in_order(first_tree) if path not in tree]
         names = ''.join(missing_name(path, first_tree[path]) + '\0' for path in paths).encode()
         info = tarfile.TarInfo(f'{number}.missing')
@@ -77,15 +77,15 @@ class ArchiveWriter:
     def write_differing(
         self, number: int, first_tree: Dict[str, Item], tree: Dict[str, Item]
     ) -> None:
-        """Writes, below `N/`, what is at each path of `tree`, that of the state of this number, if
-        first_tree has nothing or something else there. Bytes and rights are compared."""
+        """Writes, below `N/`, what is at each path of state N's tree at which first_tree, that of
+        state 0, has nothing or something else. Kinds, rights and bytes are compared."""
         for path in paths_in_order(tree):
             if first_tree.get(path) != tree[path]:
                 self.write_item(f'{number}{path}', tree[path])
 
     def write_tree(self, number: int, prefix: str) -> None:
-        """Writes the tree of a state. Each name is the prefix and a path without its first slash;
-        if that is empty, as for the root without a prefix, it is `./`."""
+        """Writes the tree of a state. A name is the prefix and the path without its first slash, or
+        `./` if both are empty."""
         tree = self.tree_of_state(number)
         for path in paths_in_order(tree):
             self.write_item(prefix + path[1:] or './', tree[path])

@@ -41,10 +41,10 @@ class SetClasses:
     """A walk through the sets of micro-operations that an order of a trace allows. Later walks use
     what earlier ones have computed.
 
-    `changes` has an id for each NameChanges that some set leaves. start_ids has the id of each
-    file's first content, and start_entries the entries that hold a file in the start tree. resizes
-    has the sets of the places that change a file's size, and links those that give a file one more
-    entry. All but `changes` are by the file's number, and lack files that have no such thing.
+    `changes` has an id for each NameChanges that some set leaves. By a file's number, start_ids has
+    the id of the file's first content, start_entries the entries that hold it in the start tree,
+    resizes the set of the places that change its size, and links that of the places that give it
+    one more entry. Without such entries or places, a file isn't in these maps.
     """
 
     def __init__(self, reading: Reading, order: Order) -> None:
@@ -88,8 +88,8 @@ class SetClasses:
                 yield place_set
 
     def first_sets(self) -> Iterator[Tuple[int, SetResult]]:
-        """The first allowed set of each class of whole sets, in the order of every_set(), with what
-        it leaves. Different classes may still leave equal trees."""
+        """The first allowed set of each class, in the order of every_set(), with what the set
+        leaves. Sets of different classes may still leave equal trees."""
         followed: Set[Tuple[int, SetResult]] = set()
         waiting = [(0, self.order.all_places, SetResult(self.changes.id_of({}), (), 0))]
         while waiting:
@@ -171,8 +171,8 @@ class SetClasses:
                 del changes[entry]
 
     def change_directory_rights(self, changes: NameChanges, operation: MicroOperation) -> None:
-        """Updates `changes` by what a micro-operation does to the rights of directories. A
-        directory that it removes, or whose rights are as at the start again, is dropped."""
+        """Updates `changes` by what a micro-operation does to the rights of directories. A removed
+        directory, and one whose rights are as at the start again, are dropped."""
         changed_rights: Dict[int, Rights] = {}
         change_rights(changed_rights, operation)
         for directory, rights in changed_rights.items():
@@ -183,8 +183,8 @@ class SetClasses:
             changes.pop(operation.removed_directory, None)
 
     def node_at_entry(self, changes: NameChanges, entry: Entry) -> Optional[Inode]:
-        """What an entry holds after name changes; None if it holds nothing. An entry that they lack
-        is as at the start."""
+        """What an entry holds after name changes; None if it holds nothing. An entry that `changes`
+        lacks is as at the start."""
         node = changes[entry] if entry in changes else self.reading.start.get(entry)
         assert node is None or isinstance(node, Inode)
         return node
@@ -209,8 +209,8 @@ class SetClasses:
     # The trees
 
     def changed_tree(self, result: SetResult) -> Tree:
-        """What the state of a result changes of the start tree. It is equal for two results exactly
-        if their states have equal trees."""
+        """What is at each path at which the tree of a result's state differs from the start tree.
+        It is equal for two results exactly if their trees are equal."""
         changes, contents = self.changes.values[result.changes_id], dict(result.file_contents)
         is_moved = self.has_moved_directory(changes)
         nodes = self.all_nodes(changes) if is_moved else self.changed_nodes(result)
@@ -223,7 +223,7 @@ class SetClasses:
 
     @property
     def start_paths(self) -> Dict[str, Inode]:
-        """What is at each path of the start tree, the root among them. It is made only once."""
+        """What is at each path of the start tree, the root among them. It is computed only once."""
         if not self._start_paths:
             self._start_paths = dict(reachable_paths(self.reading.start.items()))
         return self._start_paths
@@ -272,8 +272,8 @@ class SetClasses:
         self, node: Optional[Inode], changes: NameChanges, contents: Dict[int, int]
     ) -> Optional[Shown]:
         """What a reader sees of `node`: its kind, and the id of a file's content or a directory's
-        rights; None if `node` is None. `contents` has the ids of changed files, by their numbers.
-        A file or directory that it and `changes` lack is as at the start."""
+        rights; None if `node` is None. `contents` has the ids of changed files, by their numbers. A
+        file or directory that neither map has is as at the start."""
         if node is None:
             return None
         if node.kind == DIRECTORY:

@@ -59,7 +59,7 @@ class Contents:
         self._shown_ids: Dict[int, int] = {}
 
     def initial_content_id(self, file_number: int) -> int:
-        """The id of the content with which a file is made. One that an operation makes is empty,
+        """The id of the content with which a file is made. A file that an operation makes is empty,
         unless it is a symbolic link."""
         data = self.reading.initial_data_of(file_number)
         blocks = sorted(data.blocks.items())

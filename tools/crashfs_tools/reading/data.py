@@ -51,8 +51,8 @@ class Data:
             self.blocks.pop(block, None)
 
     def resize(self, length: int) -> None:
-        """Sets the length. A smaller one drops every byte past it, also hidden ones, so that a
-        larger one later shows zeros there."""
+        """Sets the length. If it gets smaller, every byte past it is dropped, also hidden ones: a
+        larger length shows zeros there later."""
         if length < self.length:
             self.clear_from(length)
         self.length = length
@@ -81,7 +81,7 @@ class Data:
     __hash__ = None  # type: ignore[assignment]  # it changes
 
     def shown_blocks(self) -> Iterator[bytes]:
-        """The bytes up to the length, block by block, with all zeros; the last block may be
+        """The bytes up to the length, block by block, zeros included; the last block may be
         shorter. Nothing if the length is 0."""
         for block in range(-(-self.length // self.block_size)):
             size = min(self.block_size, self.length - block * self.block_size)

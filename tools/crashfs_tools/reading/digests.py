@@ -54,7 +54,7 @@ class Digests:
 
     def rights_and_digest(self, file_number: int, place_set: int) -> Tuple[Rights, bytes]:
         """The rights and the digest of a file after the changes of a set, all of this file. Bytes
-        past its size don't count."""
+        past the file's size don't count."""
         if file_number not in self.block_writes:
             rights, data = self.compute_file(file_number, place_set)
             digests = {block: hash_block(data.blocks[block]) for block in data.blocks}
@@ -116,8 +116,8 @@ class Digests:
         return rights, size
 
     def may_shrink(self, file_number: int, place_set: int) -> bool:
-        """Whether one of a set of changes, all of this file, makes the file shorter if all of them
-        are made. If none does, none does in a subset either."""
+        """Whether a file gets shorter at any time if all changes of a set, all of this file, are
+        made in their order. If not, it doesn't with any subset of them either."""
         size = self.reading.initial_data_of(file_number).length
         for place in places_of(place_set):
             operation = self.reading.operations[place]
@@ -129,7 +129,7 @@ class Digests:
 
     def writes_by_block(self, place_set: int) -> Dict[int, int]:
         """For each block of a file, by its number, the set of the writes to the block that a set of
-        the file's changes has. A block that none writes is left out."""
+        the file's changes has. A block without writes is left out."""
         operations = ((self.reading.operations[place], place) for place in places_of(place_set))
         return sets_by_key(
             (operation.block, place)
@@ -146,7 +146,7 @@ def hash_block(block_bytes: bytes) -> bytes:
 
 def hash_file(length: int, block_digests: BlockDigests) -> bytes:
     """The digest of a file, from its length and the digests of its blocks, by their numbers. A
-    block without a digest counts as zeros, as one with the digest ZEROS."""
+    block counts as zeros if it has no digest, or ZEROS."""
     digest = hashlib.sha256(length.to_bytes(8, 'little'))
     for block in sorted(block_digests):
         if block_digests[block]:

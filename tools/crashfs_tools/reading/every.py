@@ -44,8 +44,8 @@ def count_futures(order: Order) -> List[Dict[int, int]]:
 
 
 def count_next_futures(order: Order, set_counts: Dict[int, int], bit: int) -> Dict[int, int]:
-    """The futures of the allowed sets of places below k + 1, each with how many sets have it, from
-    those of the sets of places below k, and the bit of place k."""
+    """The futures of the allowed sets of places below k + 1, each with how many sets have it.
+    set_counts must be the same for k, and `bit` that of place k."""
     pairs = (
         (next_future, set_count)
         for future, set_count in set_counts.items()
@@ -92,9 +92,9 @@ def count_extensions(order: Order) -> List[Dict[int, int]]:
     futures = count_futures(order)
     levels: List[Dict[int, int]] = [{0: 1}]
     for place in reversed(range(order.count)):
-        next_level, bit = levels[-1], 1 << place
+        next_level = levels[-1]
         level = {
-            future: sum(next_level[it] for it in next_futures(order, future, bit))
+            future: sum(next_level[after] for after in next_futures(order, future, 1 << place))
             for future in futures[place]
         }
         levels.append(level)

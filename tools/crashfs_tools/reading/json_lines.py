@@ -40,8 +40,8 @@ def load_json(text: str) -> Any:
 
 
 def parse_integer(text: str) -> float:
-    """The number that an integer's text means. If it has a minus sign, or more digits than any
-    number of a trace, a float, which no key accepts. ValueError if the float is infinite."""
+    """The number that an integer's text means. With a minus sign, or with more digits than any
+    number of a trace has, it is a float, which no key accepts. ValueError if that is infinite."""
     return int(text) if text[0] != '-' and len(text) <= DIGITS else parse_float(text)
 
 

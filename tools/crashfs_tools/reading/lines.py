@@ -173,7 +173,7 @@ class LineReader:
 
     def expected_keys(self, line: Line, keys: Tuple[str, ...]) -> Set[str]:
         """The keys that a line must have: the one that says what it is, `keys`, and since version 3
-        its `note`, if it has one. If it lacks `bytes`, keys_of_bytes() instead of this key."""
+        its `note`, if it has one. If it lacks `bytes`, this key is replaced by keys_of_bytes()."""
         expected_keys = {line.key, *keys}
         if self.version >= 3:
             expected_keys |= line.fields.keys() & {'note'}
@@ -211,8 +211,8 @@ def check_value(key: str, value: Any) -> None:
 
 
 def check_parts(line: Line) -> None:
-    """LineFault unless each part of a start file is as check_part() wants it, and all parts are as
-    check_part_order() wants them."""
+    """LineFault for the parts of a start file, first as check_part() for each part, then as
+    check_part_order() for all."""
     for part in line.fields['parts']:
         check_part(part)
     check_part_order(line.parts, line.length)

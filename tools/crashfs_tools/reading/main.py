@@ -82,8 +82,8 @@ def read_options(words: List[str]) -> Options:
 
 
 def print_output(command: str, options: Options) -> None:
-    """Prints what a command prints for these options. ReadingFault if an input file has a fault, if
-    there are too many states or sets, or if there is no such state or profile. UsageFault as
+    """Prints the output of a command with these options. ReadingFault if an input file has a fault,
+    if there are too many states or sets, or if there is no such state or profile. UsageFault as
     state_numbers(). An OSError of standard output is raised."""
     if '--help' in options:
         print(HELP)

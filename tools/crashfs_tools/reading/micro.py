@@ -88,7 +88,7 @@ class DeleteEntry(MicroOperation):
 
     kind = 'delete_dir_entry'
 
-    def __init__(self, path: str, entry: Entry, node: Inode, rename_half: int = 0) -> None:
+    def __init__(self, path: str, entry: Entry, node: Inode, *, rename_half: int = 0) -> None:
         self.paths, self.entries, self.handled_inodes = (path,), (entry,), (node,)
         self.node = node
         self.rename_half = rename_half
@@ -147,6 +147,7 @@ class LinkEntry(MicroOperation):
         path: str,
         entry: Entry,
         node: Inode,
+        *,
         rename_half: int = 0,
         replaced: Optional[Inode] = None,
     ) -> None:

@@ -134,9 +134,9 @@ class NameTree:
 
     def move(self, old_path: str, new_path: str) -> None:
         """Moves what is at a path to another path, which must not be one of the same file. What is
-        there is replaced; a directory there must be empty. In the order of a file's paths by age
-        the new path follows as the old one did. In version 4 a move into another directory counts
-        as a record."""
+        there is replaced; a directory there must be empty. In the order of a file's paths by age,
+        the new path takes the old one's place. In version 4 a move into another directory counts as
+        a record."""
         source, target = self.entry_at(old_path), self.entry_at(new_path)
         if self.inode_at(new_path) is not None:
             self.remove_path(new_path)

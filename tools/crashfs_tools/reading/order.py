@@ -81,8 +81,9 @@ def required_marks(operation: MicroOperation, reading: Reading, profile: str) ->
 
 
 class Order:
-    """Which sets of places a profile allows; if none is given, the trace's own. Whether the trace's
-    version has the profile isn't checked: see order_under(). Sets are numbers, as in place_sets."""
+    """Which sets of places a profile allows, by default the trace's own profile. Whether the
+    trace's version has the profile isn't checked: see order_under(). Sets are numbers, as in
+    place_sets."""
 
     def __init__(self, reading: Reading, profile: Optional[str] = None) -> None:
         """Computes what each place needs."""
@@ -110,7 +111,9 @@ class Order:
             direct_needs |= self.synced_sets[place] | self.logged_sets[place]  # P5, P11
             if operation.rename_half == 2:
                 direct_needs |= 1 << (place - 1)  # P13
-            needs.append(direct_needs | union_of(needs[it] for it in places_of(direct_needs)))
+            needs.append(
+                direct_needs | union_of(needs[needed] for needed in places_of(direct_needs))
+            )
             provided = provided_marks(operation)
             providers.update({mark: providers.get(mark, 0) | 1 << place for mark in provided})
         return needs
@@ -148,7 +151,7 @@ class Order:
         for place, needs in enumerate(map(or_, self.needs, other.needs)):
             if place in both.units:
                 needs |= (self.needs[place + 1] | other.needs[place + 1]) & ~(1 << place)
-            both.needs.append(needs | union_of(both.needs[it] for it in places_of(needs)))
+            both.needs.append(needs | union_of(both.needs[needed] for needed in places_of(needs)))
         both.needed_by = inverse_sets(both.needs)
         return both
 
@@ -232,8 +235,8 @@ def profile_names(reading: Reading) -> List[str]:
 
 
 def order_under(reading: Reading, profile: str) -> Order:
-    """The order that allows a set if the trace's own order does, and a file system of the profile
-    may leave it. ReadingFault if traces of this version can't have the profile."""
+    """The order that allows a set if the trace's own order does and a file system of the profile
+    may leave the set. ReadingFault if traces of this version can't have the profile."""
     if profile not in profile_names(reading):
         raise ReadingFault('no such profile')
     order = Order(reading)
@@ -247,9 +250,9 @@ def orders_by_profile(reading: Reading) -> Dict[str, Order]:
 
 
 class Profiles:
-    """Under which profiles a set of a trace is allowed, each by its own rules: unlike
-    order_under(), those of the trace's own profile aren't added. The micro-operations are those of
-    the trace's own profile, which divides renames in halves or doesn't."""
+    """Which profiles allow a set of a trace, each only by its own rules: unlike in order_under(),
+    the rules of the trace's own profile aren't added. But the trace's own profile decides whether a
+    rename is two micro-operations."""
 
     def __init__(self, reading: Reading) -> None:
         self.orders: Dict[str, Order] = {

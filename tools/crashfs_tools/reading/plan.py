@@ -45,7 +45,7 @@ class StateList:
 
     def add_state(self, fields: Dict[str, Any], place_set: int) -> None:
         """Adds a state by its fields, see PlannedState, and its set, even if the plan has this set
-        already. ReadingFault if the plan is full; then it stays as it was."""
+        already. ReadingFault if the plan is full; the plan stays as it was."""
         if len(self.states) >= STATES:
             raise ReadingFault('plan too large')
         self.states.append(PlannedState(fields, place_set))
@@ -56,8 +56,9 @@ class StateList:
             self.add_state({'kind': 'prefix', 'end': end}, (1 << end) - 1)
 
     def add_holes(self) -> None:
-        """Adds each prefix without one micro-operation and all that need it, unless the prefix's
-        last one is lost with it. ReadingFault if the plan is full; the states added before stay."""
+        """Adds each prefix without one of its micro-operations and all that need this one, unless
+        the prefix's last one is lost, too: then it is a hole of a shorter prefix. ReadingFault if
+        the plan is full; the states added before stay."""
         ends = range(self.order.count + 1)
         for lost, end in ((lost, end) for end in ends for lost in range(end - 1)):
             place_set = self.order.set_without((1 << end) - 1, 1 << lost)
@@ -149,8 +150,7 @@ def file_sets(plan: StateList) -> Iterator[int]:
 
 
 def different_places(sets: Iterator[int]) -> Iterator[List[int]]:
-    """The places of each set, ascending; a set that came before is left out. Each set is taken only
-    when the next one is asked for."""
+    """The places of each set, ascending, as a stream. A set that came before is left out."""
     seen_sets = set()
     for place_set in sets:
         if place_set not in seen_sets:

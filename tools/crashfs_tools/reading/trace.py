@@ -94,8 +94,8 @@ class Reading:
     # Files, symbolic links and directories
 
     def make_file(self, line: Line, length: int) -> Inode:
-        """Makes the file of a line, with this length, and returns its inode. Its bytes are all zero
-        so far."""
+        """Makes the file of a line, with this length, and returns its inode. The file's bytes
+        aren't set here."""
         node = self.names.add_file(line.fields['path'], length)
         self.initial_rights[node.number] = self.rights[node] = line.rights
         return node
@@ -159,8 +159,8 @@ class Reading:
         self.add_creation(line, self.make_link(line))
 
     def add_creation(self, line: Line, node: Inode) -> None:
-        """Adds the micro-operation by which a line makes `node`. It must have been made by
-        make_file(), make_link() or make_directory() for this line."""
+        """Adds the micro-operation by which a line makes `node`, which make_file(), make_link() or
+        make_directory() must have returned for this line."""
         path, target = line.fields['path'], line.fields.get('target', '')
         entry = self.names.entry_at(path)
         self.operations.append(CreateEntry(path, entry, node, self.rights[node], target))
@@ -175,7 +175,7 @@ class Reading:
     op_rmdir = op_unlink
 
     def op_rename(self, line: Line) -> None:
-        """Adds a rename. One between two paths of the same file, or onto the same path, does
+        """Adds a rename. A rename between two paths of the same file, or onto the same path, does
         nothing, as in rename(2). In version 4 with the profile `blocks`, a file or symbolic link
         goes into another directory in two halves: LinkEntry, then DeleteEntry."""
         old_path, new_path = line.fields['from'], line.fields['to']
@@ -251,8 +251,8 @@ class Reading:
         self.set_rights(line, (line.fields['owner'], line.fields['group'], mode))
 
     def set_rights(self, line: Line, rights: Rights) -> None:
-        """Adds the micro-operation that sets the rights of what is at a line's path, unless it has
-        these rights already. For a directory it has the line's path, for a file the oldest one."""
+        """Adds the micro-operation that sets the rights of what is at a line's path, unless they
+        are these already. Its path is the line's for a directory, the oldest for a file."""
         node = self.names.require_inode(line.fields['path'])
         if self.rights[node] == rights:
             return
