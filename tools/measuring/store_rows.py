@@ -73,16 +73,21 @@ def row_of_check(store: Dict[str, Any], key: str, json_path: str, report: str) -
     windows = read_json(json_path).windows
     outcomes = [outcome for window in windows for outcome in window.outcomes.values()]
     failing = [outcome for outcome in outcomes if outcome.result == BAD]
-    row: Row = {'key': key, 'store': store['store'], 'version': ''}
-    row['session'] = store['sessions'][key.partition('/')[2]]
-    row['micro_operations'] = sum(len(window.plan.operations) for window in windows)
-    row['sets'], row['is_whole'] = set_count(windows), ALL_STATES.search(first_line) is not None
-    row['tried'], row['failing'] = len(outcomes), len(failing)
-    row['causes'] = Counter(outcome.cause_kind for outcome in failing)
-    row['profiles'] = failing_by_profile(windows)
-    row['disks'] = disk_counts(json.loads(Path(json_path).read_text('utf-8')))
-    row['report'] = [first_line, *(first_entry_lines(lines) if failing else [])][:REPORT_LINES]
-    return row
+    return {
+        'key': key,
+        'store': store['store'],
+        'version': '',
+        'session': store['sessions'][key.partition('/')[2]],
+        'micro_operations': sum(len(window.plan.operations) for window in windows),
+        'sets': set_count(windows),
+        'is_whole': ALL_STATES.search(first_line) is not None,
+        'tried': len(outcomes),
+        'failing': len(failing),
+        'causes': Counter(outcome.cause_kind for outcome in failing),
+        'profiles': failing_by_profile(windows),
+        'disks': disk_counts(json.loads(Path(json_path).read_text('utf-8'))),
+        'report': [first_line, *(first_entry_lines(lines) if failing else [])][:REPORT_LINES],
+    }
 
 
 def set_count(windows: List[Results]) -> Optional[int]:

@@ -3,6 +3,7 @@
 from __future__ import annotations
 
 import tarfile
+from copy import copy
 from io import BytesIO
 from typing import BinaryIO, Dict, List, Optional
 
@@ -30,9 +31,9 @@ class ArchiveWriter:
         return self
 
     def __exit__(self, *_: object) -> None:
-        """Ends the archive by two blocks of zeros, and writes what tarfile has buffered, also after
-        an error in the `with`, which is raised: an archive that lacks states may then look whole.
-        The padding that tarfile itself would add, up to a tape's record, is left out."""
+        """Ends the archive by two blocks of zeros, and writes what tarfile has buffered. This is
+        also done after an error in the `with`: the archive may then look whole, though it lacks
+        states. The padding that tarfile itself would add, up to a tape's record, is left out."""
         stream = self.archive.fileobj
         assert stream is not None
         stream.write(bytes(2 * tarfile.BLOCKSIZE))
@@ -110,23 +111,22 @@ class ArchiveWriter:
 
     def write_sparse(self, info: tarfile.TarInfo, data: Data) -> None:
         """Writes a file as extents, in GNU tar's format 1.0 for sparse files: a map of the extents,
-        then their bytes. `info` is changed: its name, its size and its PAX fields are then those of
-        this format."""
+        then their bytes. `info` has the file's own name; its size isn't used."""
         extents = data_extents(data)
         map_bytes = extent_map(extents, data.length)
         directory, slash, name = info.name.rpartition('/')
-        sparse_name = f'{directory}{slash}GNUSparseFile.0/{name}'
-        info.pax_headers = {
+        sparse_info = copy(info)
+        sparse_info.name = f'{directory}{slash}GNUSparseFile.0/{name}'
+        sparse_info.size = len(map_bytes) + sum(end - begin for begin, end in extents)
+        sparse_info.pax_headers = {
             # It comes first: to Python's tarfile the last of two names counts.
-            'path': sparse_name,
+            'path': sparse_info.name,
             'GNU.sparse.major': '1',
             'GNU.sparse.minor': '0',
             'GNU.sparse.name': info.name,
             'GNU.sparse.realsize': str(data.length),
         }
-        info.name = sparse_name
-        info.size = len(map_bytes) + sum(end - begin for begin, end in extents)
-        self.archive.addfile(info, ExtentReader(data, extents, map_bytes))
+        self.archive.addfile(sparse_info, ExtentReader(data, extents, map_bytes))
 
 
 class ExtentReader(BytesIO):

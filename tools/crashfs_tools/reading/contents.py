@@ -29,6 +29,7 @@ class IdTable(Generic[Value]):
     equal exactly for equal values, and can be hashed. No value is dropped."""
 
     def __init__(self, key: Callable[[Value], Hashable]) -> None:
+        """No value has an id yet."""
         self.key = key
         self.values: List[Value] = []
         self._ids: Dict[Hashable, int] = {}

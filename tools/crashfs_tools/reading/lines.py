@@ -94,8 +94,9 @@ class Line:
 
 
 def bytes_of(fields: Fields) -> bytes:
-    """The bytes of a line, or of a part: its `text` in UTF-8, or else its `bytes`, hexadecimal
-    digits. KeyError if it has neither."""
+    """The bytes of a line, or of a part of a file: those of its `text` in UTF-8, or else those that
+    the digits of its `bytes` mean, which check_value() must have accepted. KeyError if it has
+    neither."""
     if 'text' in fields:
         return str(fields['text']).encode('utf-8')
     return bytes.fromhex(fields['bytes'])

@@ -192,6 +192,7 @@ class WriteBlock(MicroOperation):
     def __init__(
         self, file_number: int, block: int, block_size: int, offset: int, data: bytes
     ) -> None:
+        """`data` must end in the block, at the latest. `block_size` is the trace's."""
         self.file_number = file_number
         self.block = block
         self.offset = offset

@@ -38,6 +38,7 @@ class NameTree:
     the old number. Methods that change the tree check nothing: call refuse_unfit_line() first."""
 
     def __init__(self, version: int = 1) -> None:
+        """A tree that has only the root, for a trace of this version."""
         self.version = version
         # What each directory holds, by its number.
         self.children: Dict[int, Dict[str, Inode]] = {ROOT: {}}
@@ -122,6 +123,13 @@ class NameTree:
         self.children[entry[0]][entry[1]] = node
         if node.kind != DIRECTORY:
             self.entries[node.number].append(entry)
+
+    def add_link(self, old_path: str, new_path: str) -> Inode:
+        """Gives the file at a path one more path, which must be free, and returns the file's
+        inode."""
+        node = self.require_inode(old_path)
+        self.add_path(new_path, node)
+        return node
 
     def remove_path(self, path: str) -> Inode:
         """Removes the entry of a path, at which something must be, and returns what it held. A

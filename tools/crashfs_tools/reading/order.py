@@ -144,16 +144,18 @@ class Order:
         """The order, with this order's profile, that allows a set exactly if this one and another
         do. Both must be of the same micro-operations. A sync that makes something durable in one of
         them makes it durable in the new order."""
-        both = copy(self)
-        both.needs, both.units = [], {**self.units, **other.units}
-        both.synced_sets = list(map(or_, self.synced_sets, other.synced_sets))
-        both.logged_sets = list(map(or_, self.logged_sets, other.logged_sets))
+        new_order = copy(self)
+        new_order.needs, new_order.units = [], {**self.units, **other.units}
+        new_order.synced_sets = list(map(or_, self.synced_sets, other.synced_sets))
+        new_order.logged_sets = list(map(or_, self.logged_sets, other.logged_sets))
         for place, needs in enumerate(map(or_, self.needs, other.needs)):
-            if place in both.units:
+            if place in new_order.units:
                 needs |= (self.needs[place + 1] | other.needs[place + 1]) & ~(1 << place)
-            both.needs.append(needs | union_of(both.needs[needed] for needed in places_of(needs)))
-        both.needed_by = inverse_sets(both.needs)
-        return both
+            new_order.needs.append(
+                needs | union_of(new_order.needs[needed] for needed in places_of(needs))
+            )
+        new_order.needed_by = inverse_sets(new_order.needs)
+        return new_order
 
     def restricted_to(self, reading: Reading, profile: str) -> Order:
         """The order, with this profile, that allows a set if this order does and a file system of
@@ -162,19 +164,20 @@ class Order:
         other = Order(reading, profile)
         if profile != 'blocks':
             other.units = {place: 0b11 << place for place in first_halves(reading.operations)}
-        both = self.intersected_with(other)
-        both.profile = profile
-        return both
+        new_order = self.intersected_with(other)
+        new_order.profile = profile
+        return new_order
 
     def with_earlier_lines(self, reading: Reading) -> Order:
         """The order that allows a set if this one does and the set has all acknowledged lines that
         come before one of its members. From version 3 on it allows what this one does. `reading`
         must be that of this order."""
         line_order = copy(self)
-        lines, line_order.needs = 0, []
+        earlier_lines, line_order.needs = 0, []
         for place, operation in enumerate(reading.operations):
-            line_order.needs.append(lines)
-            lines |= isinstance(operation, Acknowledgement) << place
+            line_order.needs.append(earlier_lines)
+            if isinstance(operation, Acknowledgement):
+                earlier_lines |= 1 << place
         return self.intersected_with(line_order)
 
     def is_allowed(self, place_set: int) -> bool:
@@ -255,6 +258,7 @@ class Profiles:
     rename is two micro-operations."""
 
     def __init__(self, reading: Reading) -> None:
+        """Computes the order of each profile that the trace's version has."""
         self.orders: Dict[str, Order] = {
             name: Order(reading, name) for name in profile_names(reading)
         }

@@ -35,6 +35,7 @@ class Reading:
     numbered together, directories apart."""
 
     def __init__(self) -> None:
+        """Nothing is read yet. Profile and block size are what a header without them means."""
         self.version = 1
         self.profile = 'blocks'
         self.block_size = 4096
@@ -137,9 +138,8 @@ class Reading:
         self.add_start_entry(line, self.make_link(line))
 
     def start_link(self, line: Line) -> None:
-        """Adds one more entry of a file, also to the start tree. The file must be there."""
-        node = self.names.require_inode(line.fields['from'])
-        self.names.add_path(line.fields['path'], node)
+        """Adds one more entry of a file, also to the start tree."""
+        node = self.names.add_link(line.fields['from'], line.fields['path'])
         self.add_start_entry(line, node)
 
     def add_start_entry(self, line: Line, node: Inode) -> None:
@@ -195,11 +195,10 @@ class Reading:
             self.operations.append(DeleteEntry(old_path, source, node, rename_half=2))
 
     def op_link(self, line: Line) -> None:
-        """Adds one more entry of a file, and its LinkEntry, which is no half of a rename."""
-        node = self.names.require_inode(line.fields['from'])
-        self.names.add_path(line.fields['to'], node)
-        entry = self.names.entry_at(line.fields['to'])
-        self.operations.append(LinkEntry(line.fields['to'], entry, node))
+        """Adds one more entry of a file, and the micro-operation that makes this entry."""
+        path = line.fields['to']
+        node = self.names.add_link(line.fields['from'], path)
+        self.operations.append(LinkEntry(path, self.names.entry_at(path), node))
 
     # Operations on what files and directories are
 
