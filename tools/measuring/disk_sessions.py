@@ -147,7 +147,8 @@ def table_lines(results: List[SessionResult]) -> Iterator[str]:
     for filesystem in PROFILE_OF:
         sessions = [result for result in results if result.filesystem == filesystem]
         if sessions:
-            yield f'| {filesystem} | {" | ".join(f"{it:,}" for it in session_sums(sessions))} |'
+            sums = ' | '.join(f'{count:,}' for count in session_sums(sessions))
+            yield f'| {filesystem} | {sums} |'
 
 
 def session_sums(sessions: List[SessionResult]) -> Iterator[int]:

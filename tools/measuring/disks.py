@@ -108,7 +108,8 @@ class Measurement:
         results that were saved stay."""
         tasks = self.tasks_left()
         makers = {
-            it.name: SessionMaker(it, folder) for it in filesystems_by_names(self.filesystems)
+            filesystem.name: SessionMaker(filesystem, folder)
+            for filesystem in filesystems_by_names(self.filesystems)
         }
 
         def make_session(task: Task) -> SessionResult:

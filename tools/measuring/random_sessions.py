@@ -82,7 +82,8 @@ class DrawnSession:
         """Draws the lines of the start tree: /d and /e, perhaps /d/f, two files, and perhaps the
         symbolic link /e/c. `tree` isn't needed yet."""
         directories = ['/d', '/e', *(['/d/f'] if self.is_drawn(one_in=3) else [])]
-        start: List[StartLine] = [Start(it, *ROOT, DIRECTORY_MODE, None) for it in directories]
+        start: List[StartLine] = []
+        start += [Start(path, *ROOT, DIRECTORY_MODE, None) for path in directories]
         for path in self.random.sample(['/a', '/b', '/d/a', '/d/b', '/e/a'], 2):
             data = self.random.choice([b'old', b'x' * 5000])
             start.append(Start(path, *ROOT, FILE_MODE, data))
@@ -96,7 +97,7 @@ class DrawnSession:
 
     def draw_operations(self, count: int) -> None:
         """Adds so many useful operations, 0 or more, to the trace, with acknowledged lines as
-        draw_session() says. Call it once: it adds the session's last line."""
+        draw_session() says. The last line of the session is added, too: call this only once."""
         for _ in range(count):
             operation = self.draw_useful_operation()
             self.tree.apply(operation)
@@ -168,7 +169,7 @@ class DrawnSession:
             self.draw_new_path(NAMES), *ROOT, self.random.choice(['a', '../b', 'd/none'])
         )
 
-    def draw_write(self, is_append: bool = False) -> Optional[Operation]:
+    def draw_write(self, *, is_append: bool = False) -> Optional[Operation]:
         """Draws a write to a file: at 0, 2 or 4096, which may be past its end, or with is_append at
         its end. None if there is no file."""
         path = self.draw_path('file')

@@ -56,9 +56,9 @@ class StateList:
             self.add_state({'kind': 'prefix', 'end': end}, (1 << end) - 1)
 
     def add_holes(self) -> None:
-        """Adds each prefix without one of its micro-operations and all that need this one, unless
-        the prefix's last one is lost, too: then it is a hole of a shorter prefix. ReadingFault if
-        the plan is full; the states added before stay."""
+        """Adds each prefix without one of its micro-operations and all that need this one. A set
+        that then lacks the prefix's last one isn't added: it is a shorter prefix or a hole of one.
+        ReadingFault if the plan is full; the states added before stay."""
         ends = range(self.order.count + 1)
         for lost, end in ((lost, end) for end in ends for lost in range(end - 1)):
             place_set = self.order.set_without((1 << end) - 1, 1 << lost)
