@@ -32,11 +32,9 @@ def copy_sources_to(folder: Path) -> Path:
     """Copies what `rt` reads of the repository, without the folders out/ that it made, to a folder,
     which is made if it isn't there; returns the folder. FileExistsError if it has crates already;
     after another OSError a part of the copy is left."""
-    (folder / 'crates').mkdir(parents=True)
+    shutil.copytree(TOP / 'crates', folder / 'crates', ignore=shutil.ignore_patterns('out'))
     for name in ('crates.txt', 'HANDLES'):
         shutil.copy2(TOP / name, folder / name)
-    for crate in (TOP / 'crates').iterdir():
-        shutil.copytree(crate, folder / 'crates' / crate.name, ignore=shutil.ignore_patterns('out'))
     return folder
 
 

@@ -90,9 +90,8 @@ def bash_of_program() -> str:
     options of the command that is given, and after an option its choices. If commands have options
     of one name, the choices are those of the last command. Errors as commands_of_program()."""
     commands = commands_of_program()
-    option_by_name = {
-        name: option for options in commands.values() for option in options for name in option.names
-    }
+    all_options = [option for options in commands.values() for option in options]
+    option_by_name = {name: option for option in all_options for name in option.names}
     command_branches = '\n'.join(
         f'                    {command})\n                        words=\'\n'
         f'{wrapped_lines(option_names([HELP, *options]), " " * 28)}\' ;;'

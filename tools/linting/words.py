@@ -110,26 +110,25 @@ def programs_to_read() -> List[Path]:
     return [path for path in program_files() if path_from_top(path) != TABLES]
 
 
+def lines_of_texts(path: Path, texts: List[Tuple[int, str]]) -> Iterator[Line]:
+    """The lines of texts of a file, each of which is after the number of its first line. ValueError
+    as numbered_lines()."""
+    for number, text in texts:
+        yield from numbered_lines(path, text, number)
+
+
 def lines_of_tools() -> Iterator[Line]:
     """The lines of all texts of programs_to_read(), documentation too; comments aren't read.
     SyntaxError if a file isn't Python."""
-    return (
-        line
-        for path in programs_to_read()
-        for number, text in texts_in_python(path.read_text('utf-8'))
-        for line in numbered_lines(path, text, number)
-    )
+    for path in programs_to_read():
+        yield from lines_of_texts(path, texts_in_python(path.read_text('utf-8')))
 
 
 def lines_of_crates() -> Iterator[Line]:
     """The lines of all texts of the crates' files that may_print() accepts; comment lines aren't
     read."""
-    return (
-        line
-        for path in sorted(filter(may_print, CRATES.glob('*/src/**/*.rt')))
-        for number, text in texts_in_rattle(path.read_text('utf-8'))
-        for line in numbered_lines(path, text, number)
-    )
+    for path in sorted(filter(may_print, CRATES.glob('*/src/**/*.rt'))):
+        yield from lines_of_texts(path, texts_in_rattle(path.read_text('utf-8')))
 
 
 def all_lines() -> Iterator[Line]:

@@ -25,8 +25,8 @@ def column_width(session: ModelledSession) -> float:
 
 
 def draw_cells(picture: Picture, session: ModelledSession, place: int) -> None:
-    """Adds a cell for each set in the row that was added last, of the micro-operation at a place.
-    The cell is faint if the set lacks the place, else red if recovery fails with the set, or green.
+    """Adds a cell for each set to the row that was added last, which is that of the place. The cell
+    is faint if the set lacks the place, else red if recovery fails with the set, else green.
     Doesn't change the picture's y."""
     width = column_width(session)
     for column, kept_set in enumerate(session.sets):

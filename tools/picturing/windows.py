@@ -9,6 +9,7 @@ from typing import List, NamedTuple
 
 from crashfs_tools.checker.checked_trace import CheckedTrace
 from crashfs_tools.checker.options import Options
+from crashfs_tools.checker.states.plan import PlannedTrace
 from crashfs_tools.common.guard import Guard
 from crashfs_tools.common.program import Crashfs
 
@@ -54,10 +55,20 @@ def session_text() -> str:
     return ''.join(lines)
 
 
+def window_of(planned: PlannedTrace) -> Window:
+    """The window of a planned part of the session."""
+    begin, operations = planned.offsets.operations, planned.plan.operations
+    creates = [
+        place
+        for place, operation in enumerate(operations, begin)
+        if operation.kind == 'create_dir_entry'
+    ]
+    return Window(begin, begin + len(operations), creates)
+
+
 def plan_windows() -> List[Window]:
     """The windows into which a check divides the session of session_text(), in their order. No
     state is tried, and no file is left."""
-    windows = []
     with tempfile.TemporaryDirectory() as folder, Guard('crashfs-picture') as guard:
         trace = Path(folder, 'session.trace')
         trace.write_text(session_text(), 'utf-8')
@@ -65,15 +76,7 @@ def plan_windows() -> List[Window]:
         checked = CheckedTrace(
             options, Crashfs.find_or_second_reading(None, is_unproved=True), guard
         )
-        for planned in checked.all_planned():
-            plan, begin = planned.plan, planned.offsets.operations
-            creates = [
-                place
-                for place, operation in enumerate(plan.operations, begin)
-                if operation.kind == 'create_dir_entry'
-            ]
-            windows.append(Window(begin, begin + len(plan.operations), creates))
-    return windows
+        return [window_of(planned) for planned in checked.all_planned()]
 
 
 def draw_places(picture: Picture, place_count: int, unsynced: int) -> None:

@@ -74,18 +74,24 @@ def member_header(path: str, kind: bytes, mode: int, seconds: int) -> tarfile.Ta
 
 
 def add_item(archive: tarfile.TarFile, path: str, item: Item, seconds: int) -> None:
-    """Adds an item to an archive, with its path there and its time, in seconds since 1970."""
+    """Adds an item to an archive at a path, with a time in seconds since 1970. A link has all
+    rights, a file those of its mode."""
     kind = tarfile.SYMTYPE if item.target else tarfile.REGTYPE
     header = member_header(path, kind, 0o777 if item.target else item.mode, seconds)
     header.linkname, header.size = item.target, len(item.content)
     archive.addfile(header, io.BytesIO(item.content))
 
 
+def add_folders(archive: tarfile.TarFile, paths: List[str], seconds: int) -> None:
+    """Adds folders to an archive in their order, each with this time, since 1970."""
+    for path in paths:
+        archive.addfile(member_header(path, tarfile.DIRTYPE, 0o755, seconds))
+
+
 def add_items(archive: tarfile.TarFile, top: str, items: Items, seconds: int) -> None:
     """Adds items to an archive, below a folder `top`: first this folder and those of the items,
     then the items in their order. All members have the same time."""
-    for folder in [top, *(f'{top}/{folder}' for folder in folders_of(items))]:
-        archive.addfile(member_header(folder, tarfile.DIRTYPE, 0o755, seconds))
+    add_folders(archive, [top, *(f'{top}/{folder}' for folder in folders_of(items))], seconds)
     for path, item in items.items():
         add_item(archive, f'{top}/{path}', item, seconds)
 

@@ -26,7 +26,7 @@ memory for. It prints a line for each part, then what it could not run, and last
 
 
 def parts_with_rt() -> Dict[str, Part]:
-    """The parts that need the toolchain, by name: the tests of each crate that has some, without
+    """The parts that need the toolchain, by name: the tests of each of crates_with_tests(), without
     GATE_CRATES, and the scripts of the examples if Crashfs.find() finds no program. Nothing is run.
     OSError as crates_with_tests()."""
     parts: Dict[str, Part] = {
@@ -54,7 +54,7 @@ def not_run_lines_with_rt() -> List[str]:
     return [f'the {counts[name]} tests of {name}: {reason}' for name, reason in GATE_CRATES.items()]
 
 
-def run_all_parts(has_rt: bool, count: int) -> Iterator[Outcome]:
+def run_all_parts(*, has_rt: bool, count: int) -> Iterator[Outcome]:
     """Runs all parts, and yields the outcome of each as it ends. The tools' tests and the examples
     come first, side by side, since they take least; then, with `rt`, the parts of parts_with_rt(),
     `count` at once. These aren't run if one of the first two raises an exception, which ends the
