@@ -182,8 +182,7 @@ class Check:
         previous, planned = self.last_window, trials.planned
         numbers_before = known_states(previous.trials.plan, planned.plan) if previous else {}
         results = Results(planned.plan, numbers_before=numbers_before)
-        if self.earlier_results is not None:
-            self.add_earlier_outcomes(results, self.earlier_results)
+        self.add_earlier_outcomes(results)
         if previous is None:
             self.prepare_first_window(trials, results)
         try:
@@ -198,15 +197,18 @@ class Check:
         the start tree, whose outcomes the results get. Refused as open_cache(), and if COMMAND
         fails in one of these trees; other errors as in FirstTrials.run()."""
         self.head.lines = self.trace.lines.operations
-        if self.options.cache is not None:
-            self.open_cache(self.options.cache, trials)
+        self.open_cache(trials)
         FirstTrials(trials, results, self.trace.plan_end()).run()
 
-    def open_cache(self, path: str, trials: Trials) -> None:
-        """Opens the cache in the directory `path`, which is made if it isn't there, for the trials
-        of all windows. If it isn't known which files COMMAND opens, or one of them has changed,
-        COMMAND is run under strace in the first and the last prefix. Refused if the directory can't
-        be used, or COMMAND can't be traced; OSError if the list of files can't be written."""
+    def open_cache(self, trials: Trials) -> None:
+        """Opens the cache of --cache for the trials of all windows, and makes its directory if that
+        isn't there; does nothing without --cache. If it isn't known which files COMMAND opens, or
+        one of them has changed, runs COMMAND under strace in the first and the last prefix. Refused
+        if the directory can't be used, or COMMAND can't be traced; OSError if the list of files
+        can't be written."""
+        path = self.options.cache
+        if path is None:
+            return
         from crashfs_tools.checker.running.cache import OutcomeCache, require_folder
         from crashfs_tools.checker.running.command_files import command_name
 
@@ -228,15 +230,16 @@ class Check:
             except OSError as error:
                 print_line(NAME, f'--cache {error.filename}: {error.strerror}')
 
-    def add_earlier_outcomes(self, results: Results, earlier: AllResults) -> None:
-        """Adds to the results of the window that is tried next its outcomes in an earlier check;
-        nothing if that check ended before this window. Refused if the earlier check's window has
-        another plan: then it was a check of something else."""
+    def add_earlier_outcomes(self, results: Results) -> None:
+        """Adds to the results of the window that is tried next its outcomes in the check of
+        --resume; nothing without --resume, or if that check ended before this window. Refused if
+        the window had another plan there: then it was a check of something else."""
+        earlier_windows = self.earlier_results.windows if self.earlier_results else []
         place = self.report.counts.windows
-        if place < len(earlier.windows):
-            if earlier.windows[place].identity() != results.identity():
+        if place < len(earlier_windows):
+            if earlier_windows[place].identity() != results.identity():
                 raise Refused(OTHER_CHECK)
-            results.take_earlier_results(earlier.windows[place])
+            results.take_earlier_results(earlier_windows[place])
 
     def make_saver(self, results: Results, *, has_rest: bool) -> Callable[[], None]:
         """Returns a function to call after each state of a window; has_rest says whether the

@@ -114,10 +114,10 @@ class Windows:
         longest_needs: Sequence[int] = ()
         while True:
             text, lines = steps.trace_until(end)
-            needs = self.needs_with_probe(path + '.probe', text)
-            longest_needs = longest_needs or needs[:-1]
-            count = self.fitting_count(needs[:-1])
-            if count < len(needs) - 1:
+            *needs, durable_set = self.needs_with_probe(path + '.probe', text)
+            longest_needs = longest_needs or needs
+            count = self.fitting_count(needs)
+            if count < len(needs):
                 end = steps.end_within(count)
                 continue
             write_text(path, text)
@@ -131,7 +131,7 @@ class Windows:
             if shorter_end < end:
                 end = shorter_end
                 continue
-            pending = pending_places(planned.plan, durable_set=needs[-1])
+            pending = pending_places(planned.plan, durable_set)
             return PlannedWindow(planned, end, pending, longest_needs)
 
     def end_with_few_states(self, steps: Steps, end: int, planned: PlannedTrace) -> int:
