@@ -98,6 +98,11 @@ class StateCounts:
         return bool(are_listed) and all(are_listed)
 
     @property
+    def are_all_wanted(self) -> bool:
+        """Whether all crash states were asked for, not only families; False without windows."""
+        return self.is_part or self.are_all_listed
+
+    @property
     def is_by_second_reading(self) -> bool:
         """Whether the second reading, not the program, found which crash states a window has."""
         return any(window is not None and window.are_read for window in self.all_states)
@@ -115,7 +120,7 @@ class StateCounts:
         """A sentence on how many of the crash states were tried, or how many states of some
         families."""
         tried = f'{self.tried_states:,}'
-        if self.is_part or self.are_all_listed:
+        if self.are_all_wanted:
             return f'{tried} of {self.total_text} crash states were tried.'
         return f'{tried} different states of some families were tried, not all crash states.'
 

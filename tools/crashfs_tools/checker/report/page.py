@@ -17,7 +17,7 @@ from crashfs_tools.common.command import version_text
 from .page_parts import SCRIPT, STYLE
 from .json_text import COMPACT, as_json
 from .report import CheckReport
-from .text import ReportText, lines_of_pair
+from .text import ReportText, lines_of_pair, second_crash_details, states_text
 
 # Of a session in several windows, so many lines are shown before and after each marked one.
 NEAR_LINES = 20
@@ -95,7 +95,7 @@ def entry_lines(report: CheckReport, group: Group) -> Iterator[str]:
     """An entry as HTML: its cause, its details, its two lines of the trace, how files differ, and
     the end of what COMMAND printed in the example. What isn't known is left out. Of a line that the
     report doesn't have only the number is shown."""
-    states = ReportText.states_text(group)
+    states = states_text(group)
     css_class = '' if group.accepted_entry is None else ' class="accepted"'
     yield f'<section{css_class}><h2>{shown_text(group.cause)}</h2><p>{shown_text(states)}</p>\n'
     yield f'<ul>\n{elements("li", ReportText(report).details(group))}</ul>\n'
@@ -112,24 +112,21 @@ def entry_lines(report: CheckReport, group: Group) -> Iterator[str]:
 def recovery_section(report: CheckReport) -> Iterator[str]:
     """A section of HTML with the entries of second crashes, and the recoveries in which no second
     crash was tried; no section if there are neither."""
-    report_text, entries = ReportText(report), report.recovery_groups()
-    not_tried = report_text.not_tried_lines()
+    entries, not_tried = report.recovery_groups(), ReportText(report).not_tried_lines()
     if not entries and not not_tried:
         return
     yield '<section><h2>A crash during the recovery</h2>\n'
     for group, second_crash in entries:
-        yield from second_crash_lines(report_text, group, second_crash)
+        yield from second_crash_lines(group, second_crash)
     yield elements('p', map(str.strip, not_tried))
     yield '</section>\n'
 
 
-def second_crash_lines(
-    report_text: ReportText, group: Group, second_crash: SecondCrash
-) -> Iterator[str]:
+def second_crash_lines(group: Group, second_crash: SecondCrash) -> Iterator[str]:
     """An entry of second crashes as HTML: its cause, the lines of second_crash_details(), and the
     end of what COMMAND printed in the example, if it printed anything."""
-    states = report_text.states_text(group, second_crash)
-    details = report_text.second_crash_details(group, second_crash)
+    states = states_text(group, second_crash)
+    details = second_crash_details(group, second_crash)
     yield f'<h3>{shown_text(group.cause)}</h3>\n<p>{shown_text(states)}</p>\n'
     yield f'<ul>\n{elements("li", details)}</ul>\n'
     if group.outcome.output:

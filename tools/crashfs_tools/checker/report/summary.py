@@ -107,8 +107,7 @@ class Summary:
         if not self.is_whole and not counts.is_part:
             return [f'{self.failing_count:,}{self.tried_words} {fail}: {causes}']
         of_all = f' ({counts.all_failing_states:,} of all {counts.states:,} states)'
-        is_every = counts.is_part or counts.are_all_listed
-        return [f'{self.failing_count:,} {fail}{"" if is_every else of_all}: {causes}']
+        return [f'{self.failing_count:,} {fail}{"" if counts.are_all_wanted else of_all}: {causes}']
 
     @property
     def none_text(self) -> str:

@@ -86,7 +86,7 @@ class ReportText:
         for group in accepted[:SHOWN_GROUPS]:
             assert group.accepted_entry is not None
             cause = cut_text(escape_unprintable(f'accepted: {group.cause}'), CAUSE_WIDTH)
-            lines.append(f'  {cause:<{CAUSE_WIDTH}} {self.states_text(group)}')
+            lines.append(f'  {cause:<{CAUSE_WIDTH}} {states_text(group)}')
             lines += folded_lines([accepted_text(group.accepted_entry)], '    ')
         more = len(accepted) - SHOWN_GROUPS
         return lines + ([f'  and {more:,} more that are accepted'] if more > 0 else [])
@@ -122,7 +122,7 @@ class ReportText:
         lines = ['  with these syncs these entries are gone too:'] if covered else []
         cause_kinds = {group.outcome.cause_kind for group in shown}
         for group in covered[:SHOWN_GROUPS]:
-            states = self.states_text(group)
+            states = states_text(group)
             cause = cut_text(escape_unprintable(group.cause), CAUSE_WIDTH - 2)
             lines.append(f'    {cause:<{CAUSE_WIDTH - 2}} {states}')
             if group.outcome.cause_kind not in cause_kinds:
@@ -212,7 +212,7 @@ class ReportText:
     def group_lines(self, group: Group, second_crash: Optional[SecondCrash] = None) -> List[str]:
         """The lines of an entry: its cause, which may be cut, with its states, and below it the
         details, folded. second_crash is None unless the entry is one of second crashes."""
-        states = self.states_text(group, second_crash)
+        states = states_text(group, second_crash)
         cause = cut_text(escape_unprintable(group.cause), max(CAUSE_WIDTH, WIDTH - len(states) - 3))
         details = folded_lines(self.entry_details(group, second_crash), '    ')
         return [f'  {cause:<{CAUSE_WIDTH}} {states}', *details]
@@ -222,14 +222,7 @@ class ReportText:
         second_crash is None, of details()."""
         if second_crash is None:
             return self.details(group)
-        return self.second_crash_details(group, second_crash)
-
-    @staticmethod
-    def second_crash_details(group: Group, second_crash: SecondCrash) -> List[str]:
-        """The lines below the cause of an entry of second crashes: why it is accepted, where its
-        example's two crashes were, and the advice."""
-        crashes = f'state {second_crash.state}, then a crash {second_crash.place}'
-        return [*acceptance_lines(group), crashes, *group.advice.lines()]
+        return second_crash_details(group, second_crash)
 
     def trace_sentences(self, group: Group) -> List[str]:
         """The sentences of an entry on lines of the trace, without what to do about them."""
@@ -240,15 +233,6 @@ class ReportText:
         nothing."""
         lines = ', '.join(map(self.line_text, group.needed_lines))
         return [f'it fails only if this is lost too: {lines}'] if lines else []
-
-    @staticmethod
-    def states_text(group: Group, second_crash: Optional[SecondCrash] = None) -> str:
-        """How many different states an entry has, and the option that shows its example.
-        second_crash is None unless the entry is one of second crashes."""
-        example = f'--state {example_number(group, second_crash)}'
-        if group.count == 1:
-            return f'1 state: {example}'
-        return f'{group.count:,} states, e.g. {example}'
 
     def details(self, group: Group) -> List[str]:
         """The lines below an entry's cause, not folded: the notes of its two lines, why the entry
@@ -304,11 +288,27 @@ def other_sync_lines(group: Group) -> List[str]:
     return [f'line {sync.number} is {sync.text}, which is not enough' for sync in syncs]
 
 
+def states_text(group: Group, second_crash: Optional[SecondCrash] = None) -> str:
+    """How many different states an entry has, and the option that shows its example.
+    second_crash is None unless the entry is one of second crashes."""
+    example = f'--state {example_number(group, second_crash)}'
+    if group.count == 1:
+        return f'1 state: {example}'
+    return f'{group.count:,} states, e.g. {example}'
+
+
 def example_number(group: Group, second_crash: Optional[SecondCrash]) -> str:
     """The number of an entry's example as --state takes it: of an entry of second crashes after the
     number of the first crash's state and a slash."""
     number = str(group.example.number)
     return number if second_crash is None else f'{second_crash.state}/{number}'
+
+
+def second_crash_details(group: Group, second_crash: SecondCrash) -> List[str]:
+    """The lines below the cause of an entry of second crashes: why it is accepted, where its
+    example's two crashes were, and the advice."""
+    crashes = f'state {second_crash.state}, then a crash {second_crash.place}'
+    return [*acceptance_lines(group), crashes, *group.advice.lines()]
 
 
 def profiles_text(group: Group, *, are_all: bool) -> str:

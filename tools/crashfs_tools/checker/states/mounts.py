@@ -53,7 +53,7 @@ class Mounts(Layout):
         try:
             yield
         finally:
-            self.unmount(directory)
+            unmount(directory)
         os.rmdir(directory)
 
     def mount_words(self, name: str, directory: str) -> List[str]:
@@ -79,14 +79,16 @@ class Mounts(Layout):
         if fault:
             raise Refused(f'no mount of {name} from {self.address}: {fault} ({NEEDS})')
 
-    def unmount(self, directory: str) -> None:
-        """Unmounts what is at a directory, lazily if a process that COMMAND left behind still uses
-        it. Refused if it stays mounted. `umount` must run to its end also if the check is stopped:
-        it doesn't get the check's environment, by which the guard finds processes to end."""
-        environment = dict(os.environ)
-        fault = run_on_directory(['umount', directory], directory, environment)
-        if fault and run_on_directory(['umount', '-l', directory], directory, environment):
-            raise Refused(f'{directory} stays mounted: {fault}')
+
+def unmount(directory: str) -> None:
+    """Unmounts what is at a directory, lazily if a process that COMMAND left behind still uses it.
+    Refused if it stays mounted; OSError as run_on_directory(). `umount` must run to its end also if
+    the check is stopped: it doesn't get the check's environment, by which the guard finds processes
+    to end."""
+    environment = dict(os.environ)
+    fault = run_on_directory(['umount', directory], directory, environment)
+    if fault and run_on_directory(['umount', '-l', directory], directory, environment):
+        raise Refused(f'{directory} stays mounted: {fault}')
 
 
 def run_on_directory(words: List[str], directory: str, environment: Dict[str, str]) -> str:

@@ -142,7 +142,7 @@ class Windows:
         all_states = planned.plan.all_states
         if all_states is None or all_states.are_listed:
             return end
-        ends = self.ends_without_pending(steps, end, ReadingSets(planned.trace))
+        ends = ends_without_pending(steps, end, ReadingSets(planned.trace))
         low, high = 0, len(ends)
         # It is assumed that a longer part has no fewer states.
         while low < high:
@@ -152,19 +152,6 @@ class Windows:
             else:
                 high = middle
         return ends[low - 1] if low else end
-
-    def ends_without_pending(self, steps: Steps, end: int, reading_sets: ReadingSets) -> List[int]:
-        """The steps before `end`, ascending, at which nothing is pending, and before which more
-        than a quarter of the part's micro-operations come. Of several steps with the same
-        micro-operations before them only the last one, which comes after the syncs.
-        reading_sets are those of the part up to `end`."""
-        steps_by_size = {steps.size_until(step): step for step in range(steps.begin + 1, end)}
-        least_size = steps.size_until(end) // LEAST_PART
-        return [
-            step
-            for size, step in steps_by_size.items()
-            if size > least_size and not reading_sets.has_pending(size)
-        ]
 
     def has_few_states(self, steps: Steps, end: int) -> bool:
         """Whether the part up to the step `end` has so few different crash states that all can be
@@ -260,6 +247,20 @@ def windows_of(planner: Planner, options: Options, text: str) -> Windows:
     micro-operations, or of LARGEST if that is None. Nothing is planned yet. Refused if a line of
     the trace has a fault."""
     return Windows(planner, Session(options.trace or '', text), options.window or LARGEST)
+
+
+def ends_without_pending(steps: Steps, end: int, reading_sets: ReadingSets) -> List[int]:
+    """The steps before `end`, ascending, at which nothing is pending, and before which more than a
+    quarter of the part's micro-operations come. Of several steps with the same micro-operations
+    before them only the last one, which comes after the syncs. The part is that of `steps` up to
+    `end`, and reading_sets has its sets."""
+    steps_by_size = {steps.size_until(step): step for step in range(steps.begin + 1, end)}
+    least_size = steps.size_until(end) // LEAST_PART
+    return [
+        step
+        for size, step in steps_by_size.items()
+        if size > least_size and not reading_sets.has_pending(size)
+    ]
 
 
 def pending_places(plan: Plan, durable_set: int) -> List[int]:
