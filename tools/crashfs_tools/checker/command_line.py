@@ -323,7 +323,6 @@ def possible_faults(values: argparse.Namespace, command: List[str]) -> Dict[str,
     these values and COMMAND have it: a missing TRACE or COMMAND, and options that can't be
     combined. Options that only have no effect, such as --fail-fast with --state or --resume with
     --merge, are no fault."""
-
     is_merge, is_serve = values.merge is not None, values.serve is not None
     is_shard = values.shard.parts > 1
     has_own_states = values.families or values.prefixes or values.quick or is_serve

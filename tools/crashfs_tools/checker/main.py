@@ -26,7 +26,6 @@ from crashfs_tools.common.whole_files import folder_to_write
 
 from .checked_trace import mode_of_report
 from .checking import Interrupted, check_trace, refuse_unreadable
-
 from .command_line import read_options
 from .options import NAME, Options
 

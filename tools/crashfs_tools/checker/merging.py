@@ -15,7 +15,6 @@ from crashfs_tools.common.command import Refused
 from crashfs_tools.common.guard import Guard
 from crashfs_tools.common.program import Crashfs
 
-
 from .checked_trace import CheckedTrace
 from .checking import new_report
 from .options import NAME, Options

@@ -19,7 +19,6 @@ from crashfs_tools.common.removal import remove_tree
 
 from .checked_trace import no_such_state
 from .checking import open_trace
-
 from .options import Options
 
 STATUSES = {GOOD: NONE_FAILS, BAD: SOME_FAIL, NO_ANSWER: NOT_ALL_TRIED}

@@ -46,7 +46,6 @@ class CheckReport:
         self.head = head
         self.accept_list = accept_list
         self.has_states = has_states
-
         # How many runs of COMMAND were those of earlier checks.
         self.cache_hits = 0
         self.state_outcomes: List[StateRow] = []

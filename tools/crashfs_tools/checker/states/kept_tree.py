@@ -139,9 +139,9 @@ class KeptTree:
             self.fill(root, tree)
 
     def fill(self, root: int, tree: Mapping[str, Entry]) -> None:
-        """Makes what of the tree isn't in remaining_paths, below the open directory `root`: files
-        and directories, then symbolic links. Then sets the modes of directories that have another
-        one than in the tree. After an OSError the rest isn't made."""
+        """Makes the entries of the tree whose paths aren't in remaining_paths, below the open
+        directory `root`: files and directories, then symbolic links. Then sets the modes of
+        directories whose mode isn't that of the tree. After an OSError the rest isn't made."""
         self.files = {path: self.files[path] for path in self.remaining_paths if path in self.files}
         for path, entry in tree.items():
             if path not in self.remaining_paths:
