@@ -192,7 +192,7 @@ def read_last_state(readers: List[LastStateReader]) -> Tuple[Entries, str]:
 
 
 def last_state_readers(options: RecordOptions, recording: Recording) -> List[LastStateReader]:
-    """The readers of the last state, in the order in which they are to be tried, and at least one:
+    """The readers of the last state, in the order in which they must be tried, and at least one:
     the program, if it reads the trace's version and the trace isn't too long for it, then a replay.
     If OUT isn't a file, there is only a replay of the trace in memory. Refused if --crashfs names
     no program; OSError as in Crashfs.program_for_version()."""
