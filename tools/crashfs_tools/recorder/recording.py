@@ -197,9 +197,9 @@ class Recording:
 
     def add_operation(self, operation: Operation) -> bool:
         """Adds an operation, with its call's note, to the trace and its tree, and returns True. The
-        trace gets the newest version if the operation needs it. If `crashfs` would refuse it, that
-        is reported, nothing changes, and it returns False. If the trace's version has no line for
-        it, it returns what add_in_older_version() does."""
+        trace gets the newest version if the operation needs that. Returns False, and adds nothing,
+        if `crashfs` would refuse the operation, which is reported. Returns what
+        add_in_older_version() does if the trace's version has no line for the operation."""
         old_version, old_reason = self.trace.version, self.newest_version_reason
         reason = self.reason_for_newest_version(operation)
         if reason:

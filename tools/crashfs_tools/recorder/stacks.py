@@ -122,12 +122,12 @@ def stack_text(frames: List[ShownFrame], source_lines: Dict[Address, List[Frame]
     return ' < '.join(islice(texts, MOST_FUNCTIONS))
 
 
-def source_texts(sources: List[Frame]) -> Iterator[str]:
-    """Yields, for each function of the program itself at an address, its source line and its name,
-    as `kv.c:85 put`."""
-    for source in sources:
-        if is_program_function(source.function) and not LIBRARY_SOURCE.search(source.source_line):
-            yield f'{os.path.basename(source.source_line)} {source.function}'
+def source_texts(frames: List[Frame]) -> Iterator[str]:
+    """Yields, for each of the frames at an address whose function is of the program itself, its
+    source line and its function, as `kv.c:85 put`."""
+    for frame in frames:
+        if is_program_function(frame.function) and not LIBRARY_SOURCE.search(frame.source_line):
+            yield f'{os.path.basename(frame.source_line)} {frame.function}'
 
 
 def address_texts(frame: ShownFrame) -> Iterator[str]:

@@ -122,25 +122,31 @@ class LogReader:
         if self.filter is not None and self.filter.is_needless(line):
             self.call_with_frames = None
             return
-        begun = BEGUN.match(line) if line.endswith(UNFINISHED) else None
-        if begun:
-            first_arguments = line[begun.end() : -len(UNFINISHED)]
-            self.interrupted_calls[begun[1]] = InterruptedCall(number, begun[2], first_arguments)
-            return
+        interrupted = BEGUN.match(line) if line.endswith(UNFINISHED) else None
         resumed = RESUMED.match(line)
-        if resumed is None:
-            self.read_joined_line(number, number, line)
-            return
+        if interrupted:
+            thread, name = interrupted.groups()
+            first_arguments = line[interrupted.end() : -len(UNFINISHED)]
+            self.interrupted_calls[thread] = InterruptedCall(number, name, first_arguments)
+        elif resumed:
+            self.read_resumed_line(number, resumed)
+        else:
+            self.read_whole_line(number, number, line)
+
+    def read_resumed_line(self, number: int, resumed: re.Match[str]) -> None:
+        """Reads the second part of a call, by the match of RESUMED, together with the first. If
+        that was needless, the second part and its frames are left out. LogError as in
+        read_line()."""
         call = self.interrupted_calls.pop(resumed[1], None)
         if call is None:
             self.call_with_frames = None
         else:
-            joined = f'{resumed[1]} {call.name}({call.first_arguments}{resumed[3]}'
-            self.read_joined_line(call.begin, number, joined)
+            whole_line = f'{resumed[1]} {call.name}({call.first_arguments}{resumed[3]}'
+            self.read_whole_line(call.begin, number, whole_line)
 
-    def read_joined_line(self, begin: int, end: int, line: str) -> None:
-        """Reads a line that isn't interrupted, or the joined parts of one that was, with the
-        numbers of the first and the last part. LogError as in read_line()."""
+    def read_whole_line(self, begin: int, end: int, line: str) -> None:
+        """Reads a line that isn't needless, and wasn't interrupted, or whose parts are joined.
+        begin and end are the numbers of its first and last part. LogError as in read_line()."""
         match = LINE.match(line)
         if match:
             self.add_call(match, begin, end)
@@ -177,9 +183,9 @@ class LogReader:
         self.log.calls.append(self.call_with_frames)
 
     def add_event(self, number: int, line: str) -> None:
-        """Adds what a line that is no call reports: that a thread ended, or got another number. If
-        it begins a call, its number becomes the log's cut_line, unless there is one. Any other line
-        is left out, and so are the frames after each of these lines."""
+        """Adds the event that a line reports: a thread ended, or got another number. The number of
+        the first line that only begins a call becomes the log's cut_line. Any other line is left
+        out, and so are the frames after each of these lines."""
         self.call_with_frames = None
         ended, superseded = ENDED.match(line), SUPERSEDED.match(line)
         if ended:

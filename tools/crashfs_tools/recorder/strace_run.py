@@ -199,9 +199,9 @@ class StraceRun:
             self.signal_to_send = number
 
     def send_noted_signal(self) -> None:
-        """Sends signal_to_send, if there is one, to COMMAND's processes, but not to strace. It is
-        None afterwards, unless no process got the signal, or it is SIGKILL: then the next call
-        sends it again, as a process may have begun meanwhile."""
+        """Sends signal_to_send, unless that is None, to COMMAND's processes, but not to strace, and
+        sets it to None. It stays if no process got the signal, and if it is SIGKILL: then the next
+        call sends it again, as a process may have begun meanwhile."""
         number = self.signal_to_send
         if number is None or not self.guard.send_signal(number, spared_process=self.strace_process):
             return

@@ -2,7 +2,7 @@
 
 from __future__ import annotations
 
-from typing import Callable, Dict, Iterator, List, Optional, Tuple
+from typing import Callable, Dict, Iterable, Iterator, List, Optional, Tuple
 
 from crashfs_tools.common.file_bytes import Bytes
 
@@ -103,9 +103,7 @@ class Translator:
         """Adds what comes after the last call: lines of output without a line feed, the stores that
         the last copy shows, and reports on names and mapped files that the trace lacks."""
         self.recording.end_streams()
-        for copy in self.file_copies.copies:
-            if copy.is_last:
-                self.add_stores(copy)
+        self.add_stores([copy for copy in self.file_copies.copies if copy.is_last])
         for path in self.file_copies.unopened_paths:
             self.recording.report('mapped, and it could not be opened to be followed', path)
         self.report_untraced_names()
@@ -119,8 +117,7 @@ class Translator:
             self.translate_returned_call(call)
             return
         # Mapped files are copied after a call that failed, too.
-        for copy in self.call_copies.get(id(call), []):
-            self.add_stores(copy)
+        self.add_stores(self.call_copies.get(id(call), []))
         if call.name == EXIT:
             self.files.processes.pop(call.thread, None)
         elif call.name == SUPERSEDE:
@@ -207,15 +204,14 @@ class Translator:
         process = self.find_process(call.thread, call.end)
         handler = HANDLERS.get(call.name) or SOCKET_HANDLERS.get(call.name)
         changed_file = self.file_changed_by(process, call) if self.call_copies else None
+        copies = self.call_copies.get(id(call), [])
         # The copy of a file that the call itself changed has that change in it already.
-        for copy in self.call_copies.get(id(call), []):
-            self.add_stores(copy, changed_file)
+        self.add_stores(copies, lambda node: node is not changed_file)
         if handler is not None:
             handler(self.files, process, call)
         if call.begin in self.file_copies.numbers_by_line:
             self.note_mapped_file(process, call, self.file_copies.numbers_by_line[call.begin])
-        for copy in self.call_copies.get(id(call), []):
-            self.add_own_stores(copy, changed_file)
+        self.add_stores(copies, lambda node: node is changed_file)
 
     def note_mapped_file(self, process: Process, call: Call, number: int) -> None:
         """Notes that a call mapped the file with this number; nothing if the file isn't followed.
@@ -238,24 +234,25 @@ class Translator:
         target = call.descriptor(call_order.TARGET_INDEXES.get(call.name, 0))
         return node_of(process.open_file(target))
 
-    def add_stores(self, copy: FileCopy, changed_file: Optional[Node] = None) -> None:
-        """Adds the stores that a copy shows to all mapped files except changed_file: the one that
-        the copy's call itself changes, or None if there is none."""
-        for number, node in self.files_to_store(copy):
-            if node is not changed_file:
-                self.add_stores_of_file(copy, number, node)
+    def add_stores(
+        self, copies: Iterable[FileCopy], is_chosen: Callable[[Node], bool] = lambda node: True
+    ) -> None:
+        """Adds the stores that these copies show to the mapped files for which is_chosen() is True:
+        to all if it isn't given."""
+        for copy in copies:
+            self.add_stores_of_copy(copy, is_chosen)
 
-    def add_own_stores(self, copy: FileCopy, changed_file: Optional[Node]) -> None:
-        """Adds the stores that a copy shows to the file that the copy's call itself changes;
-        nothing if that is None. add_stores() adds those to the other files."""
+    def add_stores_of_copy(self, copy: FileCopy, is_chosen: Callable[[Node], bool]) -> None:
+        """Adds the stores that a copy shows to the files for which is_chosen() is True."""
         for number, node in self.files_to_store(copy):
-            if node is changed_file:
-                self.add_stores_of_file(copy, number, node)
+            if is_chosen(node):
+                data, has_one_writer = copy.bytes_by_number[number], copy.has_one_writer(number)
+                mapped_stores.add_stores(self.files, node, data, has_one_writer=has_one_writer)
 
     def files_to_store(self, copy: FileCopy) -> Iterator[Tuple[int, Node]]:
-        """Makes a copy the newest one of each file that it has, unless a newer one is known, and
-        yields the file's number and node. The bytes of a file whose mmap isn't translated yet wait
-        in early_bytes instead."""
+        """Yields the number and the node of each file in a copy, unless a newer copy of the file
+        was used already. The bytes of a file whose mmap isn't translated yet are kept in
+        early_bytes instead. Sets newest_copies."""
         for number, data in copy.bytes_by_number.items():
             node = self.mapped_nodes.get(number)
             if not self.note_newest_copy(copy, number):
@@ -264,11 +261,6 @@ class Translator:
                 self.early_bytes[number] = data
             else:
                 yield number, node
-
-    def add_stores_of_file(self, copy: FileCopy, number: int, node: Node) -> None:
-        """Adds the stores that a copy shows to the file with this number, whose node is given."""
-        data, has_one_writer = copy.bytes_by_number[number], copy.has_one_writer(number)
-        mapped_stores.add_stores(self.files, node, data, has_one_writer=has_one_writer)
 
     def note_newest_copy(self, copy: FileCopy, number: int) -> bool:
         """Makes a copy the newest one of the file with this number, and returns True. Returns

@@ -39,10 +39,10 @@ def on_lseek(files: LiveFiles, process: Process, call: Call) -> None:
 
 def on_llseek(files: LiveFiles, process: Process, call: Call) -> None:
     """Sets the offset of the open file by the lseek of 32-bit programs, whose result is only 0: the
-    offset is in the first argument that strace shows as `[42]`. If none is shown so, it stays."""
+    offset is in the first argument that strace shows as `[42]`. Nothing if it shows none so."""
     file = process.open_file(call.descriptor())
-    cells = [arguments.parse_pointed_integer(word) for word in call.arguments]
-    offsets = [cell for cell in cells if cell is not None]
+    numbers = [arguments.parse_pointed_integer(word) for word in call.arguments]
+    offsets = [number for number in numbers if number is not None]
     if file is not None and offsets:
         file.offset = offsets[0]
 
@@ -112,11 +112,10 @@ def write_to_descriptor(
     flags: str = '',
     missing_reason: str = NOT_IN_LOG,
 ) -> None:
-    """Writes the bytes that a call wrote, as many as its result, to the descriptor in the argument
-    with this index: to a stream, or to a file, at the offset, or at that of the open file (None).
-    If data is None, or has fewer bytes, missing_reason is reported, as write_to_stream() and
-    drop_bytes() do. If the descriptor isn't followed, find_open_file() may report it, and nothing
-    is written."""
+    """Writes the bytes that a call wrote, as many as its result, to the stream or file of the
+    descriptor in the argument with this index: at the offset, or at that of the open file (None).
+    If data is None, or has fewer bytes, missing_reason is reported for a file or an acknowledging
+    stream. Nothing is written if the descriptor isn't followed, or is of a directory."""
     written = None if data is None or len(data) < call.result else data[: call.result]
     reason = f'{call.name}: {missing_reason}'
     stream = files.find_output_stream(process, call, index)

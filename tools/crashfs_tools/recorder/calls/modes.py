@@ -40,10 +40,11 @@ def set_mode(files: LiveFiles, node: Optional[Node], word: str) -> None:
     Nothing if the node is None, as it isn't followed."""
     # Some programs also pass the bits of the file's kind, which the kernel ignores.
     mode = parse_octal(word) & 0o7777
-    if node is not None:
-        node.mode = mode & PERMISSIONS
+    if node is None:
+        return
+    node.mode = mode & PERMISSIONS
     path = path_in_trace(node)
-    if node is None or path is None:
+    if path is None:
         return
     note_extra_bits(files, node, mode)
     if mode & PERMISSIONS != files.recording.tree.entries[path].mode:

@@ -38,10 +38,10 @@ def on_renameat(files: LiveFiles, process: Process, call: Call) -> None:
 def rename_path(
     files: LiveFiles, full_source: Optional[str], full_target: Optional[str], *, flags: str
 ) -> None:
-    """Renames what is at an absolute path, or exchanges it, as the flags say; processes keep their
-    working directories by new paths. A rename of the recorded directory itself, or onto it, is only
-    reported; so is a device that RENAME_WHITEOUT leaves. Nothing if both paths are outside the
-    directory, ignored, or None."""
+    """Renames a file or directory by absolute paths, or exchanges two, as the flags say, and gives
+    the processes in them their new working directories. A rename of the recorded directory itself,
+    or onto it, is only reported; so is a device that RENAME_WHITEOUT leaves. Nothing if both paths
+    are outside the directory, ignored, or None."""
     source, target = files.path_in_tree(full_source), files.path_in_tree(full_target)
     if source is None and target is None:
         return
@@ -50,22 +50,22 @@ def rename_path(
         return
     if source is not None and 'RENAME_WHITEOUT' in flags:
         files.recording.report('RENAME_WHITEOUT left a device', source)
-    has_exchange = 'RENAME_EXCHANGE' in flags
-    if full_source is not None and full_target is not None:
-        new_paths = paths_after_rename(full_source, full_target, has_exchange=has_exchange)
-        move_working_directories(files.processes.values(), new_paths)
-    if has_exchange:
+    new_paths = paths_after_rename(full_source, full_target, flags)
+    move_working_directories(files.processes.values(), new_paths)
+    if 'RENAME_EXCHANGE' in flags:
         exchange_paths(files, source, target)
     else:
         move_path(files, source, target)
 
 
-def paths_after_rename(source: str, target: str, *, has_exchange: bool) -> Dict[str, str]:
-    """The new paths, by the old ones, of the directories at two absolute paths after a rename: that
-    at the target is exchanged with the other, or replaced, which gives it its removed_path(). If
-    both paths are one, it stays."""
-    target_after = source if has_exchange else removed_path(target)
-    # If both paths are one, the last value counts.
+def paths_after_rename(source: Optional[str], target: Optional[str], flags: str) -> Dict[str, str]:
+    """The new paths, by the old ones, of the directories that were at two absolute paths before a
+    rename. The one at the target has its removed_path(), if the rename isn't an exchange, and if
+    the paths differ. Empty if a path isn't known (None)."""
+    if source is None or target is None:
+        return {}
+    target_after = source if 'RENAME_EXCHANGE' in flags else removed_path(target)
+    # If the paths are equal, the last value counts.
     return {target: target_after, source: target}
 
 
