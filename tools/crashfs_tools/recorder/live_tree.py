@@ -57,8 +57,8 @@ class Node:
     traced_paths has the paths at which the trace has it. data is None for a directory or link, and
     for a file whose bytes are not followed any more; its size is still kept. is_temporary means a
     file of O_TMPFILE, for which was_synced counts until it has a name. has_new_rights, of a
-    directory, means that its mode or owner changed since its last sync. recent_changes has those
-    that a later change may overlap."""
+    directory, means that its mode or owner changed since its last sync. recent_changes has the
+    changes that may have run at the same time as a later one."""
 
     is_directory: bool
     mode: int
@@ -158,6 +158,7 @@ class LiveTree:
     at which it is."""
 
     def __init__(self, root: Node) -> None:
+        """A tree that has only the root, which gets its name."""
         self.nodes: Dict[str, Node] = {}
         self.add_name('/', root)
 

@@ -55,8 +55,9 @@ MAPPED = re.compile(
 class FileCopy:
     """The bytes of the mapped files that changed since the copy before, by their numbers. line is
     the number of the log's last line that had been read. thread is the one that was stopped, 0 for
-    the copy at the end; is_alone means that its process has no other thread. shared_numbers has the
-    files that other processes may have mapped too."""
+    the copy at the end. is_alone means that its process has no other thread, and that no thread ran
+    while the copy before was made; the copy at the end has it too. shared_numbers has the files
+    that other processes may have mapped too."""
 
     line: int
     thread: int
