@@ -30,7 +30,7 @@ class AcceptedFailure(NamedTuple):
 
     @property
     def fields(self) -> Dict[str, str]:
-        """The entry as JSON has it, by KEYS; `until` is empty if it has no last day."""
+        """The entry as JSON has it, by KEYS. Without a last day `until` is an empty text."""
         until = self.until.isoformat() if self.until else ''
         return {**self._asdict(), 'until': until}
 
@@ -53,8 +53,8 @@ class AcceptedFailures:
     @staticmethod
     def read(path: str) -> AcceptedFailures:
         """Reads the entries of a file; their last days are compared with the local date of this
-        call. The file is a JSON list in UTF-8, maybe empty, of entries that parse_entry() accepts:
-        Refused if it is another one, or can't be read."""
+        call. The file must be a JSON list in UTF-8, maybe empty, of entries that parse_entry()
+        accepts: Refused if it isn't, or can't be read."""
         try:
             with open(path, encoding='utf-8') as file:
                 values = json.load(file)

@@ -26,6 +26,11 @@ class FailingCounts(NamedTuple):
     after: int
 
     @property
+    def is_lower(self) -> bool:
+        """Whether fewer states fail after the change than before it."""
+        return self.after < self.before
+
+    @property
     def text(self) -> str:
         """How many states fail after the change and before it, as `2 states fail, 5 before`; only
         `none fails` if none fails after the change."""
@@ -69,9 +74,14 @@ class AdviceResult:
         )
 
     @property
+    def failing_counts(self) -> FailingCounts:
+        """How many different states fail in all, before and after the advised syncs are added."""
+        return FailingCounts(self.before, self.after)
+
+    @property
     def is_helpful(self) -> bool:
         """Whether fewer states fail with the advice than without it."""
-        return self.after < self.before
+        return self.failing_counts.is_lower
 
     def text(self, sync_count: int) -> str:
         """A sentence on a helpful advice of so many syncs: how many of the group's states are left,

@@ -125,8 +125,7 @@ class AdviceTrials:
         if not points:
             return AllSyncs(points, FailingCounts(self.failing_before, self.failing_before))
         if len(advised) == 1 and advised[0].advice.result is not None:
-            result = advised[0].advice.result
-            return AllSyncs(points, FailingCounts(result.before, result.after))
+            return AllSyncs(points, advised[0].advice.result.failing_counts)
         planned = self.make_copy(points).planned
         self.try_states(planned)
         failing_after = count_failing_states(planned.plan, self.outcomes)
@@ -183,10 +182,9 @@ class AdviceTrials:
         )
 
     def try_states(self, planned: PlannedTrace) -> None:
-        """Tries the states of the last copy, of which this is the plan, whose outcomes aren't
-        known. Afterwards `outcomes` has the outcomes of the copy's sets, but for those that
-        --fail-fast left untried. After an exception, as of Trials.try_states(), nothing is added.
-        """
+        """Tries those states of a planned copy, the last one that was made, whose outcomes aren't
+        known. Afterwards `outcomes` has those of the copy's sets, but for what --fail-fast left
+        untried. After an exception, as of Trials.try_states(), nothing is added."""
         plan = planned.plan
         by_trial = self.known_outcomes(plan)
         numbers = Results(plan).own_numbers.items()

@@ -67,17 +67,19 @@ def search_disks(trials: Trials, outcomes: Dict[int, Outcome]) -> Sightings:
     memory if there is room, since a crash is then made in a fraction of a second; they are removed
     in any case. Exceptions as in DiskSearch.run(); OSError also if the trace is gone."""
     with open(trials.planned.trace, 'rb') as file:
-        text = file.read()
-    trace, lines = read_trace_with_numbers(text.decode('utf-8', 'surrogateescape'))
+        trace_bytes = file.read()
+    text = trace_bytes.decode('utf-8', 'surrogateescape')
+    trace, line_numbers = read_trace_with_numbers(text)
     size = most_session_bytes(trace)
     filesystems = [
         with_room_for(filesystem, size)
         for filesystem in filesystems_by_names(trials.options.disks or [])
     ]
-    room = IMAGES * process_count(trials) * sum(filesystem.size for filesystem in filesystems)
-    with Guard('crashfs-disks', MEMORY if has_room(MEMORY, room) else None) as guard:
-        search = DiskSearch(trials, outcomes, text)
-        pool = DiskPool(filesystems, trace, guard.directory, line_numbers=lines)
+    image_bytes = sum(filesystem.size for filesystem in filesystems)
+    all_bytes = IMAGES * process_count(trials) * image_bytes
+    with Guard('crashfs-disks', MEMORY if has_room(MEMORY, all_bytes) else None) as guard:
+        search = DiskSearch(trials, outcomes, trace_bytes)
+        pool = DiskPool(filesystems, trace, guard.directory, line_numbers=line_numbers)
         return search.run(pool, trials.workplace.progress.show_moments)
 
 
@@ -233,7 +235,7 @@ class SearchResult(NamedTuple):
 
     def explanation(self, tree: TreeAndCount) -> Explanation:
         """Why no tried state has a wanted tree: UNTRIED if an allowed set leaves the tree, OUTSIDE
-        if none does, UNKNOWN if the search ended at a limit before one was found."""
+        if none does, UNKNOWN if the search ended at a limit without finding one."""
         if tree in self.found:
             return Explanation(UNTRIED)
         return Explanation(OUTSIDE) if self.is_whole else Explanation(UNKNOWN, self.searched_states)

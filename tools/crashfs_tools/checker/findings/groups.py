@@ -101,7 +101,8 @@ class Group:
 
     @property
     def is_torn(self) -> bool:
-        """Whether a crash kept a part of one line: no sync can come between its parts."""
+        """Whether a crash kept only a part of a line, so that both lines of the pair are this one.
+        No sync can come between its parts."""
         return self.kept_line is not None and self.kept_line == self.lost_line
 
     @property
@@ -171,7 +172,7 @@ class Group:
         use, else that of no_loss_advice()."""
         advice = no_loss_advice(self.kept_line, self.lost_line)
         if self.kept_line is not None and self.lost_line is not None:
-            if self.swap_counts is not None and self.swap_counts.after < self.swap_counts.before:
+            if self.swap_counts is not None and self.swap_counts.is_lower:
                 swap = swap_text(self.kept_line, self.lost_line)
                 advice.remedy = f'{swap} (tried: then {self.swap_counts.text})'
             elif self.is_overwriting:
@@ -318,8 +319,8 @@ class Findings:
         return frozenset() if number in self.results.numbers_before else frozenset([(number,)])
 
     def line_at(self, place: Optional[int]) -> Optional[TraceLine]:
-        """The line of the micro-operation at a place; if the report lacks that line, one with the
-        micro-operation's kind as its word. None if the place is None."""
+        """The line of the micro-operation at a place; if the report lacks that line, a new one with
+        the micro-operation's kind as its word. None if the place is None."""
         if place is None:
             return None
         operation = self.plan.operations[place]

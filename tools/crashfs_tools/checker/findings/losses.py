@@ -45,7 +45,7 @@ def find_losses(trials: Trials, planner: Planner, findings: Findings) -> None:
     """Finds the smallest losses of examples whose pair is a guess, of SEARCHED at most, or of
     SEARCHED_OF_ALL if all crash states are listed. Adds them to the findings, which make their
     groups again; after an exception those that were added stay. The planner makes plans of the sets
-    to try: Refused if the program refuses one. Exceptions too as in find_equal_sets() and
+    to try: Refused if the program refuses one. Other exceptions as in find_equal_sets() and
     Trials.try_states()."""
     equal_sets = find_equal_sets(trials.planned, findings)
     left_count = SEARCHED_OF_ALL if findings.plan.has_all_states else SEARCHED

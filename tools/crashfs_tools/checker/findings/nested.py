@@ -48,9 +48,9 @@ class RecoveryRecorder:
         self.guard = trials.guard
 
     def record_recovery(self, state: State) -> Trials:
-        """Records COMMAND in the tree of a state; returns the trials of the states that a crash of
-        it leaves, by the second reading if the program doesn't take the trace's version. Refused if
-        COMMAND can't be recorded, or its trace is too long for one plan; ProgramFault if the
+        """Records COMMAND in the tree of a state; returns the trials of what a crash of that run
+        leaves, by the second reading if the program doesn't take the trace's version. Refused if
+        COMMAND can't be recorded, or the trace is too long for one plan; ProgramFault if the
         program doesn't give the tree. The folder of the trace stays until the guard ends, also
         after an exception: a second recording of one state is a FileExistsError."""
         folder = os.path.join(self.guard.directory, f'recovery-{state.number}')
@@ -148,6 +148,7 @@ class SecondCrashTrials:
         others = [state for state in tried if state not in chosen]
         left_count = self.recoveries_left - len(chosen)
         if left_count > 0 and others:
+            # The step is rounded up, so that no more than left_count are taken.
             chosen += others[:: -(-len(others) // left_count)]
         return chosen
 

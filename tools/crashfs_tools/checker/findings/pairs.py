@@ -75,8 +75,8 @@ class Pairs:
     numbers."""
 
     def __init__(self, plan: Plan, outcomes: Dict[int, Outcome]) -> None:
-        """`outcomes` are those of the states, by their numbers. Causes are counted now: it mustn't
-        get others later."""
+        """`outcomes` has those of the states, by their numbers, and mustn't get others later, since
+        their causes are counted now."""
         self.plan = plan
         self.outcomes = outcomes
         prefixes = [state for state in plan.listed if state.family == 'prefix']
@@ -95,9 +95,9 @@ class Pairs:
         compare = self.comparison_with(self.outcomes[state.number])
         if state.family == 'prefix':
             return self.prefix_pair(state.numbers[0], compare)
-        equal = self.equal_prefixes.get(state.trial)
-        if equal is not None and is_failing_alike(self.prefixes.get(equal), compare):
-            return self.prefix_pair(equal, compare)
+        equal_length = self.equal_prefixes.get(state.trial)
+        if equal_length is not None and is_failing_alike(self.prefixes[equal_length], compare):
+            return self.prefix_pair(equal_length, compare)
         if state.family == 'hole':
             return self.hole_pair(state, compare)
         return self.pick_pair(state, compare)

@@ -32,23 +32,24 @@ class SecondCrash(NamedTuple):
 
 
 def second_crash_entries(recoveries: Iterable[Recovery]) -> List[Tuple[Group, SecondCrash]]:
-    """Copies of the groups of all recoveries, in their order, each with the two crashes of its
-    example. Of groups with the same key only the first is an entry. It gets the states of the
-    others, of which nothing else is reported. Copies are as copies_of_groups() makes them."""
+    """The entries of a report: copies of the groups of all recoveries, in their order, as
+    copies_of_groups() makes them. Of groups with the same key only the first is an entry. It gets
+    the states of the others, of which nothing else is reported."""
     entries: Dict[Tuple[object, ...], Tuple[Group, SecondCrash]] = {}
-    for recovery in recoveries:
-        for copy in copies_of_groups(recovery):
-            second_crash = SecondCrash(recovery.state, recovery.crash_places[copy.example.number])
-            first, _ = entries.setdefault(copy.key, (copy, second_crash))
-            if first is not copy:
-                first.states.extend(copy.states)
-                first.tried_states |= copy.tried_states
+    for copy, second_crash in copies_of_groups(recoveries):
+        first, _ = entries.setdefault(copy.key, (copy, second_crash))
+        if first is not copy:
+            first.states.extend(copy.states)
+            first.tried_states |= copy.tried_states
     return list(entries.values())
 
 
-def copies_of_groups(recovery: Recovery) -> Iterator[Group]:
-    """A copy of each group of a recovery. The rows of its tried_states begin with the number of the
-    first crash's state. The copy has a list of states of its own, but shares the group's advice."""
-    for group in recovery.groups:
-        tried_states = frozenset((recovery.state, *row) for row in group.tried_states)
-        yield replace(group, states=list(group.states), tried_states=tried_states)
+def copies_of_groups(recoveries: Iterable[Recovery]) -> Iterator[Tuple[Group, SecondCrash]]:
+    """A copy of each group of some recoveries, with the two crashes of its example. The rows of the
+    copy's tried_states begin with the number of the first crash's state. The copy has a list of
+    states of its own, but shares the group's advice."""
+    for recovery in recoveries:
+        for group in recovery.groups:
+            tried_states = frozenset((recovery.state, *row) for row in group.tried_states)
+            copy = replace(group, states=list(group.states), tried_states=tried_states)
+            yield copy, SecondCrash(recovery.state, recovery.crash_places[group.example.number])

@@ -40,8 +40,8 @@ class EqualSets:
         return self.outcomes.get(self.tree_and_says(kept_set))
 
     def tree_and_says(self, kept_set: int) -> Tuple[Digest, int]:
-        """What a set leaves: its tree, as a digest, and how many lines are acknowledged. It is
-        computed once for each set."""
+        """What a set leaves: a tree, as its digest, and how many lines are acknowledged. This is
+        computed once for each set, and kept."""
         if kept_set not in self.left_by_sets:
             tree = self.trees.digest(kept_set)
             self.left_by_sets[kept_set] = tree, self.trees.count_says(kept_set)

@@ -133,9 +133,9 @@ class Sightings:
 
 
 def keep_first_crashes(crashes: Dict[str, Crash], more: Dict[str, Crash]) -> None:
-    """Adds `more` crashes to `crashes`; each has one crash of a file system, by its name. Of two
-    crashes of one file system the first by Crash.rank stays: before it the kernel was made to write
-    less, or it is the earlier one in the session. Of equal ones that in `crashes` stays."""
+    """Adds `more` crashes to `crashes`; both are by the names of file systems. Of two crashes of
+    one file system the lower one by Crash.rank stays: the one before which the kernel was made to
+    write less, then the earlier one in the session, then the one in `crashes`."""
     for name, crash in more.items():
         if name not in crashes or crash.rank < crashes[name].rank:
             crashes[name] = crash

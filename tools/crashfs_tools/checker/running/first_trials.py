@@ -70,15 +70,8 @@ class FirstTrials:
         `hints` are its last lines. An outcome without an answer isn't refused."""
         if outcome.result == BAD:
             name = 'COMMAND' if self.is_command else 'the recovery'
-            raise Refused(
-                '\n'.join(
-                    [
-                        f'{name} fails in {tree_name}: {outcome.cause}',
-                        *self.hints_for(outcome.cause),
-                        *hints,
-                    ]
-                )
-            )
+            first_line = f'{name} fails in {tree_name}: {outcome.cause}'
+            raise Refused('\n'.join([first_line, *self.hints_for(outcome.cause), *hints]))
 
     def hints_for(self, cause: str) -> List[str]:
         """One or more lines that ask what may be wrong with COMMAND, or with the recovery function,

@@ -252,14 +252,20 @@ def merge_shards(shards: List[AllResults]) -> AllResults:
     stopped may have fewer windows. Refused if a shard is missing, given twice, or of another
     check; ValueError if there are no shards."""
     longest = max(shards, key=lambda shard: len(shard.windows))
-    for shard in shards:
-        refuse_different_checks(longest, shard)
-    refuse_different_commands([shard.head.command for shard in shards])
-    refuse_wrong_shards([shard.head.shard.part for shard in shards], longest.head.shard.parts)
+    refuse_other_reports(longest, shards)
     for shard in shards:
         longest.add_outcomes(shard)
     not_done = dict.fromkeys(line for shard in shards for line in shard.not_done)
     return AllResults(merged_head(longest, shards), longest.windows, not_done=tuple(not_done))
+
+
+def refuse_other_reports(longest: AllResults, shards: List[AllResults]) -> None:
+    """Refused unless reports are all shards of one check, each given once. `longest` is one of
+    those with the most windows."""
+    for shard in shards:
+        refuse_different_checks(longest, shard)
+    refuse_different_commands([shard.head.command for shard in shards])
+    refuse_wrong_shards([shard.head.shard.part for shard in shards], longest.head.shard.parts)
 
 
 def merged_head(longest: AllResults, shards: List[AllResults]) -> Head:

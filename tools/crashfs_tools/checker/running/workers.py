@@ -119,16 +119,20 @@ class StateWorkers:
         Refused if a process was killed, OSError if one can't be started. Other processes may still
         run after a failure or an exception."""
         self.start_workers(sorted(wanted), line_counts)
+        while self.workers and not self.is_ending:
+            for worker in self.ready_workers():
+                if not self.read_outcomes(worker):
+                    self.reap_worker(worker)
+
+    def ready_workers(self) -> List[Worker]:
+        """Those of `workers` whose pipe has something to read, or is at its end. Waits at most
+        POLL_SECONDS for one, and may return none."""
         poll = select.poll()
         workers = {worker.pipe: worker for worker in self.workers}
         for pipe in workers:
             poll.register(pipe, select.POLLIN)
-        while workers and not self.is_ending:
-            # A signal that comes as a wait begins is handled only after it: so each wait is short.
-            for pipe, _ in poll.poll(POLL_SECONDS * 1000):
-                if not self.read_outcomes(workers[pipe]):
-                    poll.unregister(pipe)
-                    self.reap_worker(workers.pop(pipe))
+        # A signal that comes as a wait begins is handled only after it: so each wait is short.
+        return [workers[pipe] for pipe, _ in poll.poll(POLL_SECONDS * 1000)]
 
     def read_outcomes(self, worker: Worker) -> bool:
         """Waits for lines of a process, and handles them. Returns False at the end of its pipe. If
