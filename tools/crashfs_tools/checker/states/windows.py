@@ -139,8 +139,7 @@ class Windows:
         states come that all can be tried. `end` itself, where `planned` ends, if there is no such
         step, if `planned` has all crash states, or if the options don't ask for all. Errors as in
         has_few_states()."""
-        all_states = planned.plan.all_states
-        if all_states is None or all_states.are_listed:
+        if planned.plan.all_states is None or planned.plan.has_all_states:
             return end
         ends = ends_without_pending(steps, end, ReadingSets(planned.trace))
         low, high = 0, len(ends)
