@@ -3,14 +3,13 @@
 from __future__ import annotations
 
 import os
-import select
 import signal
 import sys
 from contextlib import ExitStack
 from typing import Any, BinaryIO, Dict, Iterator, List, NoReturn, Tuple
 
 from .descendants import die_with_parent
-from .pipes import open_pipe
+from .pipes import open_pipe, poll_for_input
 from .signals import STOPS, stop_signals_blocked
 
 INTERNAL_ERROR = 70
@@ -113,10 +112,7 @@ class ForkedReading:
 def read_pipes(*pipes: int) -> Iterator[Tuple[int, bytes]]:
     """Reads pipes to their ends, by their descriptors, and waits for them without limit. Yields
     each piece when it has come, after its pipe's descriptor. The pipes stay open."""
-    poll = select.poll()
-    open_pipes = set(pipes)
-    for pipe in open_pipes:
-        poll.register(pipe, select.POLLIN)
+    poll, open_pipes = poll_for_input(*pipes), set(pipes)
     while open_pipes:
         pipe, _ = poll.poll()[0]
         piece = os.read(pipe, PIECE_BYTES)

@@ -22,7 +22,7 @@ from .command import print_line
 from .mount_table import MountTable
 from .pipes import open_pipe
 from .removal import TRASH_ENDING, remove_tree
-from .signals import STOPS, stop_signals_blocked
+from .signals import STOPS, ignore_signals, stop_signals_blocked
 
 VARIABLE = 'CRASHFS_GUARD'
 # What the watcher answers if it is killed before it answers.
@@ -153,8 +153,7 @@ class Guard:
         the first process always leaves a process that removes it."""
         try:
             # The first process may be gone before it reads the answer: that is no signal.
-            for signal_number in (*STOPS, signal.SIGPIPE):
-                signal.signal(signal_number, signal.SIG_IGN)
+            ignore_signals((*STOPS, signal.SIGPIPE))
             os.setsid()
             descendants.become_cleaner()
             null_device = os.open(os.devnull, os.O_RDWR)

@@ -1,9 +1,10 @@
-"""Pipes between this process and a fork of it."""
+"""Pipes between this process and another one that it starts."""
 
 from __future__ import annotations
 
 import fcntl
 import os
+import select
 from contextlib import ExitStack
 from typing import Tuple
 
@@ -28,3 +29,12 @@ def duplicate_above_standard_streams(descriptor: int, opened: ExitStack) -> int:
     duplicate = fcntl.fcntl(descriptor, fcntl.F_DUPFD_CLOEXEC, 3)
     opened.callback(os.close, duplicate)
     return duplicate
+
+
+def poll_for_input(*pipes: int) -> select.poll:
+    """A poll object for the reading ends of pipes, given by their descriptors: its poll() waits
+    until one of them has something to read, or is at its end."""
+    poll = select.poll()
+    for pipe in pipes:
+        poll.register(pipe, select.POLLIN)
+    return poll

@@ -5,7 +5,6 @@ from __future__ import annotations
 
 import io
 import os
-import select
 import shutil
 import subprocess
 import tempfile
@@ -18,6 +17,7 @@ from .archive import ArchiveFault, Member, parse_state_number, read_members
 from .command import Refused, ending_text
 from .entry import Entries
 from .forked_reading import ForkedReading
+from .pipes import poll_for_input
 
 PACKAGE = os.path.dirname(os.path.dirname(os.path.realpath(__file__)))
 LIBRARY = os.path.dirname(PACKAGE)
@@ -279,9 +279,7 @@ class ProgramOutput(io.RawIOBase):
         self.output_pipe, self.error_pipe = output_pipe, error_pipe
         self.error_text = b''
         self.has_error_end = False
-        self.poll = select.poll()
-        self.poll.register(output_pipe, select.POLLIN)
-        self.poll.register(error_pipe, select.POLLIN)
+        self.poll = poll_for_input(output_pipe, error_pipe)
 
     def readable(self) -> bool:
         """True, as RawIOBase asks of a stream that can be read."""

@@ -4,7 +4,7 @@ from __future__ import annotations
 
 import signal
 from contextlib import contextmanager
-from typing import Iterator, Optional, Set, Tuple, Union
+from typing import Iterable, Iterator, Optional, Set, Tuple, Union
 
 STOPS = (signal.SIGINT, signal.SIGTERM, signal.SIGHUP)
 
@@ -30,6 +30,13 @@ def stop_signals() -> Tuple[signal.Signals, ...]:
     return STOPS
 
 
+def ignore_signals(signal_numbers: Iterable[int]) -> None:
+    """From here on this process, its forks and programs that it starts ignore these signals.
+    ValueError outside the main thread."""
+    for signal_number in signal_numbers:
+        signal.signal(signal_number, signal.SIG_IGN)
+
+
 def raise_on_stop_signals() -> None:
     """From here on the first of stop_signals() raises Stopped in the main thread, which must be the
     caller's. That signal also ends a time limit; later ones of STOPS are ignored, so that the
@@ -39,8 +46,7 @@ def raise_on_stop_signals() -> None:
         """A handler of the stop signals: ends a time limit, ignores STOPS from then on, and raises
         Stopped."""
         signal.setitimer(signal.ITIMER_REAL, 0)
-        for later_signal in STOPS:
-            signal.signal(later_signal, signal.SIG_IGN)
+        ignore_signals(STOPS)
         raise Stopped(signal_number)
 
     for signal_number in stop_signals():

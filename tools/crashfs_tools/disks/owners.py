@@ -24,7 +24,7 @@ FIRST_UNKNOWN = 200_000
 class Numbers:
     """The numbers of users, or of groups. A name keeps the first number that it is given."""
 
-    def __init__(self, is_for_groups: bool) -> None:
+    def __init__(self, *, is_for_groups: bool) -> None:
         """With is_for_groups they are numbers of groups, otherwise of users. No name has a number
         yet."""
         self.is_for_groups = is_for_groups

@@ -10,6 +10,7 @@ from typing import Callable, Dict, Iterator, List, NamedTuple, Sequence, Tuple
 
 from crashfs_tools.common.descendants import die_with_parent
 from crashfs_tools.common.entry import Entries
+from crashfs_tools.common.signals import ignore_signals
 from crashfs_tools.common.trace import Trace
 
 from .crashing import CrashMaker
@@ -88,8 +89,7 @@ def become_worker(parent: int) -> None:
     if it can't have mounts of its own."""
     _, hard_limit = resource.getrlimit(resource.RLIMIT_NOFILE)
     resource.setrlimit(resource.RLIMIT_NOFILE, (hard_limit, hard_limit))
-    for signal_number in (signal.SIGINT, signal.SIGHUP):
-        signal.signal(signal_number, signal.SIG_IGN)
+    ignore_signals((signal.SIGINT, signal.SIGHUP))
     signal.signal(signal.SIGTERM, signal.SIG_DFL)
     die_with_parent()
     if os.getppid() != parent:

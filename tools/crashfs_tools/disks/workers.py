@@ -120,9 +120,8 @@ def ready_pipes(busy_pipes: List[Connection]) -> Iterator[Connection]:
     """The pipes that have something to receive, each when it is ready, until the list is empty: the
     caller receives what is yielded, and removes pipes that get no further task from the list."""
     while busy_pipes:
-        for pipe in wait(busy_pipes, TURN_SECONDS):
-            assert isinstance(pipe, Connection)
-            yield pipe
+        ready = wait(busy_pipes, TURN_SECONDS)
+        yield from (pipe for pipe in ready if isinstance(pipe, Connection))
 
 
 def send_next_task(pipe: Connection, remaining_tasks: Iterator[Task]) -> bool:
