@@ -310,7 +310,7 @@ class Trials:
         """Tries the states of the shard that have no outcome yet, as try_left() does, adds each
         outcome to the results, and then calls after_each. If all crash states are asked for, but
         are too many or too slow, only the families and what was drawn are chosen in the results.
-        Returns whether each state to try has an outcome: with --fail-fast some may lack it."""
+        Returns whether each state to try has an outcome: with --fail-fast some may lack one."""
         plan = results.plan
         if plan.all_states is not None and not plan.has_all_states:
             results.choose(states_in_batches(results, has_all=False))
@@ -327,9 +327,9 @@ class Trials:
         try:
             return self.try_left(results, pace, keep_outcome)
         except TooSlow:
-            # The pace says so only once.
             results.choose(states_in_batches(results, has_all=False))
-            return self.try_left(results, pace, keep_outcome)
+        # The pace raises that only once.
+        return self.try_left(results, pace, keep_outcome)
 
     def try_left(self, results: Results, pace: Pace, on_outcome: OnOutcome) -> bool:
         """Tries the states of the shard that have no outcome yet, which on_outcome must add to the
