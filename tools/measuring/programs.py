@@ -1,4 +1,5 @@
-"""Benchmark programs that are built, and the tally of the rows that they print."""
+"""Benchmark programs that are built, how programs are run, and the tally of the rows that they
+print."""
 
 from __future__ import annotations
 

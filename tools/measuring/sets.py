@@ -122,10 +122,10 @@ def add_set_rows(programs: Programs, tally: Tally, rows: Tuple[Row, ...] = ROWS)
             except OSError as error:
                 tally.add_failure(str(error))
             else:
-                add_figures(row, usage, tally)
+                add_row_figures(row, usage, tally)
 
 
-def add_figures(row: Row, usage: Usage, tally: Tally) -> None:
+def add_row_figures(row: Row, usage: Usage, tally: Tally) -> None:
     """Prints the first figure of a row, and the second if it has one, from what its command
     used."""
     time_figure = usage.processor_seconds / row.unit_seconds / row.divisor

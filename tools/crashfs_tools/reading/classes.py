@@ -9,7 +9,8 @@ from __future__ import annotations
 
 from typing import Dict, FrozenSet, Iterator, List, NamedTuple, Optional, Set, Tuple, Union
 
-from .contents import Contents, IdTable
+from .contents import Contents
+from .id_table import IdTable
 from .micro import Acknowledgement, ChangeSize, LinkEntry, MicroOperation, Rights
 from .names import DIRECTORY, Entry, Inode
 from .order import Order

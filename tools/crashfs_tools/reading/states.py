@@ -88,17 +88,17 @@ class States:
         return tuple(self.items(place_set, self.rights_and_digest))
 
     def items(
-        self, place_set: int, file_items: Callable[[int, int], Tuple[Rights, DataOrDigest]]
+        self, place_set: int, read_file: Callable[[int, int], Tuple[Rights, DataOrDigest]]
     ) -> Iterator[Tuple[str, str, Rights, Optional[DataOrDigest]]]:
         """What is at each path of an allowed set's tree, in the order of the paths: the path, its
-        kind, its rights, and its data or digest, which is None for a directory. Those of a file
-        are what `file_items` returns for the file's number and the set."""
+        kind, its rights, and its data or digest, which is None for a directory. `read_file`
+        returns the last two of a file, from the file's number and the set."""
         nodes, directory_rights = self._nodes(place_set & self.entry_places)
         for path, node in nodes.items():
             if node.kind == DIRECTORY:
                 yield path, DIRECTORY, directory_rights[node.number], None
             else:
-                rights, data = file_items(node.number, place_set)
+                rights, data = read_file(node.number, place_set)
                 yield path, node.kind, rights, data
 
     def rights_and_data(self, file_number: int, place_set: int) -> Tuple[Rights, Data]:
