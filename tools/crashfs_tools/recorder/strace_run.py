@@ -146,8 +146,8 @@ class StraceRun:
 
     def copy_output(self, strace: subprocess.Popen[bytes], pipe: int) -> None:
         """Copies COMMAND's output from a pipe, as read_output() reads it, to standard output. If
-        nobody reads standard output any more, the pipe is still read; OSError if it can't be
-        written for another reason. To be called in the main thread."""
+        nobody reads standard output any more, the pipe is still read; OSError if standard output
+        can't be written for another reason. To be called in the main thread."""
         wakeup_read, wakeup_write = os.pipe2(os.O_NONBLOCK | os.O_CLOEXEC)
         signal.set_wakeup_fd(wakeup_write, warn_on_full_buffer=False)
         try:
@@ -162,10 +162,10 @@ class StraceRun:
     def read_output(
         self, strace: subprocess.Popen[bytes], pipe: int, wakeup_pipe: int
     ) -> Optional[bytes]:
-        """Waits for bytes of a pipe, or for a signal, which ends the wait by the wakeup pipe, and
-        passes the signal to COMMAND. Returns the bytes: empty if none came for a while. None at the
-        pipe's end, or if strace has ended and none came: a process that strace doesn't follow may
-        keep the pipe open."""
+        """Waits a while for bytes of a pipe, or for a signal, at which Python writes to the wakeup
+        pipe, and sends the noted signal. Returns the bytes of the pipe, empty if there are none
+        yet. None at its end, or if strace has ended and there are none: a process that strace
+        doesn't follow may keep the pipe open."""
         seconds = IDLE_SECONDS if self.signal_to_send is None else RESEND_SECONDS
         ready = select.select([pipe, wakeup_pipe], [], [], seconds)[0]
         if wakeup_pipe in ready:

@@ -274,5 +274,7 @@ def failure_of_command(status: int, passed_signals: Tuple[int, ...]) -> Optional
     """How COMMAND failed, in words, by its status as Popen has it; None if it didn't fail. An end
     by a signal that was passed to it is no failure: its status is the negative number of the
     signal, or, if COMMAND is a shell whose child ended so, 128 and the number."""
-    stopped = [-number for number in passed_signals] + [128 + number for number in passed_signals]
-    return None if status == 0 or status in stopped else ending_text(status)
+    ends_by_signals = [-number for number in passed_signals]
+    ends_of_shells = [128 + number for number in passed_signals]
+    has_failed = status not in [0, *ends_by_signals, *ends_of_shells]
+    return ending_text(status) if has_failed else None

@@ -237,8 +237,8 @@ def read_bytes(file: Optional[OpenFile], offset: Optional[int], length: int) -> 
 
 
 def on_sendfile(files: LiveFiles, process: Process, call: Call) -> None:
-    """Copies from a file, at the offset that the call names, or at that of the open file, to a
-    descriptor, which is the first argument."""
+    """Copies to the descriptor in the first argument from a file, at the offset that the call
+    names, or, if that is NULL, at the offset of the open file."""
     copy_between_descriptors(
         files,
         process,
@@ -251,8 +251,8 @@ def on_sendfile(files: LiveFiles, process: Process, call: Call) -> None:
 
 
 def on_copy_file_range(files: LiveFiles, process: Process, call: Call) -> None:
-    """Copies between two descriptors, at the offsets that the call names, or at those of the open
-    files if it names none. splice has the same arguments."""
+    """Copies between two descriptors. For each of them the call names an offset, or NULL, which
+    means that of the open file. splice has the same arguments."""
     copy_between_descriptors(
         files,
         process,

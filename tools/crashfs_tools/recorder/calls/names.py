@@ -103,8 +103,8 @@ def on_mkdirat(files: LiveFiles, process: Process, call: Call) -> None:
 
 
 def make_directory(files: LiveFiles, process: Process, path: Optional[str], mode_word: str) -> None:
-    """Makes a directory with the mode in an argument, without the bits of the umask; bits beyond
-    777 are only noted. Nothing if the path is None."""
+    """Makes a directory with the mode in an argument, without the bits of the umask and those of
+    SET_ID; another one beyond 777 is only noted. Nothing if the path is None."""
     if path is not None:
         bits = mode_of_new_node(process, mode_word) & ~SET_ID
         node = Node.directory(bits & PERMISSIONS)
@@ -204,18 +204,24 @@ def on_mknodat(files: LiveFiles, process: Process, call: Call) -> None:
 
 
 def make_file(files: LiveFiles, process: Process, path: Optional[str], mode_word: str) -> None:
-    """Makes a plain file with the mode in an argument, without the bits of the umask; bits beyond
-    777 are only noted. A device, a pipe or a socket, by that argument, is reported and isn't
-    followed. Nothing if the path is None."""
+    """Makes a plain file with the mode in an argument, without the bits of the umask. If that mode
+    is of a device, a pipe or a socket, it is reported, and isn't followed. Nothing if the path is
+    None."""
     if path is None:
         return
     if 'S_IFREG' in mode_word or not mode_word.startswith('S_IF'):
-        bits = mode_of_new_node(process, mode_word.rpartition('|')[2])
-        node = Node.file(bits & PERMISSIONS)
-        files.add_new_node(path, node)
-        note_extra_bits(files, node, bits)
+        add_new_file(files, path, mode_of_new_node(process, mode_word.rpartition('|')[2]))
     else:
         add_untraceable_node(files, path, 'a device or a named pipe was made')
+
+
+def add_new_file(files: LiveFiles, path: str, mode: int) -> Node:
+    """Adds a new plain file at a free path, in the trace too if that has its directory, and returns
+    its node. Bits of the mode beyond 777 are only noted."""
+    node = Node.file(mode & PERMISSIONS)
+    files.add_new_node(path, node)
+    note_extra_bits(files, node, mode)
+    return node
 
 
 def on_bind(files: LiveFiles, process: Process, call: Call) -> None:

@@ -9,7 +9,8 @@ from typing import Optional
 
 from crashfs_tools.recorder import arguments
 from crashfs_tools.recorder.arguments import parse_integer
-from crashfs_tools.recorder.calls.modes import PERMISSIONS, mode_of_new_node, note_extra_bits
+from crashfs_tools.recorder.calls.modes import PERMISSIONS, mode_of_new_node
+from crashfs_tools.recorder.calls.names import add_new_file
 from crashfs_tools.recorder.live_tree import Node
 from crashfs_tools.recorder.processes import OpenFile, Process
 from crashfs_tools.recorder.live_files import UNKNOWN, LiveFiles
@@ -119,10 +120,8 @@ def open_node(
         return new_temporary_file(files, bits)
     node = files.tree.node_at(path)
     if node is None and 'O_CREAT' in flags:
-        node = Node.file(bits & PERMISSIONS)
-        files.add_new_node(path, node)
-        note_extra_bits(files, node, bits)
-    elif node is None:
+        return add_new_file(files, path, bits)
+    if node is None:
         files.recording.report(f'opened, and it was made {UNKNOWN}', path)
     elif 'O_TRUNC' in flags and not node.is_directory and node.size:
         files.set_length(node, 0)
