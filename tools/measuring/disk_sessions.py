@@ -72,15 +72,19 @@ def session_result(filesystem: str, seed: int, trace: Trace, disks: List[Disk]) 
     says. KeyError if PROFILE_OF has no such name."""
     reading = parse_trace(trace_text(trace).encode())
     allowed = {profile: allowed_trees(reading, profile) for profile in profile_names(reading)}
-    crash_count = sum(len(disk.crashes) for disk in disks)
-    result = SessionResult(filesystem, seed, crash_count, len(disks))
-    result.states = len(allowed['blocks'])
-    for profile, trees in allowed.items():
-        outside = [disk for disk in disks if not is_allowed_disk(disk, trees)]
-        result.allowed[profile] = len(disks) - len(outside)
-        if profile == PROFILE_OF[filesystem]:
-            result.outside = [disk_text(disk) for disk in outside]
-    return result
+    outside = {
+        profile: [disk for disk in disks if not is_allowed_disk(disk, trees)]
+        for profile, trees in allowed.items()
+    }
+    return SessionResult(
+        filesystem,
+        seed,
+        disks=sum(len(disk.crashes) for disk in disks),
+        different=len(disks),
+        states=len(allowed['blocks']),
+        allowed={profile: len(disks) - len(outside[profile]) for profile in allowed},
+        outside=[disk_text(disk) for disk in outside.get(PROFILE_OF[filesystem], [])],
+    )
 
 
 def is_allowed_disk(disk: Disk, trees: Set[TreeAndCount]) -> bool:

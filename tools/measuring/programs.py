@@ -142,8 +142,8 @@ class Usage(NamedTuple):
 
 
 def wait_for_usage(child: subprocess.Popen[Any]) -> Usage:
-    """Waits for a program that was started, however long it takes, and returns what it used. Its
-    returncode is set then. ChildProcessError if somebody has waited for it before."""
+    """Waits until a program ends, however long it takes, sets its returncode, and returns what it
+    used. ChildProcessError if somebody has waited for it before."""
     _, status, usage = os.wait4(child.pid, 0)
     child.returncode = os.waitstatus_to_exitcode(status)
     return Usage(usage.ru_utime + usage.ru_stime, usage.ru_maxrss * 1024)

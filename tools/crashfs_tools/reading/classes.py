@@ -108,9 +108,9 @@ class SetClasses:
             waiting.append((place_set, self.order.future_without(future, lowest_bit), result))
 
     def shown_result(self, result: SetResult, future: int) -> SetResult:
-        """What a set leaves, without what a reader can't see in any extension of the set by places
-        of `future`: files that have no name and can't get one, files that are as they were made,
-        and bytes past a size that no place of `future` changes."""
+        """What a set leaves, without what no extension of the set by places of `future` shows to a
+        reader: files that have no name and can't get one, files that are as they were made, and
+        bytes past a size that no place of `future` changes."""
         shown_contents = []
         for file_number, content_id in result.file_contents:
             may_get_name = future & self.links.get(file_number, 0)
