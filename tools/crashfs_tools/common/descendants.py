@@ -72,7 +72,7 @@ def has_children_lists() -> bool:
 
 def children_by_parents(process: int) -> Set[int]:
     """The children of a process, found by the parent of each process. It is slower than the
-    kernel's lists of children, which some kernels lack."""
+    kernel's lists of children, which some kernels lack. OSError without /proc."""
     return {child for child in all_processes() if parent_process(child) == process}
 
 

@@ -286,8 +286,8 @@ class ProgramOutput(io.RawIOBase):
         return True
 
     def readinto(self, buffer: Any) -> int:
-        """Waits without limit for standard output, and reads it into a buffer. Returns how many
-        bytes it read; 0 at the end. What is printed as an error until then is added to
+        """Waits without limit for standard output, and reads it into a buffer. Returns the number
+        of bytes read; 0 at the end. What is printed as an error until then is added to
         error_text."""
         while True:
             ready = {pipe for pipe, _ in self.poll.poll()}

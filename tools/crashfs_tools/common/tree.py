@@ -305,8 +305,8 @@ class Tree:
 
     def apply_truncate(self, operation: Truncate) -> int:
         """Sets a length. Returns how many micro-operations that is in all versions: 1, or 0 if the
-        file has this length already. In version 4 it also writes zeros in the last page: these are
-        counted in steps_of_version_4."""
+        file has this length already. In version 4 a cut also writes zeros in the last page, which
+        are counted in steps_of_version_4."""
         entry, length = self.entries[operation.path], operation.length
         old_size = len(entry.data or b'')
         entry.resize(length)

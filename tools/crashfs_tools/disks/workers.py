@@ -78,7 +78,8 @@ class DiskWorkers(Generic[Task, Result]):
         return result  # type: ignore[no-any-return]  # what the worker has sent
 
     def start_processes(self, count: int) -> None:
-        """Starts so many processes. OSError as start_process(): those before it run on."""
+        """Starts so many processes. OSError as start_process(): the ones that it started before run
+        on."""
         for _ in range(count):
             self.start_process()
 
