@@ -14,6 +14,7 @@ from typing import Callable, Dict, List, NamedTuple, Optional, Set
 from crashfs_tools.common import descendants
 from crashfs_tools.common.command import Refused, ending_text
 from crashfs_tools.common.mount_table import MountTable
+from crashfs_tools.common.pipes import poll_for_input
 from crashfs_tools.common.program import last_line
 from crashfs_tools.common.trace_lines import without_numbers
 
@@ -151,10 +152,7 @@ class Checker:
     def poll(self) -> select.poll:
         """A poll object for the pipe `life`, if there is one. Each run registers what it waits for,
         and unregisters it."""
-        poll = select.poll()
-        if self.life is not None:
-            poll.register(self.life, select.POLLIN)
-        return poll
+        return poll_for_input() if self.life is None else poll_for_input(self.life)
 
     @cached_property
     def mounts(self) -> MountTable:

@@ -5,7 +5,6 @@ from __future__ import annotations
 import gc
 import json
 import os
-import select
 import signal
 import time
 from dataclasses import dataclass, replace
@@ -16,6 +15,7 @@ from crashfs_tools.checker.states.layout import Layout
 from crashfs_tools.common.command import Refused, ending_text
 from crashfs_tools.common.descendants import become_reaper
 from crashfs_tools.common.guard import end_processes_with_token, with_token
+from crashfs_tools.common.pipes import poll_for_input
 from crashfs_tools.common.program import ProgramFault
 from crashfs_tools.common.signals import STOPS, stop_signals_blocked
 
@@ -127,12 +127,10 @@ class StateWorkers:
     def ready_workers(self) -> List[Worker]:
         """Those of `workers` whose pipe has something to read, or is at its end. Waits at most
         POLL_SECONDS for one, and may return none."""
-        poll = select.poll()
         workers = {worker.pipe: worker for worker in self.workers}
-        for pipe in workers:
-            poll.register(pipe, select.POLLIN)
         # A signal that comes as a wait begins is handled only after it: so each wait is short.
-        return [workers[pipe] for pipe, _ in poll.poll(POLL_SECONDS * 1000)]
+        ready = poll_for_input(*workers).poll(POLL_SECONDS * 1000)
+        return [workers[pipe] for pipe, _ in ready]
 
     def read_outcomes(self, worker: Worker) -> bool:
         """Waits for lines of a process, and handles them. Returns False at the end of its pipe. If
