@@ -124,10 +124,10 @@ class Inventories(unittest.TestCase):
         self.assertEqual(outdated_files({older: 'new', same: 'same', new: 'text'}), [])
 
     def test_a_line_names_the_command_that_writes_an_outdated_file(self):
-        page, readme = TOP / 'docs' / 'no-such-page.md', (TOP / 'README.md').read_text('utf-8')
+        page, readme = TOP / 'docs' / 'absent.txt', (TOP / 'README.md').read_text('utf-8')
         self.assertEqual(
             outdated_lines({page: 'text', TOP / 'README.md': readme}, 'a', 'b'),
-            ['docs/no-such-page.md is older than a: run tools/b'],
+            ['docs/absent.txt is older than a: run tools/b'],
         )
 
 
