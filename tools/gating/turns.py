@@ -8,6 +8,8 @@ last line that is printed says how many are tried. `.ci/run --all-edits` moves n
 from __future__ import annotations
 
 import argparse
+import errno
+import os
 import shutil
 import sys
 from pathlib import Path
@@ -65,9 +67,14 @@ def move_others_aside(commit: str, folder: Path, crates: Path = CRATES) -> str:
 
 def move_back(folder: Path, crates: Path = CRATES) -> None:
     """Moves the edits that are in the folder back to their crates. Nothing happens if there are
-    none. OSError if something can't be moved; then some are."""
+    none. OSError if something can't be moved, also if a crate has a folder of edits again; then
+    some are moved."""
     for aside in sorted(folder.glob(f'*/{EDITS}')):
-        shutil.move(str(aside), str(crates / aside.parent.name / EDITS))
+        edits = crates / aside.parent.name / EDITS
+        if edits.exists():
+            # shutil.move() would put one folder into the other.
+            raise FileExistsError(errno.EEXIST, os.strerror(errno.EEXIST), str(edits))
+        shutil.move(str(aside), str(edits))
 
 
 def main(words: Optional[List[str]] = None) -> int:

@@ -2,9 +2,11 @@
 
 from __future__ import annotations
 
+import glob
 import os
 import re
 import shutil
+import signal
 import subprocess
 import sys
 import unittest
@@ -28,6 +30,9 @@ if [ "$1" = version ]; then
 fi
 test "$*" = ci || exit 9
 ls -d crates/*/must-fail/*.edit 2>/dev/null
+echo "$(ls -d .git/edits.*/*/must-fail/*.edit 2>/dev/null | wc -l) edits are aside"
+[ -z "$FAKE_SIGNAL" ] || kill -s "$FAKE_SIGNAL" "$PPID"
+[ -z "$FAKE_CHECKOUT" ] || git checkout --quiet crates
 mkdir -p crates/crashfs/out
 [ "$FAKE_BUILDS" = no ] || touch crates/crashfs/out/crashfs
 echo 'cs_names proved'
@@ -217,9 +222,36 @@ class Gate(InFolder):
             lines = self.assert_verdict(int(status), counts, STATUS=status, COUNTS=counts)
             tried = [line for line in lines if line.endswith('.edit')]
             self.assertEqual(tried, [f'crates/{name}/must-fail/no.edit' for name in names])
+            self.assertIn('4 edits are aside', lines)
             self.assertIn('edits: 2 of 6, those of 2 of 6 crates', lines)
             self.assertIn('tree: clean', lines)
-            self.assertTrue(all(os.path.isfile(self.path(f'repo/{edit}')) for edit in edits))
+            self.assertEqual(self.paths_of_edits(), edits)
+
+    def paths_of_edits(self) -> List[str]:
+        """The paths of all edits in the repository, also of those that are aside."""
+        return sorted(
+            os.path.relpath(path, self.path('repo'))
+            for path in glob.glob(self.path('repo/crates/**/*.edit'), recursive=True)
+            + glob.glob(self.path('repo/.git/edits.*/**/*.edit'), recursive=True)
+        )
+
+    def test_the_edits_come_back_if_a_signal_ends_the_gate(self) -> None:
+        edits = self.write_edits()
+        ran = self.run_gate(SIGNAL='TERM')
+        self.assertEqual(ran.returncode, -signal.SIGTERM, ran.stdout)
+        self.assertIn('4 edits are aside', ran.stdout)
+        self.assertEqual(self.paths_of_edits(), edits)
+        self.assertEqual(glob.glob(self.path('repo/.git/edits.*')), [])
+        self.assert_nothing_left()
+
+    def test_edits_that_can_not_come_back_fail_the_gate_and_are_not_lost(self) -> None:
+        edits = self.write_edits()
+        ran = self.run_gate(CHECKOUT='yes')
+        self.assertEqual(ran.returncode, 1, ran.stdout)
+        self.assertIn('.ci/run: edits are left in ', ran.stdout)
+        paths = self.paths_of_edits()
+        self.assertEqual([path for path in paths if path.startswith('crates/')], edits)
+        self.assertEqual(len(paths) - len(edits), 4)
 
     def test_all_edits_are_tried_if_it_is_asked_for(self) -> None:
         edits = self.write_edits()

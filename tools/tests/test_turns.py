@@ -56,6 +56,20 @@ class Turns(InFolder):
             shutil.rmtree(aside)
         turns.move_back(aside, crates)
 
+    def test_edits_are_not_moved_into_a_folder_of_edits_that_is_there_again(self) -> None:
+        for name in ('one', 'two', 'three'):
+            self.write_crate(name, 10, 1)
+        crates, aside = Path(self.path('crates')), Path(self.path('aside'))
+        whole = sorted(crates.rglob('*'))
+        turns.move_others_aside('f', aside, crates)
+        moved = sorted(aside.rglob('*'))
+        for name in ('three', 'two'):
+            (crates / name / 'must-fail').mkdir()
+            self.write(f'crates/{name}/must-fail/0.edit', '')
+        with self.assertRaises(FileExistsError):
+            turns.move_back(aside, crates)
+        self.assertEqual((sorted(crates.rglob('*')), sorted(aside.rglob('*'))), (whole, moved))
+
 
 if __name__ == '__main__':
     unittest.main()
