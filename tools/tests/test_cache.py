@@ -143,6 +143,15 @@ class Files(InFolder):
         found = list(opened_paths(lines))
         self.assertEqual(found, [source, '/nowhere', '/bin/true'])
 
+    def test_a_file_that_is_only_written_is_not_looked_at(self) -> None:
+        lines = [
+            '7 openat(AT_FDCWD, "/O_WRONLY.conf", O_RDONLY) = 3</O_WRONLY.conf>\n',
+            '7 openat(AT_FDCWD, "/written", O_WRONLY|O_CREAT, 0666) = 3\n',
+            '7 openat2(AT_FDCWD, "/also", {flags=O_WRONLY|O_CREAT, mode=0666}, 24) = 3\n',
+            '7 execve("/bin/sh", ["sh", "O_WRONLY"], 0x7ffe /* 3 vars */) = 0\n',
+        ]
+        self.assertEqual(list(opened_paths(lines)), ['/O_WRONLY.conf', '/bin/sh'])
+
     def test_a_large_file_is_not_in_memory_as_a_whole(self) -> None:
         os.truncate(self.write('large', 'x'), 1 << 26)
         wanted = hashlib.sha256(b'x' + bytes((1 << 26) - 1)).hexdigest()

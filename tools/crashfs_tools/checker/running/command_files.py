@@ -20,6 +20,8 @@ from .runner import NO_ANSWER, Outcome
 # directory that a relative path begins in.
 DIRECTORY = r'(?:(?:AT_FDCWD|\d+)(?:<((?:[^<>\\]|\\.)*)>)?, )?'
 OPENED = re.compile(rf'(?:open|openat|openat2|execve|execveat)\({DIRECTORY}"((?:[^"\\]|\\.)+)"')
+# The flags after the path; strace prints first whether a file is read or written.
+ONLY_WRITES = re.compile(r', (?:\{flags=)?O_WRONLY\b')
 CALLS = 'trace=open,openat,openat2,execve,execveat'
 # What strace prints when a process, with this number, has ended by itself.
 EXITED = re.compile(r'(\d+) +\+\+\+ exited with \d+ \+\+\+')
@@ -89,7 +91,7 @@ def opened_paths(lines: Iterable[str]) -> Iterator[str]:
     and execve. A compiled module of Python counts as its source, if that is there."""
     for line in lines:
         match = OPENED.search(line)
-        if match is None or 'O_WRONLY' in line:
+        if match is None or ONLY_WRITES.match(line, match.end()):
             continue
         path = os.path.join(unescape(match[1] or ''), unescape(match[2]))
         if os.path.isabs(path):
