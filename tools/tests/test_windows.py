@@ -5,6 +5,7 @@ import unittest
 from types import SimpleNamespace
 from unittest import mock
 
+from crashfs_tools.checker.checked_trace import NUMBER_OF_END
 from crashfs_tools.checker.findings.read_trees import entries_of
 from crashfs_tools.checker.report.report import CheckReport
 from crashfs_tools.checker.report.text import ReportText
@@ -204,6 +205,17 @@ class Tried(InWindows):
             os.unlink(log)
         self.assertGreater(len(seen[1]), 10)
         self.assertLessEqual(seen[1], seen[0])
+
+    def test_the_tree_at_the_end_has_a_number_that_no_other_state_has(self):
+        trace = self.write('s.trace', log_of(5))
+        words = ['--crashfs', FAKE, '--jobs', '1', '--window', '6', '--prefixes', trace]
+        log = 'echo $CRASHFS_STATE >> "$0"'
+        ran = self.run_tool('crashfs-check', *words, '--', 'sh', '-c', log, self.path('log'))
+        self.assertEqual((ran.returncode, ran.stderr), (0, ''))
+        numbers = [int(line) for line in self.read('log').split()]
+        self.assertEqual(numbers[0], NUMBER_OF_END)
+        self.assertEqual(sorted(numbers[1:]), sorted(set(numbers[1:]) - {NUMBER_OF_END}))
+        self.assertGreater(len(numbers), 15)
 
     def test_no_state_is_tried_twice(self):
         _, results = self.windows(log_of(12), 9)

@@ -25,6 +25,10 @@ from .options import Options
 if TYPE_CHECKING:
     from crashfs_tools.checker.states.windows import Windows
 
+# The number of the tree at the end of a session in windows, which is tried before it is known how
+# many states the windows have: no session has so many. It is the largest that a C int has.
+NUMBER_OF_END = 2**31 - 1
+
 
 class CheckedTrace:
     """A trace that is checked by one program. mode is that of files which show parts of the trace.
@@ -141,15 +145,14 @@ class CheckedTrace:
 
     def plan_end(self) -> Optional[PlannedTrace]:
         """Plans the end of a session in windows: a trace that starts with the tree there and does
-        nothing. Its only state is that tree with all acknowledged lines; the state's number, how
-        many micro-operations the session has, may be that of another state too. None for a session
-        in one plan, which has that tree. Call it after all_planned() has yielded a plan. Errors as
-        in Planner.plan(); OSError if the trace can't be written."""
+        nothing. Its only state is that tree with all acknowledged lines; the state's number is
+        NUMBER_OF_END. None for a session in one plan, which has that tree. Call it after
+        all_planned() has yielded a plan. Errors as in Planner.plan(); OSError if the trace can't be
+        written."""
         if self.windows is None:
             return None
-        path = self.windows.write_end()
-        count, line_count = self.windows.session.places[-1], len(self.acknowledged_lines.texts)
-        return self.planner.plan(path, Offsets(states=count, says=line_count))
+        path, line_count = self.windows.write_end(), len(self.acknowledged_lines.texts)
+        return self.planner.plan(path, Offsets(states=NUMBER_OF_END, says=line_count))
 
     @contextmanager
     def refused_faults(self) -> Iterator[None]:
