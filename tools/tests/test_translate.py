@@ -91,6 +91,14 @@ class Calls(unittest.TestCase):
         ]
         self.assertEqual(recording_of(log).trace.operations[0].mode, 0o640)
 
+    def test_an_empty_access_control_list_changes_no_mode(self):
+        for call in ('setxattr("/d/f"', 'fsetxattr(3</d/f>'):
+            log = [OPEN_F, f'1 {call}, "system.posix_acl_access", "\2\0\0\0", 4, 0) = 0']
+            with self.subTest(call):
+                recording = recording_of(log, FILE)
+                self.assertEqual(recording.trace.operations, [])
+                self.assertEqual(list(recording.troubles), [])
+
 
 class WorkingDirectories(unittest.TestCase):
     """A process stays in its working directory when that is renamed or removed."""

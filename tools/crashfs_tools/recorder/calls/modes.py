@@ -116,7 +116,8 @@ def path_in_trace(node: Optional[Node]) -> Optional[str]:
 
 def on_attribute(files: LiveFiles, process: Process, call: Call) -> None:
     """Notes a change of the extended attributes of a file in the trace. If an access control list
-    is set, its rights become the file's mode, and a list that has only a mode isn't noted."""
+    is set, its rights become the file's mode, and a list that has only a mode isn't noted; nor is
+    an empty list, which leaves the mode as it is."""
     node = node_with_attributes(files, process, call)
     path = path_in_trace(node)
     if path is None:
@@ -124,7 +125,8 @@ def on_attribute(files: LiveFiles, process: Process, call: Call) -> None:
     if call.name.endswith('setxattr') and arguments.parse_path(call.argument(1)) == acl.NAME:
         rights = acl.parse_rights(arguments.parse_bytes(call.argument(2)) or b'')
         if rights is not None:
-            set_mode(files, node, f'{acl.mode_of_rights(rights):o}')
+            if rights:
+                set_mode(files, node, f'{acl.mode_of_rights(rights):o}')
             if acl.has_only_mode(rights):
                 return
     files.recording.report_note('its extended attributes change, which no trace has', path)
