@@ -4,7 +4,9 @@ import unittest
 from unittest import mock
 
 from crashfs_tools.common.trace import Start
+from crashfs_tools.recorder.live_files import StartConditions
 
+from . import support
 from .support import needs_version_3, operations_of, recording_of, short
 from .translated_calls import CASES, FILE, OPEN_F
 from .translated_syncs import SYNCS
@@ -143,6 +145,32 @@ class WorkingDirectories(unittest.TestCase):
             self.assert_operations(log, ['mkdir /y'], start),
             ['/o: a directory with entries was renamed out of the directory (after line 3)'],
         )
+
+    def test_a_directory_outside_that_is_renamed_takes_its_processes_along(self):
+        for rename in (
+            'rename("/out/b/c", "/out/a")',
+            'renameat(AT_FDCWD</out/b/c>, "../../b", AT_FDCWD</out/b/c>, "../../../a")',
+            'renameat2(AT_FDCWD</d>, "/out/b/c", AT_FDCWD</d>, "/out/a", RENAME_EXCHANGE)',
+        ):
+            log = [
+                '1 chdir("/out/b/c") = 0',
+                f'1 {rename} = 0',
+                '1 mkdir("../../d/x", 0755) = 0',
+                '1 chdir("../../d") = 0',
+                '1 rename("/d", "/e") = 0',
+                '1 mkdir("y", 0755) = 0',
+            ]
+            with self.subTest(rename):
+                self.assertEqual(
+                    self.assert_operations(log, ['mkdir /x', 'mkdir /y']),
+                    ['/: the directory itself was renamed, or replaced (after line 2)'],
+                )
+
+    def test_what_is_done_in_the_directory_is_followed_if_one_around_it_is_renamed(self):
+        conditions = StartConditions('/p/d', 0o022, 'u', 'u')
+        log = ['1 rename("/p", "/q") = 0', '1 mkdir("x", 0755) = 0']
+        with mock.patch.object(support, 'StartConditions', return_value=conditions):
+            self.assertEqual(self.assert_operations(log, ['mkdir /x']), [])
 
     def test_exchanged_directories_take_their_processes_along(self):
         start = [Start(path, 'u', 'u', 0o755, None) for path in ('/a', '/b', '/b/c')]

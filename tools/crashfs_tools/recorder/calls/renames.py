@@ -40,18 +40,21 @@ def rename_path(
 ) -> None:
     """Renames a file or directory by absolute paths, or exchanges two, as the flags say, and gives
     the processes in them their new working directories. A rename of the recorded directory itself,
-    or onto it, is only reported; so is a device that RENAME_WHITEOUT leaves. Nothing if both paths
-    are outside the directory, ignored, or None."""
+    or onto it, is only reported; so is a device that RENAME_WHITEOUT leaves. If both paths are
+    outside the directory, ignored, or None, nothing else changes, and if the recorded directory is
+    below one of them, the processes in it stay where they are."""
     source, target = files.path_in_tree(full_source), files.path_in_tree(full_target)
-    if source is None and target is None:
-        return
     if '/' in (source, target):
         files.recording.report('the directory itself was renamed, or replaced', '/')
         return
+    new_paths = paths_after_rename(full_source, full_target, flags)
+    # The calls in the recorded directory are followed at its old path.
+    if not any(f'{files.conditions.top}/'.startswith(f'{path}/') for path in new_paths):
+        move_working_directories(files.processes.values(), new_paths)
+    if source is None and target is None:
+        return
     if source is not None and 'RENAME_WHITEOUT' in flags:
         files.recording.report('RENAME_WHITEOUT left a device', source)
-    new_paths = paths_after_rename(full_source, full_target, flags)
-    move_working_directories(files.processes.values(), new_paths)
     if 'RENAME_EXCHANGE' in flags:
         exchange_paths(files, source, target)
     else:
