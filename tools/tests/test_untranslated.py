@@ -293,6 +293,15 @@ class Troubles(unittest.TestCase):
             self.assertEqual([one.where for one in recording.troubles], ['/s'])
             self.assertEqual(recording.trace.operations, [])
 
+    def test_an_exchange_of_a_name_with_itself_changes_nothing(self):
+        for name in ('s', 's/f'):
+            words = f'AT_FDCWD</d>, "{name}", AT_FDCWD</d>, "{name}"'
+            exchange = f'1 renameat2({words}, RENAME_EXCHANGE) = 0'
+            change = '1 truncate("/d/s/f", 0) = 0'
+            recording = recording_of([exchange, change], IN_DIRECTORY)
+            self.assertEqual(list(recording.troubles), [])
+            self.assertEqual(len(recording.trace.operations), 1)
+
     def test_a_cut_open_that_changes_nothing_is_not_reported(self):
         for line in (
             'openat(AT_FDCWD</d>, "f", O_WRONLY|O_CREAT, 0666) = ?',

@@ -129,9 +129,11 @@ def forget_tree(files: LiveFiles, path: str) -> None:
 
 
 def exchange_names(files: LiveFiles, source: str, target: str) -> None:
-    """Exchanges what is at two paths. No trace has that: it is reported, and what the trace has at
-    the paths may differ at the end. In the live tree two files get each other's name. A directory
-    is forgotten, and a file that is exchanged with it keeps its name."""
+    """Exchanges what is at two paths; nothing if they are one. No trace has that: it is reported,
+    and what the trace has at the paths may differ at the end. In the live tree two files get each
+    other's name. A directory is forgotten, and a file that is exchanged with it keeps its name."""
+    if source == target:
+        return
     files.recording.report(f'exchanged with {target}, which no trace can say', source)
     files.recording.differing_paths.add(target)
     for path in (source, target):
