@@ -229,6 +229,23 @@ class WrongUsages(InFolder):
             self.assertEqual(ran.returncode, 2, ran.stderr)
             self.assertNotIn('standard output', ran.stderr)
 
+    @needed(hasattr(sys, 'get_int_max_str_digits'), 'this Python takes numbers of any length')
+    def test_a_number_of_thousands_of_digits_is_a_wrong_one(self) -> None:
+        number = '9' * 5_000
+        for command, option, value, told in (
+            ('crashfs-check', '--jobs', number, 'is not a number from 1'),
+            ('crashfs-check', '--state', number, 'is neither N nor N/M'),
+            ('crashfs-check', '--state', f'1/{number}', 'is neither N nor N/M'),
+            ('crashfs-check', '--shard', f'1/{number}', 'is not I/N with I from 1 to N'),
+            ('crashfs-check', '--serve', f'host:{number}', 'is not HOST:PORT'),
+            ('crashfs-campaign', '--seeds', f'1-{number}', 'is no range such as 1-100'),
+        ):
+            with self.subTest(f'{command} {option}'):
+                ran = self.run_tool(command, option, value)
+                line = f'{command}: error: argument {option}: {value} {told}\n'
+                self.assertEqual((ran.returncode, ran.stdout), (2, ''))
+                self.assertEqual(ran.stderr[-len(line) :], line)
+
     def test_of_the_recorder(self) -> None:
         self.check_rows('crashfs-record', RECORD)
 

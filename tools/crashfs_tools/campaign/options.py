@@ -4,7 +4,6 @@ from __future__ import annotations
 
 import argparse
 import os
-import re
 import shlex
 import sys
 from dataclasses import dataclass
@@ -13,6 +12,7 @@ from typing import List, Optional, Tuple
 from crashfs_tools.common.command import (
     Refused,
     parse_command_line,
+    parse_number,
     split_command,
     version_text,
     with_program_path,
@@ -67,10 +67,10 @@ class CampaignOptions:
 def parse_seeds(text: str) -> Tuple[int, int]:
     """The first and the last seed of a range, as `1-100`. ArgumentTypeError if the text is no
     range, or if the first seed is greater than the last."""
-    match = re.fullmatch(r'(\d+)-(\d+)', text)
-    if match is None or int(match[1]) > int(match[2]):
+    first, last = map(parse_number, text.partition('-')[::2])
+    if first is None or last is None or first > last:
         raise argparse.ArgumentTypeError(f'{text} is no range such as 1-100')
-    return int(match[1]), int(match[2])
+    return first, last
 
 
 def parse_seconds(text: str) -> float:

@@ -5,7 +5,7 @@ from __future__ import annotations
 import argparse
 from typing import Dict, List, Optional, Tuple
 
-from crashfs_tools.common.command import parse_command_line, version_text
+from crashfs_tools.common.command import parse_command_line, parse_number, version_text
 
 from .address import Address
 from .options import MOST_JOBS, MOST_STATES, NAME, TIMEOUT, Options, Shard, processor_count
@@ -36,26 +36,28 @@ example: crashfs-check --jobs 4 store.trace -- ./recover.sh"""
 
 def parse_shard(text: str) -> Shard:
     """The shard of `I/N`, with I from 1 to N. ArgumentTypeError for any other text."""
-    part, separator, parts = text.partition('/')
-    if not (separator and part.isdecimal() and parts.isdecimal() and 1 <= int(part) <= int(parts)):
+    part, parts = map(parse_number, text.partition('/')[::2])
+    if part is None or parts is None or not 1 <= part <= parts:
         raise argparse.ArgumentTypeError(f'{text} is not I/N with I from 1 to N')
-    return Shard(int(part), int(parts))
+    return Shard(part, parts)
 
 
 def parse_address(text: str) -> Address:
     """The address of `HOST:PORT`, with a port from 1 to 65,535; an IPv6 host may be in brackets.
     ArgumentTypeError for any other text."""
-    host, separator, port = text.rpartition(':')
-    if not (host and separator and port.isdecimal() and 1 <= int(port) <= 65_535):
+    host, _, port_text = text.rpartition(':')
+    port = parse_number(port_text)
+    if not host or port is None or not 1 <= port <= 65_535:
         raise argparse.ArgumentTypeError(f'{text} is not HOST:PORT')
-    return Address(host[1:-1] if host.startswith('[') and host.endswith(']') else host, int(port))
+    return Address(host[1:-1] if host.startswith('[') and host.endswith(']') else host, port)
 
 
 def parse_positive(text: str) -> int:
     """A whole number from 1 on. ArgumentTypeError for any other text."""
-    if not (text.isdecimal() and int(text) > 0):
+    number = parse_number(text)
+    if not number:
         raise argparse.ArgumentTypeError(f'{text} is not a number from 1')
-    return int(text)
+    return number
 
 
 def parse_job_count(text: str) -> int:
@@ -69,10 +71,11 @@ def parse_job_count(text: str) -> int:
 def parse_state(text: str) -> Tuple[int, Optional[int]]:
     """N and None for the text `N`, which names a state; N and M for `N/M`, which names state M of
     the recovery of state N. ArgumentTypeError for any other text."""
-    state, separator, recovery_state = text.partition('/')
-    if not (state.isdecimal() and (recovery_state.isdecimal() or not separator)):
+    state_text, separator, recovery_text = text.partition('/')
+    state, recovery_state = parse_number(state_text), parse_number(recovery_text)
+    if state is None or (separator and recovery_state is None):
         raise argparse.ArgumentTypeError(f'{text} is neither N nor N/M')
-    return int(state), int(recovery_state) if separator else None
+    return state, recovery_state
 
 
 def parse_names(text: str) -> List[str]:

@@ -12,7 +12,7 @@ import signal
 import sys
 from contextlib import contextmanager, redirect_stdout
 from importlib import import_module
-from typing import Any, Dict, Iterator, List, NoReturn, Tuple
+from typing import Any, Dict, Iterator, List, NoReturn, Optional, Tuple
 
 from crashfs_tools import VERSION
 
@@ -28,6 +28,15 @@ LINE_CHARACTERS = 8192
 
 class Refused(Exception):
     """Bad input, which ends a command: the line, or the few lines, that the user sees."""
+
+
+def parse_number(text: str) -> Optional[int]:
+    """The number of a text that has only decimal digits. None for any other text, and for one with
+    so many digits (over 4,300) that Python doesn't take it for a number."""
+    try:
+        return int(text) if text.isdecimal() else None
+    except ValueError:
+        return None
 
 
 def split_command(words: List[str]) -> Tuple[List[str], List[str]]:
