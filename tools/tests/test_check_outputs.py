@@ -32,6 +32,13 @@ class Outputs(InStore):
                 self.assertEqual(ran.stderr, f'crashfs-check: {option} {path}: that is TRACE\n')
         self.assertEqual(self.read('own.trace'), before)
 
+    def test_an_empty_name_is_refused_before_anything_is_tried(self):
+        for option in ('--json', '--junit', '--tap', '--html'):
+            ran = self.check(option, '', self.good, command=['touch', self.path('tried')])
+            line = 'crashfs-check: the name of a file to write is empty\n'
+            self.assertEqual((ran.returncode, ran.stdout, ran.stderr), (2, '', line))
+        self.assertFalse(os.path.exists(self.path('tried')))
+
     def test_known_failures_are_never_written_over(self):
         self.write('known.json', '[]')
         words = '--accept', 'known.json', '--json', './known.json'

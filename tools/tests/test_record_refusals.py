@@ -28,6 +28,8 @@ class Refuses(InFolder):
             ('d/o would be in ', 'd', 'd/o', '--', 'true'),
             ('--crashfs /none: no such program', '--crashfs', '/none', 'd', 'o', '--', 'true'),
             ('tmp is a directory', 'd', 'tmp', '--', 'true'),
+            ('the name of a file to write is empty', 'd', '', '--', 'true'),
+            ('the name of a file to write is empty', '--keep-log', '', 'd', 'o', '--', 'true'),
             ('/dev/null has no call of any process', '--from-log', '/dev/null', 'd', 'o'),
             ('none: No such file or directory', '--from-log', 'none', 'd', 'o'),
         ]:

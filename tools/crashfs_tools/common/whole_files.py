@@ -14,11 +14,13 @@ from .command import TEXT, Refused, flushed_output
 
 def folder_to_write(path: str) -> str:
     """The directory in which write_whole_file() will write a path, or the target of a link at the
-    path; for `-` this directory. Refused if the path is a directory, or no file can be made there;
-    what is_written_in_place() needs no right in the directory. A foreign file isn't refused
-    here."""
+    path; for `-` this directory. Refused if the path is empty or a directory, or no file can be
+    made there; what is_written_in_place() needs no right in the directory. A foreign file isn't
+    refused here."""
     if path == '-':
         return os.getcwd()
+    if not path:
+        raise Refused('the name of a file to write is empty')
     folder = os.path.dirname(os.path.realpath(path))
     if not os.path.isdir(folder):
         raise Refused(f'{path}: its directory is not there')
