@@ -106,6 +106,15 @@ class OfPrograms(InStores):
         self.assertEqual(ran.stdout, 'no\na\n')
         self.assertEqual(self.read('out'), 'a\n')
 
+    def test_a_descriptor_is_taken_by_its_number(self):
+        for number in ('03', '\u0663'):
+            ran = self.record(
+                *('--say-fd', number, 'd', 'out.trace', '--', 'sh', '-c'),
+                'exec 3>/dev/null; echo 1 >f; echo a >&3',
+            )
+            self.assertEqual(ran.returncode, 0, ran.stderr)
+            self.assertIn('1 acknowledged line (descriptor 3)', ran.stderr)
+
     def test_what_is_no_text_is_shown_by_escapes(self):
         ran = self.record(
             '--say-each',

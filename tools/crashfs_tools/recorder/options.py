@@ -10,6 +10,7 @@ from typing import List, Optional
 from crashfs_tools.common.command import (
     Refused,
     parse_command_line,
+    parse_number,
     version_text,
     with_program_path,
 )
@@ -128,7 +129,7 @@ def add_acknowledgement_options(parser: argparse.ArgumentParser) -> None:
         action='append',
         default=[],
         dest='acknowledging_descriptors',
-        type=check_descriptor,
+        type=parse_descriptor,
         help="take the acknowledged lines from COMMAND's descriptor N, not from "
         f"standard output; `{SOCKETS}`: from each connection that it accepts "
         '(may be repeated)',
@@ -215,11 +216,15 @@ def check_pattern(text: str) -> str:
     return text
 
 
-def check_descriptor(word: str) -> str:
-    """A value of --say-fd, unchanged; ArgumentTypeError unless it is a number or SOCKETS."""
-    if word != SOCKETS and not word.isdecimal():
+def parse_descriptor(word: str) -> str:
+    """The descriptor of a value of --say-fd: SOCKETS, or the digits of a number as they are
+    compared, without zeros before them. ArgumentTypeError for any other text."""
+    if word == SOCKETS:
+        return word
+    number = parse_number(word)
+    if number is None:
         raise argparse.ArgumentTypeError(f'{word} is neither a number nor `{SOCKETS}`')
-    return word
+    return f'{number}'
 
 
 def read_options(arguments: List[str]) -> RecordOptions:
