@@ -330,6 +330,15 @@ ctypes.CDLL(None).chmod(b'f', 0o100640)
         os.unlink(self.path('d', 'here'))
         self.assertIn('/link: it has the path', self.record('ln -s $PWD/other link').stderr)
 
+    def test_a_name_outside_is_reported_in_a_sentence(self):
+        for script, line in [
+            ('ln old ../out', '/old: it has a name outside the directory at the end'),
+            ('true', '/old: the start tree leaves out that it has a name outside the directory'),
+        ]:
+            ran = self.record(script)
+            self.assertEqual(ran.returncode, 4, ran.stderr)
+            self.assertIn(f'crashfs-record: not in the trace: {line}\n', ran.stderr)
+
     def test_a_file_that_is_too_large_is_one_line(self):
         ran = self.record('truncate -s 2G f')
         self.assertEqual(ran.returncode, 3)

@@ -25,9 +25,9 @@ NEWEST = 4
 class Scan:
     """The entries of a directory, each after its own directory. links has the first path of a file
     by each of its further paths. omissions has the path of each entry that no trace can have, with
-    the reason. notes has the path of each entry of which a trace lacks something that changes no
-    verdict on a crash state, with what it lacks. By path, extra_mode_bits has the bits of modes
-    beyond 777, and attributes the extended attributes, of the entries that have some."""
+    the reason. notes has the path of each entry that has something which no trace has, and which
+    changes no verdict on a crash state, with what it has. By path, extra_mode_bits has the bits of
+    modes beyond 777, and attributes the extended attributes, of the entries that have some."""
 
     header: Header
     entries: List[ScannedEntry] = field(default_factory=list)
@@ -90,7 +90,7 @@ class Scanner:
         self.scan_below('')
         for inode, path in self.first_paths.items():
             if self.unseen_names[inode] > 0:
-                self.scan.notes.append((path, 'that it has a name outside the directory'))
+                self.scan.notes.append((path, 'a name outside the directory'))
         return self.scan
 
     def scan_below(self, parent: str) -> None:

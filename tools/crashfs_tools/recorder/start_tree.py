@@ -64,5 +64,6 @@ def report_notes(recording: Recording, scan: Scan) -> None:
     bits_as_notes = [
         (path, f'its mode bits {bits:o}, beyond 777') for path, bits in scan.extra_mode_bits.items()
     ]
-    for path, reason in bits_as_notes + scan.notes:
-        recording.report_note(f'the start tree leaves out {reason}', path)
+    notes = [(path, f'that it has {note}') for path, note in scan.notes]
+    for path, omission in bits_as_notes + notes:
+        recording.report_note(f'the start tree leaves out {omission}', path)
