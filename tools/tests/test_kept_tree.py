@@ -276,6 +276,15 @@ class Kept(InFolder):
         kept.change_to({**tree, 'a': file('y' * 70_000)})
         self.assertEqual(os.listxattr(self.path('kept', 'a')), [])
 
+    def test_a_directory_that_lost_a_part_is_made_again(self):
+        kept = KeptTree(self.place)
+        kept.change_to(TREE)
+        with mock.patch.object(kept_tree, 'remove_tree', side_effect=OSError):
+            self.assertRaises(OSError, kept.remove)
+        with mock.patch.object(kept, 'make_again') as made:
+            kept.change_to(TREE)
+        made.assert_called_once_with(TREE)
+
     def test_a_file_that_is_another_one_is_written_again(self):
         """Also if its times say nothing."""
         kept = KeptTree(self.place)

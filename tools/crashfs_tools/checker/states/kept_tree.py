@@ -100,8 +100,7 @@ class KeptTree:
     def make_again(self, tree: Mapping[str, Entry]) -> None:
         """Removes the directory, makes it again, and fills it with a tree; then sleeps
         TICK_SECONDS, so that the new files are older than COMMAND. OSError if the directory can't
-        be removed, made or filled; if it can't be made or filled, the next change_to() begins from
-        scratch."""
+        be removed, made or filled: the next change_to() begins from scratch."""
         self.remove()
         os.mkdir(self.directory, FILLED_MODE)
         self.has_times = file_system_type(self.directory) in WITH_TIMES
@@ -120,10 +119,11 @@ class KeptTree:
 
     def remove(self) -> None:
         """Removes the directory, if it is there. If something in it can't be removed, the next tree
-        gets a directory with another path. OSError as remove_tree()."""
+        gets a directory with another path. OSError as remove_tree(): the directory may have lost a
+        part, and the next change_to() begins from scratch."""
+        self.is_whole, self.files = False, {}
         if not remove_tree(self.directory):
             self.directory = unused_path(self.directory)
-        self.is_whole, self.files = False, {}
 
     def change(self, tree: Mapping[str, Entry]) -> None:
         """Changes in the directory, which must be there, what differs from the tree; the umask is 0
