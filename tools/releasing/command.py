@@ -52,7 +52,7 @@ def read_provenance(gate_log: Optional[Path], object_origin: str) -> Provenance:
     """The provenance of a release from the tree and the tools as they are. The gate's counts are
     from its log, or NOT_RUN without one; the time is SOURCE_DATE_EPOCH, else that of the commit.
     ValueError if the log isn't of a gate of this commit and kit that passed, or SOURCE_DATE_EPOCH
-    is no number; OSError if the log can't be read; errors as output_of() and kit_version()."""
+    is no number; OSError if the log can't be read; errors as kit_version()."""
     commit, kit = commit_of_tree(), kit_version()
     seconds = int(os.environ.get('SOURCE_DATE_EPOCH') or seconds_of_commit())
     gate = NOT_RUN
@@ -130,7 +130,7 @@ def main(words: Optional[List[str]] = None) -> int:
     """Runs release with these words, or with those of its command line if they are None, and
     returns its status: 1, after a line that says why, if something is missing, fails or is refused.
     The log of the gate is read before anything is built. Waits for the build without limit. A wrong
-    word ends the program (SystemExit); IndexError as kit_version()."""
+    word ends the program (SystemExit)."""
     options = make_parser().parse_args(words)
     try:
         provenance = read_provenance(options.gate, GIVEN if options.objects else BUILT)

@@ -37,8 +37,11 @@ def tracked_files(pattern: str) -> List[str]:
 
 def kit_version() -> str:
     """The first line that `rt version` prints: the kit, and the checksum of its logic. Errors as
-    output_of(); IndexError if nothing is printed."""
-    return output_of('rt', 'version').splitlines()[0]
+    output_of(); ValueError if nothing is printed."""
+    lines = output_of('rt', 'version').splitlines()
+    if not lines:
+        raise ValueError('rt version printed nothing')
+    return lines[0]
 
 
 def linker_version() -> str:

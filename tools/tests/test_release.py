@@ -3,6 +3,7 @@
 from __future__ import annotations
 
 import hashlib
+import io
 import json
 import os
 import posixpath
@@ -12,13 +13,17 @@ import subprocess
 import sys
 import tarfile
 import unittest
+from contextlib import redirect_stderr
 from functools import lru_cache
 from pathlib import Path
 from typing import Dict, Set
+from unittest import mock
 
 from building.order import crates_below, libraries, read_uses, uses_by_crate
 from crashfs_tools import VERSION
+from releasing import programs
 from releasing.archives import control_text, with_debian_files, write_package, write_tarball
+from releasing.command import main
 from releasing.layout import Item, Items, release_items
 from releasing.programs import TOP, kit_version
 from releasing.statements import (
@@ -275,6 +280,13 @@ class Names(unittest.TestCase):
     def test_the_readme_names_the_kit_that_proves_it_here(self) -> None:
         readme = ' '.join((TOP / 'README.md').read_text('utf-8').split())
         self.assertIn(f'`{kit_version()}`', readme)
+
+    def test_a_toolchain_without_a_version_is_reported_in_a_line(self) -> None:
+        with mock.patch.object(programs, 'output_of', return_value=''), redirect_stderr(
+            io.StringIO()
+        ) as errors:
+            self.assertEqual(main([]), 1)
+        self.assertEqual(errors.getvalue(), 'release: rt version printed nothing\n')
 
     def test_the_action_uses_its_inputs(self) -> None:
         text = (TOP / 'action.yml').read_text('utf-8')
