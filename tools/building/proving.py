@@ -4,9 +4,11 @@ from __future__ import annotations
 
 import shutil
 import sys
+import threading
 import time
+from contextlib import nullcontext
 from pathlib import Path
-from typing import Tuple
+from typing import ContextManager, Tuple
 
 from crashfs_tools.common.command import shorten
 from crashfs_tools.common.printable import escape_unprintable
@@ -14,6 +16,10 @@ from crashfs_tools.common.printable import escape_unprintable
 from .checks import Check, killed_text, run_check
 from .order import PROGRAM, TOP, Work, crates_below, paths_of_texts
 from .sharing import copy_library, library_folder
+
+# Held by the thread that works in the repository itself: that of the copy TOP, or another whose crate has
+# a current library there.
+TOP_LOCK = threading.Lock()
 
 
 def is_library_current(copy: Path, name: str) -> bool:
@@ -64,17 +70,22 @@ def prove_crates_in(copy: Path, work: Work, start_time: float) -> None:
 
 
 def check_crate_in(copy: Path, work: Work, name: str, jobs: int) -> Tuple[Path, Check]:
-    """Checks a crate in a copy of the repository, or, if the library in the repository itself is
-    current, there, which takes a second. Returns the copy that was used, and the check. Any
-    exception, as of a full disk, becomes a failed check with its text, since other threads wait for
-    the crate's end. The crates below must be in work.proved_in."""
+    """Checks a crate in a copy of the repository or, if none of its own texts is newer than its
+    library in the repository itself, there: this takes a second unless a crate below has changed.
+    First copies the libraries of the crates below, which must be in work.proved_in, to the place of
+    the check. Waits while another thread works in the repository itself, if that is the place.
+    Returns the place, and the check. Any exception, as of a full disk, becomes a failed check with
+    its text, since other threads wait for the crate's end."""
     used_copy = copy
     try:
         if is_library_current(TOP, name):
             used_copy = TOP
-        for library in crates_below(work.uses, name):
-            copy_library(work.proved_in[library], used_copy, library)
-        return used_copy, run_check(['rt', 'lib', '--jobs', str(jobs)], used_copy / 'crates' / name)
+        place_lock: ContextManager[object] = TOP_LOCK if used_copy == TOP else nullcontext()
+        with place_lock:
+            for library in crates_below(work.uses, name):
+                copy_library(work.proved_in[library], used_copy, library)
+            words = ['rt', 'lib', '--jobs', str(jobs)]
+            return used_copy, run_check(words, used_copy / 'crates' / name)
     except Exception as error:
         return used_copy, Check(1, f'{name}: {error_text(error)}\n'.encode(), 0)
 

@@ -184,6 +184,45 @@ class Sharing(unittest.TestCase):
         self.assertEqual([self.given('top', it) for it in 'abcd'], list('abcd'))
         self.assertEqual(work.proved_in['e'], self.room / '2')
 
+    def test_one_thread_at_a_time_works_in_the_repository_itself(self) -> None:
+        """x and y have current libraries there, and both need that of a, which is elsewhere."""
+        top = self.room / 'top'
+        for name in 'xy':
+            text = top / 'crates' / name / 'src' / 'lib.rt'
+            text.parent.mkdir(parents=True)
+            text.write_text('fn f() {}')
+            self.prove('top', name, name)
+        self.prove('1', 'a', 'a')
+        work = Work({'a': [], 'x': ['a'], 'y': ['a']}, {'a': 2, 'x': 1, 'y': 1}, 4)
+        work.begun_crates.add('a')
+        work.proved_in['a'] = self.room / '1'
+        meeting = threading.Barrier(2)
+        met: List[str] = []
+
+        def check(_: List[str], crate: Path) -> Check:
+            self.assertEqual(crate.parent, top / 'crates')
+            self.assertEqual(self.given('top', 'a'), 'a')
+            try:
+                meeting.wait(1)
+                met.append(crate.name)
+            except threading.BrokenBarrierError:
+                pass
+            return Check(0, b'', 1)
+
+        with mock.patch.object(proving, 'run_check', check), mock.patch.object(
+            proving, 'TOP', top
+        ), redirect_stdout(io.StringIO()):
+            threads = [
+                threading.Thread(target=prove_crates_in, args=(self.room / copy, work, 0))
+                for copy in '12'
+            ]
+            for thread in threads:
+                thread.start()
+            for thread in threads:
+                thread.join()
+        self.assertEqual((work.failed_crate, met), (None, []))
+        self.assertEqual((work.proved_in['x'], work.proved_in['y']), (top, top))
+
     def build(self, refused: str) -> int:
         """A build whose crates a to e are all proved in the copy 1, but for those of `refused`."""
 
