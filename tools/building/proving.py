@@ -6,9 +6,9 @@ import shutil
 import sys
 import threading
 import time
-from contextlib import nullcontext
+from contextlib import ExitStack
 from pathlib import Path
-from typing import ContextManager, Tuple
+from typing import Tuple
 
 from crashfs_tools.common.command import shorten
 from crashfs_tools.common.printable import escape_unprintable
@@ -17,8 +17,8 @@ from .checks import Check, killed_text, run_check
 from .order import PROGRAM, TOP, Work, crates_below, paths_of_texts
 from .sharing import copy_library, library_folder
 
-# Held by the thread that works in the repository itself: that of the copy TOP, or another whose crate has
-# a current library there.
+# Held by the thread that works in the repository itself: one whose own copy this is, or whose crate
+# has a current library there.
 TOP_LOCK = threading.Lock()
 
 
@@ -80,14 +80,16 @@ def check_crate_in(copy: Path, work: Work, name: str, jobs: int) -> Tuple[Path, 
     try:
         if is_library_current(TOP, name):
             used_copy = TOP
-        place_lock: ContextManager[object] = TOP_LOCK if used_copy == TOP else nullcontext()
-        with place_lock:
+        with ExitStack() as locks:
+            if used_copy == TOP:
+                locks.enter_context(TOP_LOCK)
             for library in crates_below(work.uses, name):
                 copy_library(work.proved_in[library], used_copy, library)
             words = ['rt', 'lib', '--jobs', str(jobs)]
-            return used_copy, run_check(words, used_copy / 'crates' / name)
+            check = run_check(words, used_copy / 'crates' / name)
     except Exception as error:
-        return used_copy, Check(1, f'{name}: {error_text(error)}\n'.encode(), 0)
+        check = Check(1, f'{name}: {error_text(error)}\n'.encode(), 0)
+    return used_copy, check
 
 
 def error_text(error: Exception) -> str:
