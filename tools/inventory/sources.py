@@ -170,13 +170,15 @@ def contracts_in(path: Path) -> Iterator[Tuple[str, str]]:
         if head is not None and (head.group(2) or owner):
             indent, _, name = head.groups()
             call = f'{owner}::{name}' if owner else name
-            yield call, contract_text(lines[index + 1 :], indent)
+            has_contract = not line.endswith('{')
+            yield call, contract_text(lines[index + 1 :], indent) if has_contract else ''
 
 
 def contract_text(lines: List[str], indent: str) -> str:
-    """The contract of a function with this indent, from the lines after that of its name: those
-    before the brace of its body, an empty line, or the file's end. Further lines of the head, with
-    parameters, are among them."""
+    """The rest of a function's head, which has the contract: the lines after that of its name, up
+    to the brace of its body, an empty line, or the file's end; further parameters are among them.
+    `indent` is the function's. The line of the name must not end with the body's brace: these lines
+    would be the body."""
     clauses: List[str] = []
     for line in lines:
         if line.startswith((f'{indent}{{', f'{indent}}}')) or not line.strip():

@@ -61,6 +61,10 @@ pub fn sorted(x: &List<u8>) -> bool
 {
     true
 }
+
+pub fn first(x: &List<u8>) -> u8 {
+    x.sorted_first(IsKnown)
+}
 '''
 
 
@@ -93,9 +97,10 @@ class Inventories(unittest.TestCase):
 
     def test_contracts_are_those_of_public_calls_without_their_bodies(self):
         found = dict(contracts_in(self.written(CALLS)))
-        self.assertEqual(list(found), ['List::sort', 'sorted'])
+        self.assertEqual(list(found), ['List::sort', 'sorted', 'first'])
         self.assertIn('IsSorted self.new', found['List::sort'])
         self.assertNotIn('IsKnown', found['List::sort'])
+        self.assertEqual(found['first'], '')
 
     def test_a_bar_and_many_calls_stay_in_their_cell(self):
         self.assertEqual(table_cell('a || b'), 'a \\|\\| b')
