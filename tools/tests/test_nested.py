@@ -8,18 +8,24 @@ from types import SimpleNamespace
 from unittest import mock
 
 from crashfs_tools.checker.findings import nested as nested_module
-from crashfs_tools.checker.findings.nested import SecondCrashTrials, RecoveryRecorder
+from crashfs_tools.checker.findings.nested import (
+    RecoveryRecorder,
+    SecondCrashTrials,
+    header_options,
+)
 from crashfs_tools.checker.findings.second_crashes import Recovery
 from crashfs_tools.checker.report.report import CheckReport
 from crashfs_tools.checker.report.text import ReportText
 from crashfs_tools.checker.running.results import Head, Results
 from crashfs_tools.checker.running.runner import BAD, GOOD, Outcome
 from crashfs_tools.common.command import Refused
+from crashfs_tools.recorder.options import read_options
 
 from .support import EXAMPLES, FAKE, PATIENCE, InFolder, needs_strace
-from .test_check_command import InStore
+from .test_check_command import RIGHTS, InStore
 from .test_pairs import LISTED, read_plan
 
+FILE_RIGHTS = RIGHTS.replace('755', '644')
 # Moves the log into the table, and may sync the table before it empties the log.
 RECOVER = """\
 #!/bin/sh
@@ -27,6 +33,27 @@ echo "recovering $CRASHFS_STATE"
 if test -s log; then cat log >> table; {sync} : > log; fi
 test "$CRASHFS_SAYS" = 0 || grep -qs a=2 table || {{ echo 'lost: a=2 is not there'; exit 1; }}
 """
+
+
+# Replaces a page by another one as long as there is a log; a page of both fails.
+REPLACE_PAGE = """\
+#!/bin/sh
+case $(cat page) in *A*0*|*0*A*) echo 'page is torn'; exit 1; esac
+if test -f log; then printf %01024d 0 1<>page; sync page; rm log; fi
+"""
+
+
+def page_trace(version, profile, block):
+    """A session that makes a log next to a page of 1,024 bytes."""
+    return '\n'.join(
+        [
+            f'{{"trace":{version},"profile":"{profile}","block":{block},{RIGHTS}}}',
+            f'{{"start":"file","path":"/page",{FILE_RIGHTS},"text":"{"A" * 1024}"}}',
+            f'{{"op":"creat","path":"/log",{FILE_RIGHTS}}}',
+            '{"op":"fsync","path":"/"}',
+            '',
+        ]
+    )
 
 
 class InRecoveries(InStore):
@@ -123,6 +150,46 @@ class Recoveries(InRecoveries):
         )
 
 
+@needs_strace
+class RecordedAsTheSession(InRecoveries):
+    def check_page(self, version, profile, block, *words):
+        """Runs a check of second crashes of REPLACE_PAGE after a session with such a header."""
+        trace = self.write('page.trace', page_trace(version, profile, block))
+        command = self.write('replace.sh', REPLACE_PAGE, 0o755)
+        tool = ('crashfs-check', '--crashfs', FAKE, '--nested', '2')
+        return self.run_tool(*tool, *words, trace, '--', command)
+
+    def test_a_recovery_tears_pages_if_the_session_has_smaller_blocks(self):
+        ran = self.check_page(3, 'blocks', 512)
+        self.assertEqual((ran.returncode, ran.stderr), (1, ''), ran.stdout)
+        self.assertIn('  page is torn ', ran.stdout)
+        ran = self.check_page(3, 'blocks', 4096)
+        self.assertEqual((ran.returncode, ran.stderr), (0, ''), ran.stdout)
+
+    def test_a_recovery_has_the_profiles_of_its_session(self):
+        for profile in ('journal', 'blocks'):
+            ran = self.check_page(4, profile, 512, '--in', 'journal')
+            self.assertEqual((ran.returncode, ran.stderr), (1, ''), ran.stdout)
+            self.assertIn('  page is torn ', ran.stdout)
+            self.assertNotIn('not tried', ran.stdout)
+
+
+class HeaderOptions(InFolder):
+    def test_the_recorder_gets_what_the_header_of_the_session_has(self):
+        for header, options in [
+            ('{"trace":1,', '--profile blocks --block 4096'),
+            ('{"trace":2,"profile":"ordered",', '--profile ordered --block 4096'),
+            ('{"trace":3,"profile":"ordered","block":1024,', '--profile ordered --block 1024'),
+            (
+                '{"trace":4,"profile":"journal","block":512,',
+                '--profile journal --block 512 --trace-version 4',
+            ),
+        ]:
+            trace = self.write('h.trace', header + RIGHTS + '}\n')
+            self.assertEqual(header_options(trace), options.split())
+            read_options([*options.split(), 'DIR', 'OUT', '--', 'true'])
+
+
 class Faults(InFolder):
     def fault(self, recorder):
         """Why a recovery isn't recorded by a recorder that is this script."""
@@ -133,7 +200,8 @@ class Faults(InFolder):
             acknowledged_lines=SimpleNamespace(write_file=lambda count: acknowledged),
             timeout=PATIENCE,
         )
-        trials = SimpleNamespace(guard=None, new_checker=lambda: checker)
+        planned = SimpleNamespace(trace=str(EXAMPLES / 'store.trace'))
+        trials = SimpleNamespace(guard=None, new_checker=lambda: checker, planned=planned)
         state = SimpleNamespace(number=3, says=0)
         with mock.patch.object(nested_module, 'RECORD', recorder):
             with self.assertRaises(Refused) as refused:

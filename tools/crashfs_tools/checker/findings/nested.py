@@ -16,12 +16,14 @@ from crashfs_tools.checker.states.planning import Planner
 from crashfs_tools.common.command import TEXT, Refused, ending_text
 from crashfs_tools.common.program import LIBRARY, last_line
 from crashfs_tools.common.removal import remove_tree
+from crashfs_tools.common.trace import WRITTEN_VERSION
 from crashfs_tools.common.trace_lines import (
     parse_trace_text,
     trace_version,
     without_numbers,
     without_says,
 )
+from crashfs_tools.common.trace_read import read_lines
 
 from .groups import Findings, Group
 from .reruns import rerun_examples
@@ -48,11 +50,13 @@ class RecoveryRecorder:
         self.guard = trials.guard
 
     def record_recovery(self, state: State) -> Trials:
-        """Records COMMAND in the tree of a state; returns the trials of what a crash of that run
-        leaves, by the second reading if the program doesn't take the trace's version. Refused if
-        COMMAND can't be recorded, or the trace is too long for one plan; ProgramFault if the
-        program doesn't give the tree. The folder of the trace stays until the guard ends, also
-        after an exception: a second recording of one state is a FileExistsError."""
+        """Records COMMAND in the tree of a state, as run_recorder() does; returns the trials of
+        what a crash of that run leaves, by the second reading if the program doesn't take the
+        trace's version. Refused if COMMAND can't be recorded, or the trace is too long for one
+        plan; ProgramFault if the program doesn't give the tree, PlanError if it prints no plan;
+        OSError if the recorder can't be started, or a file can't be made or read. The folder of the
+        trace stays until the guard ends, also after an exception: a second recording of one state
+        is a FileExistsError."""
         folder = os.path.join(self.guard.directory, f'recovery-{state.number}')
         os.mkdir(folder)
         ((_, directory),) = self.trials.archive_layout(folder).states({state.number})
@@ -67,11 +71,13 @@ class RecoveryRecorder:
 
     def run_recorder(self, state: State, directory: str, trace: str) -> None:
         """Records COMMAND, by a process of the recorder, in a directory that has a state's tree,
-        and writes the trace to a file. COMMAND may fail; what it prints is dropped. The recorder
-        may take SLOWER times as long as COMMAND. Refused if it takes longer, and is killed, or if
-        it writes no trace; OSError if it can't be started."""
+        and writes the trace to a file, with what header_options() takes from the session's trace.
+        COMMAND may fail; what it prints is dropped. The recorder may take SLOWER times as long as
+        COMMAND. Refused if it takes longer, and is killed, or if it writes no trace; OSError if it
+        can't be started, or the session's trace can't be read."""
         checker = self.trials.new_checker()
-        recorder_words = [sys.executable, '-S', '-c', RECORD, '--no-say', directory, trace, '--']
+        options = ['--no-say', *header_options(self.trials.planned.trace)]
+        recorder_words = [sys.executable, '-S', '-c', RECORD, *options, directory, trace, '--']
         environment = {
             **checker.environment,
             'CRASHFS_STATE': str(state.number),
@@ -182,6 +188,19 @@ class SecondCrashTrials:
         operation = f'{last.kind} {without_numbers(last.path)}' if last else ''
         cause = findings.outcomes_by_state[state.number].cause_without_numbers
         return {('cause', cause), ('last', operation)}
+
+
+def header_options(trace: str) -> List[str]:
+    """The recorder's options for a trace with the profile and the block size of the trace in a
+    file, and with its version if the recorder would write an older one, which has fewer profiles
+    and other rules. TraceError if the file's first line is no header; OSError if the file can't be
+    read."""
+    with open(trace, **TEXT) as file:
+        _, header = next(read_lines(file))
+    options = ['--profile', header.profile, '--block', str(header.block)]
+    if header.version > WRITTEN_VERSION:
+        options += ['--trace-version', str(header.version)]
+    return options
 
 
 def remove_says(trace: str) -> str:
