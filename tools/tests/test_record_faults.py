@@ -1,7 +1,9 @@
 """What goes wrong in a recording: one line says it, and whether a trace is written."""
 
 import errno
+import fcntl
 import os
+import resource
 import signal
 import subprocess
 import sys
@@ -15,6 +17,7 @@ from crashfs_tools.common.signals import Stopped
 from crashfs_tools.recorder import main
 from crashfs_tools.recorder.log_stream import LogStream
 from crashfs_tools.recorder.mapped_files import MAPPED, MappedFiles
+from crashfs_tools.recorder.pipe_lines import PipeLines
 from crashfs_tools.recorder.stopped_processes import is_stopped
 from crashfs_tools.recorder.strace_run import StraceRun
 from crashfs_tools.common.trace import Start
@@ -195,7 +198,54 @@ class Copies(InFolder):
         mapped.make_last_copy.assert_called_once_with(1)
 
 
+# The lowest number of a descriptor that select() doesn't take.
+TOO_HIGH = 1024
+
+
 class Descriptors(InFolder):
+    def open_high_pipe(self):
+        """A new pipe, whose end for reading has a number from TOO_HIGH on."""
+        soft, hard = resource.getrlimit(resource.RLIMIT_NOFILE)
+        if soft != resource.RLIM_INFINITY and soft < 2 * TOO_HIGH:
+            if hard != resource.RLIM_INFINITY and hard < 2 * TOO_HIGH:
+                self.skipTest('no descriptor may have so high a number')
+            resource.setrlimit(resource.RLIMIT_NOFILE, (2 * TOO_HIGH, hard))
+            self.addCleanup(resource.setrlimit, resource.RLIMIT_NOFILE, (soft, hard))
+        low, writing = os.pipe()
+        reading = fcntl.fcntl(low, fcntl.F_DUPFD_CLOEXEC, TOO_HIGH)
+        os.close(low)
+        for file in (open(reading, 'rb', buffering=0), open(writing, 'wb', buffering=0)):
+            self.addCleanup(file.close)
+            yield file
+
+    def test_a_log_whose_pipe_has_a_high_number_is_read(self):
+        reading, writing = self.open_high_pipe()
+        lines = PipeLines(reading.fileno())
+        self.assertIsNone(lines.next_line(0.01))
+        self.assertFalse(lines.has_ended)
+        writing.write(b'a\n')
+        self.assertEqual(lines.next_line(PATIENCE), 'a\n')
+        writing.close()
+        self.assertIsNone(lines.next_line(PATIENCE))
+        self.assertTrue(lines.has_ended)
+
+    def test_output_whose_pipe_has_a_high_number_is_read(self):
+        pipe, output = self.open_high_pipe()
+        wakeup_pipe, wakeup = self.open_high_pipe()
+        strace = mock.Mock()
+        strace.poll.return_value = None
+        run = StraceRun([], mock.Mock(), mock.Mock(), mock.Mock())
+
+        def read_output():
+            return run.read_output(strace, pipe.fileno(), wakeup_pipe.fileno())
+
+        wakeup.write(b'x')
+        self.assertEqual(read_output(), b'')
+        output.write(b'a')
+        self.assertEqual(read_output(), b'a')
+        output.close()
+        self.assertIsNone(read_output())
+
     def test_output_that_can_not_be_written_leaves_no_pipe_open(self):
         reading, writing = os.pipe()
         self.addCleanup(os.close, reading)

@@ -4,10 +4,11 @@ from __future__ import annotations
 
 import fcntl
 import os
-import select
 import time
 from collections import deque
 from typing import Deque, List, Optional
+
+from crashfs_tools.common.pipes import poll_for_input
 
 # How many bytes one read of the pipe takes at most.
 READ_BYTES = 1 << 18
@@ -45,7 +46,7 @@ class PipeLines:
         None: the read then waits, without a limit."""
         if idle_seconds is None:
             return True
-        return bool(select.select([self.descriptor], [], [], idle_seconds)[0])
+        return bool(poll_for_input(self.descriptor).poll(idle_seconds * 1000))
 
     def read_piece(self) -> None:
         """Waits for bytes of the pipe, or for its end, and adds them. If few came, and may_gather

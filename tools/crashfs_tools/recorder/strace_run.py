@@ -4,7 +4,6 @@ from __future__ import annotations
 
 import os
 import re
-import select
 import shutil
 import signal
 import subprocess
@@ -15,6 +14,7 @@ from typing import ContextManager, List, Optional, Sequence
 
 from crashfs_tools.common.command import Refused, flushed_output
 from crashfs_tools.common.guard import Guard
+from crashfs_tools.common.pipes import poll_for_input
 from crashfs_tools.common.signals import stop_signals
 
 from . import stacks
@@ -167,7 +167,7 @@ class StraceRun:
         yet. None at its end, or if strace has ended and there are none: a process that strace
         doesn't follow may keep the pipe open."""
         seconds = IDLE_SECONDS if self.signal_to_send is None else RESEND_SECONDS
-        ready = select.select([pipe, wakeup_pipe], [], [], seconds)[0]
+        ready = {number for number, _ in poll_for_input(pipe, wakeup_pipe).poll(seconds * 1000)}
         if wakeup_pipe in ready:
             os.read(wakeup_pipe, 64)
         self.send_noted_signal()
