@@ -68,12 +68,10 @@ class Measurement:
     So the same command line continues a measurement that was stopped."""
 
     def __init__(self, options: argparse.Namespace) -> None:
-        """Makes the folder DIR if it isn't there; reads no results yet. OSError if the folder can't
-        be made, or is a file."""
+        """Reads and makes nothing yet."""
         self.options = options
         self.filesystems = options.on.split(',')
         self.results_path = options.dir / RESULTS
-        options.dir.mkdir(parents=True, exist_ok=True)
 
     def read_results(self) -> List[SessionResult]:
         """The results of the sessions that are asked for, in the order of the file; none if there
@@ -103,9 +101,11 @@ class Measurement:
 
     def make_sessions(self, folder: str) -> None:
         """Makes the sessions of tasks_left(), several at once, saves each result as it comes, and
-        shows on standard error how many are made. Images are made in the folder. Refused if an
-        image can't be made or mounted; errors as DiskWorkers.results() and save_result(). The
-        results that were saved stay."""
+        shows on standard error how many are made. Images are made in the folder, and DIR first, if
+        it isn't there. Refused if an image can't be made or mounted; OSError if DIR can't be made,
+        or is a file; other errors as DiskWorkers.results() and save_result(). The results that were
+        saved stay."""
+        self.options.dir.mkdir(parents=True, exist_ok=True)
         tasks = self.tasks_left()
         makers = {
             filesystem.name: SessionMaker(filesystem, folder)
@@ -125,10 +125,10 @@ class Measurement:
         print(file=sys.stderr)
 
     def save_result(self, result: SessionResult) -> None:
-        """Adds a result to the file. If the result has a disk outside the file system's profile,
-        the session's trace is also written to DIR, as FILESYSTEM-SEED-OPERATIONS.trace, over an
-        older one. OSError if one of the two can't be written: the file of results may then have a
-        part of the line."""
+        """Adds a result to the file in DIR, which must be there. If the result has a disk outside
+        the file system's profile, the session's trace is also written to DIR, as
+        FILESYSTEM-SEED-OPERATIONS.trace, over an older one. OSError if one of the two can't be
+        written: the file of results may then have a part of the line."""
         with self.results_path.open('a', encoding='utf-8') as file:
             file.write(json.dumps(result.fields()) + '\n')
         if result.outside:

@@ -5,6 +5,7 @@ from __future__ import annotations
 import contextlib
 import io
 import json
+import os
 import subprocess
 import sys
 import unittest
@@ -121,6 +122,7 @@ class Kept(InFolder):
                 self.assertIn('is not a number from 1', printed.getvalue())
 
     def test_a_session_with_another_number_of_operations_is_not_done(self) -> None:
+        os.mkdir(self.path('found'))
         run = Measurement(parse_words(['--operations', '99', self.path('found')]))
         run.save_result(SessionResult('ext4', 1, operations=99))
         run.save_result(SessionResult('ext4', 2))
@@ -166,6 +168,7 @@ class OnImages(InFolder):
         with contextlib.redirect_stderr(io.StringIO()) as err:
             self.assertEqual(main(['disks', '--on', 'ext4,zfs', self.path('found')]), 2)
         self.assertEqual(err.getvalue(), 'measure disks: zfs is none of ext4, xfs, btrfs\n')
+        self.assertFalse(os.path.exists(self.path('found')))
 
 
 if __name__ == '__main__':
