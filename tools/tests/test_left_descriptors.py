@@ -9,6 +9,7 @@ from unittest import mock
 from crashfs_tools.common.command import flushed_output
 from crashfs_tools.common.forked_reading import ForkedReading
 from crashfs_tools.common.guard import Guard
+from crashfs_tools.disks import loops
 
 
 def open_descriptors():
@@ -60,6 +61,12 @@ class LeftDescriptors(unittest.TestCase):
             with self.subTest(start=start.__name__):
                 with mock.patch('os.pipe', error_after(1, os.pipe)):
                     self.assert_fails_and_leaves_none(start, errno.EMFILE)
+
+    def test_an_image_that_is_not_there_leaves_no_device_open(self):
+        with mock.patch.object(loops, 'LOOP_CONTROL', os.devnull):
+            self.assert_fails_and_leaves_none(
+                lambda: loops.open_loop_device('/nonexistent'), errno.ENOENT
+            )
 
     def test_an_output_that_can_not_be_written_leaves_no_null_device_open(self):
         with open('/dev/full', 'w') as full, redirect_stdout(full):

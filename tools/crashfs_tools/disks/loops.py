@@ -6,7 +6,7 @@ import errno
 import fcntl
 import os
 import struct
-from contextlib import contextmanager
+from contextlib import ExitStack, contextmanager
 from typing import Iterator, Optional, Tuple
 
 from crashfs_tools.common.command import Refused
@@ -39,17 +39,16 @@ def open_loop_device(image: str) -> Tuple[int, str]:
     """Opens a free loop device and attaches an image to it. Returns its descriptor, which the
     caller closes, and its path. Refused if other processes took each of TRIES devices first.
     OSError if the image or a device can't be opened, or as open_with_image()."""
-    control_fd = os.open(LOOP_CONTROL, os.O_RDWR | os.O_CLOEXEC)
-    image_fd = os.open(image, os.O_RDWR | os.O_CLOEXEC)
-    try:
+    with ExitStack() as opened:
+        control_fd = os.open(LOOP_CONTROL, os.O_RDWR | os.O_CLOEXEC)
+        opened.callback(os.close, control_fd)
+        image_fd = os.open(image, os.O_RDWR | os.O_CLOEXEC)
+        opened.callback(os.close, image_fd)
         for _ in range(TRIES):
             device_path = f'/dev/loop{fcntl.ioctl(control_fd, LOOP_CTL_GET_FREE)}'
             device_fd = open_with_image(device_path, image_fd)
             if device_fd is not None:
                 return device_fd, device_path
-    finally:
-        os.close(control_fd)
-        os.close(image_fd)
     raise Refused('--disks: no loop device is free')
 
 
