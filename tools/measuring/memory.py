@@ -49,17 +49,17 @@ def fill_with_runs(address: str, runs: int, connections: int, opened: ExitStack)
     return runs
 
 
-def fill_with_writes(address: str, enough: int, opened: ExitStack) -> int:
+def fill_with_writes(address: str, writes: int, opened: ExitStack) -> int:
     """Writes blocks to a file of a run, by a connection that `opened` closes, until the server
-    refuses a write, since the run's journal is full, or has granted `enough`. Returns how many
-    writes it granted: up to BATCH - 1 more than enough, since they are sent in batches. Refused if
-    no write is granted, and errors as fill_with_connections()."""
+    refuses a write, since the run's journal is full, or has granted so many writes. Returns how
+    many it granted: up to BATCH - 1 more, since they are sent in batches. Refused if no write is
+    granted; other errors as fill_with_connections()."""
     (client,) = open_clients(address, 1, opened)
     client.attach(0, '0/x')
     client.open(0, 1, 'f')
     requests = [write_request(1, b'w' * BLOCK)] * BATCH
     granted_count = 0
-    while granted_count < enough:
+    while granted_count < writes:
         granted_of_batch = client.ask_all(requests)
         granted_count += granted_of_batch
         if granted_of_batch < len(requests):

@@ -183,8 +183,8 @@ class DrawnSession:
         return self.draw_write(is_append=True)
 
     def draw_truncate(self) -> Optional[Operation]:
-        """Draws a truncate of a file to its present length, or to a shorter or longer one; None if
-        there is no file."""
+        """Draws a truncate of a file to 0, 1, 2, 4096 or 6000 bytes, whatever length it has; None
+        if there is no file."""
         path = self.draw_path('file')
         length = self.random.choice([0, 1, 2, 4096, 6000])
         return Truncate(path, length) if path else None

@@ -153,10 +153,10 @@ class Report:
 
         self._write(path, page_pieces)
 
-    def _write(self, path: PathLike, pieces: Callable[[CheckReport], Iterator[str]]) -> None:
-        """Replaces a file by these pieces of its text, as write_whole_file() does, with at most the
-        rights of the mode. OSError as there."""
-        write_whole_file(os.fspath(path), pieces(self._check_report), self._mode)
+    def _write(self, path: PathLike, pieces_of: Callable[[CheckReport], Iterator[str]]) -> None:
+        """Replaces a file by the text whose pieces `pieces_of` yields for the check's report, as
+        write_whole_file() does, with at most the rights of the report's mode. OSError as there."""
+        write_whole_file(os.fspath(path), pieces_of(self._check_report), self._mode)
 
     def _entry(self, group: Group) -> Entry:
         """A group of states as an entry. The entry's lists and dicts are its own, so a caller may

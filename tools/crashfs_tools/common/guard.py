@@ -25,7 +25,7 @@ from .removal import TRASH_ENDING, remove_tree
 from .signals import STOPS, ignore_signals, stop_signals_blocked
 
 VARIABLE = 'CRASHFS_GUARD'
-# What the watcher answers if it is killed before it answers.
+# What counts as the answer of a watcher that was killed before it answered.
 WATCHER_KILLED = json.dumps([None, errno.ECHILD, 'its watcher was killed', 'temporary files'])
 
 
@@ -166,8 +166,9 @@ class Guard:
             os._exit(0)
 
     def make_and_send_directory(self, answer_writer: int) -> None:
-        """In the watcher: makes the directory, writes its path, or the error, to the pipe, and
-        closes the pipe. `directory` stays empty if it can't be made."""
+        """In the watcher: makes the directory, writes the answer to the pipe, and closes the pipe.
+        The answer is a JSON array, as start_watcher() reads it: the path, or null and the arguments
+        of the OSError. `directory` stays empty if it can't be made."""
         try:
             self.directory = make_directory(f'{self.program}-', self.folder)
             answer = json.dumps([self.directory])

@@ -145,9 +145,9 @@ def order_sync_and_changes(sync: Call, changes: List[Call], moments: Dict[int, M
 
 
 def synced_path(sync: Call) -> Optional[str]:
-    """The path of the file that an fsync or fdatasync covers. None if strace shows no path of it,
-    and for other syncs, which cover all files or a mapping. LogError if the path isn't as
-    strace writes it."""
+    """The path that strace shows for the file that an fsync or fdatasync covers; the file may have
+    other names. None if strace shows no path of it, and for other syncs, which cover all files or a
+    mapping. LogError if the path isn't as strace writes it."""
     return sync.descriptor().path if sync.name in ('fsync', 'fdatasync') else None
 
 

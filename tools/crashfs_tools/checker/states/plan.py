@@ -125,9 +125,9 @@ class Needs:
         return prefix_set(len(self.masks))
 
     def sets_without_lines(self, line_numbers: Iterable[int]) -> List[int]:
-        """For each line of the trace that has micro-operations the largest allowed set without any
-        of these, in the order in which the lines begin. line_numbers has the number of the line of
-        each micro-operation, by their places."""
+        """For each line of the trace that has micro-operations, in the order of the lines, the
+        largest allowed set without any micro-operation of that line. line_numbers has for each
+        micro-operation the number of its line, in the order of their places."""
         lost_sets: Dict[int, int] = {}
         for place, line_number in enumerate(line_numbers):
             lost_sets[line_number] = lost_sets.get(line_number, 0) | self.set_needing(place)
