@@ -100,14 +100,15 @@ def has_room(folder: str, size: int) -> bool:
 
 
 class DiskSearch:
-    """Looks for the tree of each disk among the states. outcomes has those of the states by their
-    numbers, and trace is the trace's text."""
+    """Looks for the tree of each disk among the states, and runs COMMAND in the trees that no tried
+    state has. outcomes has the outcomes of the states by their numbers, and trace_bytes is the
+    content of the trace's file."""
 
-    def __init__(self, trials: Trials, outcomes: Dict[int, Outcome], trace: bytes) -> None:
+    def __init__(self, trials: Trials, outcomes: Dict[int, Outcome], trace_bytes: bytes) -> None:
         """COMMAND is run by a checker of this process, which notes what can't be ended."""
         self.trials = trials
         self.outcomes = outcomes
-        self.trace = trace
+        self.trace_bytes = trace_bytes
         self.checker = trials.new_checker()
 
     def run(self, pool: DiskPool, on_step: Callable[[int, int], None]) -> Sightings:
@@ -146,7 +147,7 @@ class DiskSearch:
             name: len({tree.digest for tree in failing_trees if name in tree.crashes})
             for name in sightings.names
         }
-        sightings.further_failures = explain_failures(self.trace, untried)
+        sightings.further_failures = explain_failures(self.trace_bytes, untried)
 
     def state_numbers_by_tree(self) -> Dict[TreeAndCount, List[int]]:
         """The ascending numbers of all listed states, tried or not, by the tree and the number of
@@ -208,13 +209,15 @@ def members_of(tree: Entries) -> Iterator[Member]:
         yield path[1:], entry
 
 
-def explain_failures(trace: bytes, untried: List[Tuple[DiskTree, Outcome]]) -> List[DiskFailure]:
+def explain_failures(
+    trace_bytes: bytes, untried: List[Tuple[DiskTree, Outcome]]
+) -> List[DiskFailure]:
     """The failures in trees that no tried state has. Searches the crash states for the trees, so
     each failure says why no tried state has its tree. Failures with the same tree, cause and reason
     are one, with all numbers of lines, the outcome of the first of these, and the first crash of
     each file system. ReadingFault as search_trees()."""
     wanted = {(tree.digest, tree.says) for tree, _ in untried}
-    result = search_trees(trace, wanted) if wanted else SearchResult(set(), 0, True)
+    result = search_trees(trace_bytes, wanted) if wanted else SearchResult(set(), 0, True)
     failures: Dict[Tuple[str, str, str], DiskFailure] = {}
     for tree, outcome in untried:
         explanation = result.explanation((tree.digest, tree.says))
@@ -241,12 +244,12 @@ class SearchResult(NamedTuple):
         return Explanation(OUTSIDE) if self.is_whole else Explanation(UNKNOWN, self.searched_states)
 
 
-def search_trees(trace: bytes, wanted: Set[TreeAndCount]) -> SearchResult:
+def search_trees(trace_bytes: bytes, wanted: Set[TreeAndCount]) -> SearchResult:
     """Looks for trees, at least one, among the different crash states of the trace's own profile,
     by the second reading. The search ends when all are found or all states were looked through, and
     isn't whole if it ends at MOST_STATES or MOST_SECONDS. ReadingFault if the trace has a
     fault."""
-    reading = parse_trace(trace)
+    reading = parse_trace(trace_bytes)
     states = States(reading)
     found: Set[TreeAndCount] = set()
     deadline = time.monotonic() + MOST_SECONDS
