@@ -84,7 +84,8 @@ def refuse_wrong_outputs(options: Options) -> None:
 
 
 def outputs_of(options: Options) -> Dict[str, str]:
-    """The paths of the files to write, by the options that name them; `-` is standard output."""
+    """The paths of the files to write, by the options that name them, in the order in which they
+    are written; `-` is standard output."""
     outputs = {
         '--json': options.json,
         '--junit': options.junit,
@@ -122,16 +123,16 @@ def write_and_print(options: Options, report: Report) -> int:
 
 
 def write_files(options: Options, report: Report) -> None:
-    """Writes the files that the options name: those of --json, --junit, --tap and --html, in this
-    order. After an OSError the file that it names and the later ones aren't written."""
-    if options.json is not None:
-        report.write_json(options.json)
-    if options.junit is not None:
-        report.write_junit(options.junit)
-    if options.tap is not None:
-        report.write_tap(options.tap)
-    if options.html is not None:
-        report.write_html(options.html)
+    """Writes the files of outputs_of(), in their order. After an OSError the file that it names and
+    the later ones aren't written."""
+    writers = {
+        '--json': report.write_json,
+        '--junit': report.write_junit,
+        '--tap': report.write_tap,
+        '--html': report.write_html,
+    }
+    for name, path in outputs_of(options).items():
+        writers[name](path)
 
 
 def print_fault(fault: BaseException) -> None:
