@@ -2,8 +2,9 @@
 
 A change, and an acknowledged line, is placed where it begins; a sync, and anything else, where it
 ends. So a sync covers no change that began after it. A change that overlaps a sync of the same file
-may not be covered: it is placed where it ends, after the sync. A function that reads arguments
-raises LogError if one isn't as strace writes it.
+may not be covered: it is placed where it ends, after the sync. Files are the same if their paths
+are: another hard link of a file counts as another file here. A function that reads arguments raises
+LogError if one isn't as strace writes it.
 """
 
 from __future__ import annotations
