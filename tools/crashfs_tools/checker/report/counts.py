@@ -127,18 +127,18 @@ class StateCounts:
     @property
     def total_text(self) -> str:
         """How many crash states there are, as text; all must have been asked for. If not all are
-        listed, the text has a bound instead: in several windows `more than` most_of_windows; in one
+        listed, the text has a bound instead: in several windows `more than` listing_limit; in one
         plan the number of sets or, if they can't be counted, `more than` LEAST_OF_MANY."""
         if self.are_all_listed:
             return f'{self.different_states:,}'
         if len(self.all_states) > 1:
-            return f'more than {self.most_of_windows:,}'
+            return f'more than {self.listing_limit:,}'
         return f'more than {LEAST_OF_MANY:,}' if self.set_count is None else f'{self.set_count:,}'
 
     @property
-    def most_of_windows(self) -> int:
-        """Up to how many different crash states all those of a window are tried: the largest such
-        number of all windows. 0 if only families were asked for."""
+    def listing_limit(self) -> int:
+        """The largest limit of all windows: a window's plan lists all its different crash states if
+        these are at most so many. 0 if only families were asked for."""
         return max((window.most for window in self.all_states if window is not None), default=0)
 
     def has_tried_all(self, head: Head) -> bool:

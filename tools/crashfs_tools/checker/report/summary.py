@@ -149,7 +149,7 @@ def partial_check_lines(counts: StateCounts) -> Iterator[str]:
         total = counts.different_states
         yield f'all {total:,}{time_text(counts, total)}: --every'
         return
-    most = counts.most_of_windows
+    most = counts.listing_limit
     yield f'all are more than {most:,}{time_text(counts, most, "more than ")}: --every N'
 
 

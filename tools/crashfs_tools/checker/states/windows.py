@@ -93,13 +93,13 @@ class Windows:
         """The window after `previous`; its first state gets first_number. It begins at next_begin()
         or, if such a window wouldn't end later than `previous`, at the end of `previous`. Moves
         `steps` to where the window begins, and adds to cut_off what was pending at the end of
-        `previous` and isn't in the new window. Errors as in go_to() and longest_window()."""
+        `previous` and isn't in the new window. Errors as in move_steps() and longest_window()."""
         begin = self.next_begin(previous)
-        self.go_to(steps, previous, begin)
+        self.move_steps(steps, previous, begin)
         window = self.longest_window(steps, first_number)
         if window.end <= previous.end:
             begin = previous.end
-            self.go_to(steps, previous, begin)
+            self.move_steps(steps, previous, begin)
             window = self.longest_window(steps, first_number)
         self.note_cut_off(previous, self.session.places[begin])
         return window
@@ -215,19 +215,19 @@ class Windows:
             count == len(needs) or places[step] + count >= places[previous.end + 1]
         )
 
-    def go_to(self, steps: Steps, previous: PlannedWindow, step: int) -> None:
+    def move_steps(self, steps: Steps, previous: PlannedWindow, step: int) -> None:
         """Moves `steps` to a later step of the window `previous` or to its end, with the tree that
-        the program gives of that moment. Refused if these tools, which apply the operations
-        themselves, have another tree there: then `steps` has moved. ProgramFault if the program
-        gives no tree: then it hasn't."""
+        the program gives of that moment; `previous` must not be the session's last window. Refused
+        if these tools, which apply the operations themselves, have another tree there: then `steps`
+        has moved. Errors as in Crashfs.tree_with_root(): then it hasn't."""
         prefix = self.session.places[step] - previous.planned.offsets.operations
         words = [*previous.planned.parts[0].options, '--state', str(prefix)]
         start_tree = self.planner.program.tree_with_root(words, self.planner.guard.environment)
         steps.go_to(step, start_tree)
         if start_tree != steps.tree.entries:
             raise Refused(
-                f'the tree of the program before line {self.session.steps[step].line} '
-                'is not that of these tools, of which one is wrong'
+                f'before line {self.session.steps[step].line} the program and these tools have '
+                'different trees: one of them is wrong'
             )
 
     def note_cut_off(self, previous: PlannedWindow, next_place: int) -> None:
