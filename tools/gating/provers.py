@@ -42,9 +42,9 @@ def kind_of_work(words: List[str], folder: str) -> str:
 
 
 def read_stat_fields(number: int) -> List[str]:
-    """The fields of /proc/NUMBER/stat from the state, field 3, on: the times are at index 11 to 14,
-    the begin at 19, the memory at 21. The name before them may have any bytes. OSError or
-    IndexError if the process has ended."""
+    """The fields of /proc/NUMBER/stat from the state, field 3, on: the processor times are at index
+    11 to 14, and the start time at 19, in clock ticks; the memory at 21, in pages. The name before
+    them may have any bytes. OSError or IndexError if the process has ended."""
     return Path(f'/proc/{number}/stat').read_text('ascii', 'replace').rsplit(')', 1)[1].split()
 
 

@@ -50,9 +50,9 @@ class ModelledSession:
         self.failing_sets = self.find_failing_sets(checked)
 
     def find_failing_sets(self, checked: CheckedExample) -> Set[int]:
-        """The sets that leave a state in which the check's command failed: also those that the
-        check didn't try, since it tries only the first set that leaves a state. States with equal
-        digests and as many acknowledged lines are equal."""
+        """The sets that leave a state in which the check's command failed or gave no answer: also
+        those that the check didn't try, since it tries only the first set that leaves a state.
+        States with equal digests and as many acknowledged lines are equal."""
         plan, states = checked.findings.plan, States(self.reading)
 
         def tree_and_says(kept_set: int) -> Tuple[object, int]:

@@ -108,10 +108,11 @@ class StraceRun:
         self.strace_process = 0
 
     def run_command(self) -> int:
-        """Runs COMMAND to its end, without a time limit, and returns its status as Popen has it.
-        To be called in the main thread, and before stream.finish(), which returns the log. Signals
-        get their old handlers back. OSError if strace can't be started, the log's pipe can't be
-        opened, or standard output can't be written: strace and COMMAND may still run then."""
+        """Runs COMMAND to its end, without a time limit, copies its standard output to this
+        process's, and returns its status as Popen has it. To be called in the main thread, and
+        before stream.finish(), which returns the log. Signals get their old handlers back. OSError
+        if strace can't be started, the log's pipe can't be opened, or standard output can't be
+        written: strace and COMMAND may still run then."""
         old_handlers = {
             number: signal.signal(number, self.note_signal) for number in stop_signals()
         }

@@ -82,9 +82,9 @@ class Swap:
 
     def lines_of_copy(self, moved_numbers: List[int]) -> Optional[List[Tuple[int, str]]]:
         """The lines of the copy, each after its number in the session. The lines of moved_numbers
-        come before the kept one, and after them a sync of the lost line's path, with the number 0.
-        None if the window lacks one of the lines, or has one of moved_numbers in parts. OSError if
-        the window's trace can't be read."""
+        come before the kept one, and after them an fsync of the lost line's path_to_fsync, with the
+        number 0. None if the window lacks one of the lines, or has one of moved_numbers in parts.
+        OSError if the window's trace can't be read."""
         planned = self.trials.planned
         with open(planned.trace, **TEXT) as file:
             text_lines = file.read().rstrip('\n').split('\n')

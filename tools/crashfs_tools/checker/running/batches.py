@@ -10,10 +10,11 @@ from .results import Results
 
 
 def states_in_batches(results: Results, *, has_all: bool) -> List[Set[int]]:
-    """The numbers of the states to try, in batches that are tried one after the other: each number
-    once, one for each trial, and no batch empty. First come the families, then what was drawn at
-    random and, if has_all is set, all other states. The numbers are those of all shards; some may
-    have outcomes already."""
+    """The numbers of the states that can be tried here, in batches to be tried one after the other:
+    each number once, one for each trial that the window before doesn't try, and no batch empty.
+    First come the families, then what was drawn at random and, if has_all is set, all other states.
+    An earlier choice isn't looked at. The numbers are those of all shards; some may have outcomes
+    already."""
     plan = results.plan
     sets_of_batches = [*family_batches(plan), drawn_sets(plan)]
     if has_all:

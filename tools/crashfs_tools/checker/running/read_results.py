@@ -142,13 +142,14 @@ def parse_states(values: Any, first: int, operation_count: int) -> List[State]:
 
 
 def parse_needs(values: Any, operation_count: int) -> Needs:
-    """What each of operation_count micro-operations needs, from texts of hexadecimal digits.
-    ValueError for anything else, and if one needs a later one."""
+    """The set that each of operation_count micro-operations needs, from texts of numbers as int()
+    reads them to the base 16. ValueError for anything else, for another count, and if one needs a
+    later one. Whether each set has its own place, and all that its members need, isn't checked."""
     masks = [int(parse_text(value), 16) for value in parse_items(values)]
     if len(masks) != operation_count or any(
         not 0 <= mask < 2 << place for place, mask in enumerate(masks)
     ):
-        raise ValueError('needs are of micro-operations, and of earlier ones')
+        raise ValueError('another count of needs, or a need of a later micro-operation')
     return Needs(masks)
 
 
