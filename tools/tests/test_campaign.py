@@ -134,7 +134,7 @@ class Reports(InFolder):
 
     def test_a_failure_that_is_no_entry_leaves_the_session_without_a_verdict(self):
         self.assertEqual(self.checked(0), SessionVerdict())
-        fault = 'crashfs-check: status 1: what fails is no entry of its report, as of --nested'
+        fault = 'crashfs-check: status 1: a failure has no entry in its report, as one of --nested'
         self.assertEqual(self.checked(1), SessionVerdict([], fault))
         self.assertEqual(self.checked(3), SessionVerdict([], 'crashfs-check: status 3: it ended'))
 

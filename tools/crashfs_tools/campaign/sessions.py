@@ -22,7 +22,7 @@ RECORDED = (0, 4)
 NONE_FAILS, SOME_FAIL = 0, 1
 # The results of states in the check's JSON.
 BAD, NO_ANSWER = 'bad', 'no answer'
-NO_ENTRY = 'what fails is no entry of its report, as of --nested'
+NO_ENTRY = 'a failure has no entry in its report, as one of --nested'
 # A command that is asked to end, and hasn't after so long, is asked again.
 ENDING_SECONDS = 5.0
 # The version of the check's JSON that is read.
@@ -76,8 +76,8 @@ class Sessions:
 
     def check(self, trace: Path, page: Optional[Path] = None) -> SessionVerdict:
         """Checks a trace with RECOVERY, and writes the report as a page too, if one is named.
-        Returns the failures in the report, and a fault if there is no whole verdict, or if what
-        fails isn't among them; a check that ended early has what was found until then. Raises what
+        Returns the failures in the report, which are those found by then if the check ended early,
+        and a fault if there is no whole verdict, or if what fails isn't among them. Raises what
         run_tool() and read_report() do, and KeyError if the report lacks a key."""
         report = self.folder / 'report.json'
         if report.exists():
