@@ -77,7 +77,7 @@ class Clients(Served):
         """A trace of version 4: at the end `/t`, with a symbolic link in it, is `/d`."""
         if PROGRAM is None or not PROGRAM.can_read_version(4):
             self.skipTest('the program reads no trace of version 4')
-        server = self.server('--connections', '2', trace=MOVED)
+        server = self.server('--ready', '--connections', '2', trace=MOVED)
         for state, there, gone, target in (('0', 't', 'd', 'f'), ('3', 'd', 't', 'x')):
             ann = self.talker(server, ANN.replace('0/x', f'{state}/x'))
             self.assertEqual(ann.ask(f'walk 0 1 {gone}'), 'Rerror tag 1 ename "K8 no such name"')
