@@ -131,11 +131,13 @@ class Figures(unittest.TestCase):
 
     def test_the_times_of_builds_are_those_of_contributing(self) -> None:
         cell = rows_of('CONTRIBUTING.md')['a first build by `tools/build`'][0]
-        self.assertEqual(cell, 'over 200 processor minutes, an hour or more on four cores; 10 GB')
+        self.assertEqual(
+            cell, 'over 200 processor minutes, an hour and a half or more on four cores; 10 GB'
+        )
         text = ' '.join(README.split())
         for words in (
             'over 200 minutes of processor time',
-            'an hour or more on four cores',
+            'an hour and a half or more on four cores',
             '10 GB',
         ):
             self.assertIn(words, text)
