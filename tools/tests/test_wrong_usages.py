@@ -32,6 +32,12 @@ RECORD: List[Tuple[str, int, str]] = [
     ('--profile x d o -- true', 2, "error: argument --profile: invalid choice: 'x' "),
     ('--say-fd x d o -- true', 2, 'error: argument --say-fd: x is neither a number nor `socket`'),
     ('--say-fd \u00b2 d o -- true', 2, 'error: argument --say-fd: \u00b2 is neither a number nor'),
+    ('--say-fd 2147483648 d o -- true', 2, 'error: argument --say-fd: no descriptor has a number'),
+    (
+        f'--begin-after {5000 * "9"} d o -- true',
+        2,
+        'error: argument --begin-after: no line has a number of 5,000 digits',
+    ),
     ('--from-log l d o -- true', 2, 'error: --from-log goes with no COMMAND,'),
     ('--from-log l --mapped d o', 2, 'error: --from-log goes with no COMMAND,'),
     ('none o -- true', 1, 'none is no directory'),

@@ -23,6 +23,8 @@ from .output_streams import DEFAULT_DESCRIPTORS, SOCKETS, SayEach
 NAME = 'crashfs-record'
 # The versions of traces that can be written; AUTO is the oldest that has all that happens.
 AUTO, VERSIONS = 'auto', ('3', '4')
+# The system keeps the number of a descriptor in an int.
+LARGEST_DESCRIPTOR = 2**31 - 1
 
 DESCRIPTION = """\
 Records what COMMAND does to the directory DIR, as a trace of file operations.
@@ -160,6 +162,7 @@ def add_trace_options(parser: argparse.ArgumentParser) -> None:
     parser.add_argument(
         '--begin-after',
         metavar='LINE',
+        type=check_begin_after,
         help='begin the trace after the acknowledged line with this number, or after '
         'the first that matches; earlier changes belong to the start tree',
     )
@@ -217,14 +220,25 @@ def check_pattern(text: str) -> str:
 
 
 def parse_descriptor(word: str) -> str:
-    """The descriptor of a value of --say-fd: SOCKETS, or the digits of a number as they are
-    compared, without zeros before them. ArgumentTypeError for any other text."""
+    """A value of --say-fd as descriptors are compared with it: SOCKETS, or the digits of a number
+    without zeros before them. ArgumentTypeError for any other text, and for a number above
+    LARGEST_DESCRIPTOR."""
     if word == SOCKETS:
         return word
     number = parse_number(word)
     if number is None:
         raise argparse.ArgumentTypeError(f'{word} is neither a number nor `{SOCKETS}`')
+    if number > LARGEST_DESCRIPTOR:
+        raise argparse.ArgumentTypeError(f'no descriptor has a number above {LARGEST_DESCRIPTOR}')
     return f'{number}'
+
+
+def check_begin_after(text: str) -> str:
+    """A value of --begin-after, unchanged. ArgumentTypeError for a number of so many digits that
+    parse_number() doesn't take it; a text that isn't a number is a pattern."""
+    if text.isdecimal() and parse_number(text) is None:
+        raise argparse.ArgumentTypeError(f'no line has a number of {len(text):,} digits')
+    return text
 
 
 def read_options(arguments: List[str]) -> RecordOptions:
