@@ -19,6 +19,7 @@ from .proving import (
     error_text,
     prove_crates_in,
 )
+from .sharing import read_stamps
 
 DESCRIPTION = """\
 Proves all that crashfs uses, several crates side by side, and builds the program.
@@ -73,7 +74,7 @@ def build_all(processors: int) -> int:
     either case. OSError if crates.txt or a text can't be read, or a copy of the repository or of a
     library can't be made."""
     uses, start_time = libraries(), time.monotonic()
-    work = Work(uses, chain_lengths(uses), processors)
+    work = Work(uses, chain_lengths(uses), processors, read_stamps(TOP, uses))
     with tempfile.TemporaryDirectory(prefix='crashfs-build-') as folder:
         copies = [
             TOP,

@@ -88,7 +88,8 @@ def chain_lengths(uses: Dict[str, List[str]]) -> Dict[str, int]:
 @dataclass
 class Work:
     """What is left to prove, shared by threads, one for each copy of the repository. uses and
-    chain_lengths are as libraries() and chain_lengths() return them. Threads hold change_condition
+    chain_lengths are as libraries() and chain_lengths() return them; old_stamps has the stamp of
+    each library that the repository itself had when the build began. Threads hold change_condition
     to change the rest: proved_in, the copy in which each crate was proved; begun_crates, whose
     checks have begun; jobs, the number of processors of each running check; and failed_crate, the
     first that was not proved."""
@@ -96,6 +97,7 @@ class Work:
     uses: Dict[str, List[str]]
     chain_lengths: Dict[str, int]
     processors: int
+    old_stamps: Dict[str, bytes] = field(default_factory=dict)
     proved_in: Dict[str, Path] = field(default_factory=dict)
     begun_crates: Set[str] = field(default_factory=set)
     jobs: Dict[str, int] = field(default_factory=dict)

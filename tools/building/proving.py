@@ -15,23 +15,33 @@ from crashfs_tools.common.printable import escape_unprintable
 
 from .checks import Check, killed_text, run_check
 from .order import PROGRAM, TOP, Work, crates_below, paths_of_texts
-from .sharing import copy_library, library_folder
+from .sharing import copy_library, library_folder, read_stamp
 
-# Held by the thread that works in the repository itself: one whose own copy this is, or whose crate
-# has a current library there.
+# Held by the thread that works in the repository itself: the one whose own copy this is, or one
+# whose crate seems to need no proof there.
 TOP_LOCK = threading.Lock()
 
 
 def is_library_current(copy: Path, name: str) -> bool:
-    """Whether the library of a crate in a copy of the repository is no older than all texts of the
-    crate: then `rt` only needs a second. False if there is no library. A removed text may go
-    unnoticed, and the crates below aren't looked at. OSError if a text is removed meanwhile."""
+    """Whether the library of a crate in a copy of the repository is no older than any text of the
+    crate. False if there is no library. A removed text may go unnoticed; the crates below and the
+    toolchain aren't looked at. OSError if a text is removed meanwhile."""
     stamp = library_folder(copy, name) / 'stamp'
     if not stamp.is_file():
         return False
     library_time = stamp.stat().st_mtime
     texts = paths_of_texts(copy / 'crates' / name)
     return all(path.stat().st_mtime <= library_time for path in texts)
+
+
+def is_library_kept(work: Work, name: str) -> bool:
+    """Whether a crate seems to need no proof, since its library in the repository itself
+    is_library_current(), and each crate below, which must be in work.proved_in, has the library
+    that the repository itself had when the build began. OSError as there."""
+    return is_library_current(TOP, name) and all(
+        read_stamp(library_folder(work.proved_in[lower], lower)) == work.old_stamps.get(lower)
+        for lower in crates_below(work.uses, name)
+    )
 
 
 def copy_sources_to(folder: Path) -> Path:
@@ -70,15 +80,15 @@ def prove_crates_in(copy: Path, work: Work, start_time: float) -> None:
 
 
 def check_crate_in(copy: Path, work: Work, name: str, jobs: int) -> Tuple[Path, Check]:
-    """Checks a crate in a copy of the repository or, if none of its own texts is newer than its
-    library in the repository itself, there: this takes a second unless a crate below has changed.
-    First copies the libraries of the crates below, which must be in work.proved_in, to the place of
-    the check. Waits while another thread works in the repository itself, if that is the place.
-    Returns the place, and the check. Any exception, as of a full disk, becomes a failed check with
-    its text, since other threads wait for the crate's end."""
+    """Checks a crate in a copy of the repository or, if is_library_kept(), in the repository
+    itself, which takes a second unless a text was removed or the toolchain is another one. First
+    copies the libraries of the crates below, which must be in work.proved_in, to the place of the
+    check. Waits while another thread works in the repository itself, if that is the place. Returns
+    the place, and the check. Any exception, as of a full disk, becomes a failed check with its
+    text, since other threads wait for the crate's end."""
     used_copy = copy
     try:
-        if is_library_current(TOP, name):
+        if is_library_kept(work, name):
             used_copy = TOP
         with ExitStack() as locks:
             if used_copy == TOP:

@@ -4,6 +4,7 @@ from __future__ import annotations
 
 import shutil
 from pathlib import Path
+from typing import Dict, Iterable
 
 
 def library_folder(copy: Path, name: str) -> Path:
@@ -17,6 +18,12 @@ def read_stamp(library: Path) -> bytes:
     one; OSError if the stamp can't be read."""
     stamp = library / 'stamp'
     return stamp.read_bytes() if stamp.is_file() else b''
+
+
+def read_stamps(copy: Path, names: Iterable[str]) -> Dict[str, bytes]:
+    """The stamps of the libraries that these crates have in a copy of the repository, as
+    read_stamp() returns them."""
+    return {name: read_stamp(library_folder(copy, name)) for name in names}
 
 
 def copy_library(source_copy: Path, target_copy: Path, name: str) -> None:

@@ -26,7 +26,7 @@ from building.proving import (
     is_library_current,
     prove_crates_in,
 )
-from building.sharing import copy_library
+from building.sharing import copy_library, read_stamps
 
 from .support import PATIENCE
 
@@ -184,24 +184,27 @@ class Sharing(unittest.TestCase):
         self.assertEqual([self.given('top', it) for it in 'abcd'], list('abcd'))
         self.assertEqual(work.proved_in['e'], self.room / '2')
 
-    def test_one_thread_at_a_time_works_in_the_repository_itself(self) -> None:
-        """x and y have current libraries there, and both need that of a, which is elsewhere."""
+    def prove_two(self, newest: str) -> Tuple[Work, List[str]]:
+        """Proves x and y, above a, in two threads, each with a copy of its own. The repository
+        itself has current libraries of all three, and a copy proved this text of a. Returns what is
+        proved, and the names of the crates whose checks ran at the same time."""
         top = self.room / 'top'
         for name in 'xy':
             text = top / 'crates' / name / 'src' / 'lib.rt'
             text.parent.mkdir(parents=True)
             text.write_text('fn f() {}')
+        for name in 'axy':
             self.prove('top', name, name)
-        self.prove('1', 'a', 'a')
-        work = Work({'a': [], 'x': ['a'], 'y': ['a']}, {'a': 2, 'x': 1, 'y': 1}, 4)
+        self.prove('1', 'a', newest)
+        uses = {'a': [], 'x': ['a'], 'y': ['a']}
+        work = Work(uses, {'a': 2, 'x': 1, 'y': 1}, 4, read_stamps(top, uses))
         work.begun_crates.add('a')
         work.proved_in['a'] = self.room / '1'
         meeting = threading.Barrier(2)
         met: List[str] = []
 
         def check(_: List[str], crate: Path) -> Check:
-            self.assertEqual(crate.parent, top / 'crates')
-            self.assertEqual(self.given('top', 'a'), 'a')
+            self.assertEqual(self.given(crate.parent.parent.name, 'a'), newest)
             try:
                 meeting.wait(1)
                 met.append(crate.name)
@@ -214,14 +217,25 @@ class Sharing(unittest.TestCase):
         ), redirect_stdout(io.StringIO()):
             threads = [
                 threading.Thread(target=prove_crates_in, args=(self.room / copy, work, 0))
-                for copy in '12'
+                for copy in '23'
             ]
             for thread in threads:
                 thread.start()
             for thread in threads:
                 thread.join()
-        self.assertEqual((work.failed_crate, met), (None, []))
-        self.assertEqual((work.proved_in['x'], work.proved_in['y']), (top, top))
+        self.assertIsNone(work.failed_crate)
+        return work, met
+
+    def test_one_thread_at_a_time_works_in_the_repository_itself(self) -> None:
+        work, met = self.prove_two('a')
+        self.assertEqual(met, [])
+        self.assertEqual({work.proved_in['x'], work.proved_in['y']}, {self.room / 'top'})
+
+    def test_crates_above_a_changed_one_are_proved_side_by_side(self) -> None:
+        work, met = self.prove_two('new')
+        self.assertEqual(sorted(met), ['x', 'y'])
+        copies = {work.proved_in['x'], work.proved_in['y']}
+        self.assertEqual(copies, {self.room / '2', self.room / '3'})
 
     def build(self, refused: str) -> int:
         """A build whose crates a to e are all proved in the copy 1, but for those of `refused`."""
