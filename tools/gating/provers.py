@@ -8,7 +8,7 @@ from dataclasses import dataclass
 from pathlib import Path
 from typing import Dict, Iterator, List, Optional
 
-from crashfs_tools.common.descendants import all_processes, parent_process
+from crashfs_tools.common.descendants import all_processes, parent_process, read_stat_fields
 
 TICKS = os.sysconf('SC_CLK_TCK')
 PAGE = os.sysconf('SC_PAGE_SIZE')
@@ -41,13 +41,6 @@ def kind_of_work(words: List[str], folder: str) -> str:
     return 'proof'
 
 
-def read_stat_fields(number: int) -> List[str]:
-    """The fields of /proc/NUMBER/stat from the state, field 3, on: the processor times are at index
-    11 to 14, and the start time at 19, in clock ticks; the memory at 21, in pages. The name before
-    them may have any bytes. OSError or IndexError if the process has ended."""
-    return Path(f'/proc/{number}/stat').read_text('ascii', 'replace').rsplit(')', 1)[1].split()
-
-
 def read_prover(number: int) -> Optional[Prover]:
     """The process of this number as a prover, as it is now. None if the process is no prover of a
     crate, has ended, or may not be read."""
@@ -57,8 +50,9 @@ def read_prover(number: int) -> Optional[Prover]:
             return None
         folder = os.readlink(f'/proc/{number}/cwd')
         stat_fields = read_stat_fields(number)
-    except (OSError, IndexError):
+    except OSError:
         return None
+    # The times are in clock ticks, and the memory is in pages.
     return Prover(
         number=number,
         start_time=int(stat_fields[19]) / TICKS,

@@ -10,7 +10,7 @@ from __future__ import annotations
 import os
 import signal
 import time
-from typing import AbstractSet, Callable, Dict, Iterable, Iterator, Set
+from typing import AbstractSet, Callable, Dict, Iterable, Iterator, List, Set
 
 PR_SET_PDEATHSIG, PR_SET_CHILD_SUBREAPER = 1, 36
 # The name of a process that cleans up after another one, and then ends by itself.
@@ -85,10 +85,17 @@ def parent_process(process: int) -> int:
     """The parent of a process. 0 if the process is gone, or has no parent that this process can
     see."""
     try:
-        with open(f'/proc/{process}/stat', 'rb') as file:
-            return int(file.read().rpartition(b')')[2].split()[1])
+        return int(read_stat_fields(process)[1])
     except OSError:
         return 0
+
+
+def read_stat_fields(process: int) -> List[str]:
+    """The fields of /proc/PROCESS/stat from the third on, the state: field N, as proc(5) numbers
+    them, is at the index N - 3. OSError if the process, or thread, is gone."""
+    with open(f'/proc/{process}/stat', encoding='ascii', errors='replace') as file:
+        # The name of the program, in brackets before these fields, may have any bytes.
+        return file.read().rpartition(')')[2].split()
 
 
 def descendant_processes() -> Set[int]:

@@ -81,13 +81,17 @@ def replace_file(path: str, pieces: Iterable[str], mode: int) -> None:
 
 def mode_of_replacement(path: str) -> int:
     """The mode for a file that will replace what is at a path: that of the old file, without set-ID
-    bits; if there is none, that of a new file by the umask. To read the umask, it is set to 0 for a
-    moment, in all threads."""
+    bits; if there is none, that of a new file, by read_umask()."""
     if os.path.exists(path):
         return os.stat(path).st_mode & 0o777
+    return 0o666 & ~read_umask()
+
+
+def read_umask() -> int:
+    """The umask of this process. It is 0 for a moment, also for other threads."""
     umask = os.umask(0)
     os.umask(umask)
-    return 0o666 & ~umask
+    return umask
 
 
 def refuse_foreign_file(path: str) -> None:

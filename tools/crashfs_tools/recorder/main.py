@@ -14,7 +14,7 @@ from crashfs_tools.common.own_faults import print_own_fault
 from crashfs_tools.common.printable import prepare_standard_streams, escape_unprintable
 from crashfs_tools.common.program import Crashfs
 from crashfs_tools.common.signals import Stopped, raise_on_stop_signals
-from crashfs_tools.common.whole_files import write_whole_file
+from crashfs_tools.common.whole_files import read_umask, write_whole_file
 
 from . import stacks, strace_run, summary
 from .begin_after import LateStart
@@ -126,13 +126,6 @@ def start_conditions(options: RecordOptions) -> StartConditions:
         group=group_name(os.getegid()),
         read_outside=no_target if is_from_log else read_link_target,
     )
-
-
-def read_umask() -> int:
-    """The umask of this process. It is 0 for a moment, also for other threads."""
-    umask = os.umask(0)
-    os.umask(umask)
-    return umask
 
 
 def read_link_target(path: str) -> Optional[str]:

@@ -7,6 +7,8 @@ import time
 from enum import Enum
 from typing import List, Optional, Set
 
+from crashfs_tools.common.descendants import read_stat_fields
+
 # How long the threads of a process may take until all are stopped: one may be in a slow sync.
 WAIT_SECONDS = 2.0
 # The letters of /proc for a thread that strace, or a signal, has stopped.
@@ -43,8 +45,7 @@ def list_threads(process: int) -> List[int]:
 def is_stopped(thread: int) -> bool:
     """Whether a thread is stopped, by strace or by a signal; False if it has ended."""
     try:
-        with open(f'/proc/{thread}/stat', encoding='utf-8', errors='replace') as file:
-            return file.read().rpartition(')')[2].split()[0] in STOPPED
+        return read_stat_fields(thread)[0] in STOPPED
     except OSError:
         return False
 
