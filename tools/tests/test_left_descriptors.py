@@ -6,9 +6,9 @@ import unittest
 from contextlib import redirect_stdout
 from unittest import mock
 
-from crashfs_tools.common.command import flushed_output
 from crashfs_tools.common.forked_reading import ForkedReading
 from crashfs_tools.common.guard import Guard
+from crashfs_tools.common.standard_streams import flushed_output
 from crashfs_tools.disks import loops
 
 

@@ -6,7 +6,8 @@ import unittest
 from unittest import mock
 
 from crashfs_tools.common.command import LINE_CHARACTERS, print_line
-from crashfs_tools.common.printable import set_utf8_streams, escape_unprintable
+from crashfs_tools.common.printable import escape_unprintable
+from crashfs_tools.common.standard_streams import set_utf8_streams
 
 
 class Printable(unittest.TestCase):

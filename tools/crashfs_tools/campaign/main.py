@@ -8,11 +8,12 @@ import time
 from pathlib import Path
 from typing import List, Optional
 
-from crashfs_tools.common.command import Refused, print_line, flushed_output
+from crashfs_tools.common.command import Refused, print_line
 from crashfs_tools.common.own_faults import print_own_fault
-from crashfs_tools.common.printable import set_utf8_streams, escape_unprintable
+from crashfs_tools.common.printable import escape_unprintable
 from crashfs_tools.common.removal import remove_tree
 from crashfs_tools.common.signals import Stopped, raise_on_stop_signals
+from crashfs_tools.common.standard_streams import flushed_output, set_utf8_streams
 from crashfs_tools.common.whole_files import folder_to_write, write_whole_file
 
 from .book import Book, KnownFailure, failures_by_key, read_book

@@ -16,12 +16,12 @@ from crashfs_tools.checker.running.descriptors import limit_inherited_descriptor
 from crashfs_tools.checker.running.progress import Progress
 from crashfs_tools.checker.running.runner import LeftRunning
 from crashfs_tools.checker.states.plan import PlanError
-from crashfs_tools.common.command import Refused, print_line, flushed_output
+from crashfs_tools.common.command import Refused, print_line
 from crashfs_tools.common.guard import Guard
 from crashfs_tools.common.own_faults import print_own_fault
-from crashfs_tools.common.printable import set_utf8_streams
 from crashfs_tools.common.program import ProgramFault
 from crashfs_tools.common.signals import Stopped, raise_on_stop_signals
+from crashfs_tools.common.standard_streams import flushed_output, set_utf8_streams
 from crashfs_tools.common.whole_files import folder_to_write
 
 from .checked_trace import mode_of_report

@@ -1,20 +1,21 @@
-"""What the commands share: the command line's two halves, --version, finding COMMAND, and what is
-printed."""
+"""What the commands share: the command line's two halves, --version, finding COMMAND, and the lines
+that a command prints of itself."""
 
 from __future__ import annotations
 
 import argparse
-import errno
 import io
 import os
 import shutil
 import signal
 import sys
-from contextlib import contextmanager, redirect_stdout
+from contextlib import redirect_stdout
 from importlib import import_module
-from typing import Any, Dict, Iterator, List, NoReturn, Optional, Tuple
+from typing import Any, Dict, List, NoReturn, Optional, Tuple
 
 from crashfs_tools import VERSION
+
+from .standard_streams import flushed_output
 
 # How every file of text is written.
 TEXT: Dict[str, Any] = {'encoding': 'utf-8', 'errors': 'surrogateescape', 'newline': '\n'}
@@ -110,35 +111,6 @@ def relative_path_arguments(command: List[str]) -> List[str]:
     """COMMAND's arguments that are relative paths of files or directories in this directory: a
     COMMAND that runs in another directory doesn't find them."""
     return [word for word in command[1:] if not os.path.isabs(word) and os.path.exists(word)]
-
-
-@contextmanager
-def flushed_output() -> Iterator[None]:
-    """What is printed within this is written out by its end. OSError with the stream's name if it
-    can't be, or if standard output is closed; any OSError raised within counts as the stream's. If
-    the reader has closed its end, as `head` does, the rest of the block is skipped, without an
-    error. In each of these cases later output is discarded."""
-    if sys.stdout is None:
-        raise OSError(errno.EBADF, os.strerror(errno.EBADF), 'standard output')
-    try:
-        yield
-        sys.stdout.flush()
-    except OSError as error:
-        discard_output()
-        if not isinstance(error, BrokenPipeError):
-            raise OSError(error.errno, error.strerror, 'standard output') from error
-
-
-def discard_output() -> None:
-    """Makes the descriptor of standard output /dev/null: what is still in the buffer, which Python
-    writes as it ends, is discarded too. OSError if sys.stdout has no descriptor, or /dev/null can't
-    be opened."""
-    output = sys.stdout.fileno()
-    null_device = os.open(os.devnull, os.O_WRONLY)
-    # If standard output was closed, /dev/null may have got its number.
-    if null_device != output:
-        os.dup2(null_device, output)
-        os.close(null_device)
 
 
 def end_process(status: int) -> NoReturn:

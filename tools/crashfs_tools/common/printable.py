@@ -1,12 +1,8 @@
-"""Text as a terminal may show it: what would control the terminal is shown as an escape. And the
-standard streams that show it."""
+"""Text as a terminal may show it: what would control the terminal is shown as an escape."""
 
 from __future__ import annotations
 
-import io
-import os
 import re
-import sys
 
 # Control characters, marks that change the direction or join letters, separators of lines,
 # characters of no meaning, and halves of surrogate pairs, which are bytes that aren't UTF-8.
@@ -42,28 +38,3 @@ def count_text(count: int, noun: str, plural: str = '') -> str:
     """A number with what it counts, as `1 state` or `2,000 states`: the noun gets an s unless the
     number is 1. `plural` must be given if the plural isn't the noun with an s."""
     return f'{count:,} {noun if count == 1 else plural or noun + "s"}'
-
-
-def set_utf8_streams() -> None:
-    """Makes standard output and standard error UTF-8, whatever the locale is. What can't be
-    encoded, halves of surrogate pairs, is printed as an escape. Streams of another class, as those
-    of a test, stay as they are."""
-    for stream in (sys.stdout, sys.stderr):
-        if isinstance(stream, io.TextIOWrapper):
-            stream.reconfigure(encoding='utf-8', errors='backslashreplace')
-
-
-def prepare_standard_streams() -> None:
-    """Opens /dev/null for each standard stream that is closed, also for programs that are started,
-    so that no other file gets the stream's number. Python's own sys.stdin may still be None. Then
-    calls set_utf8_streams()."""
-    for number in (0, 1, 2):
-        try:
-            os.fstat(number)
-        except OSError:
-            os.set_inheritable(os.open(os.devnull, os.O_RDWR), True)
-    if sys.stdout is None:
-        sys.stdout = open(1, 'w', encoding='utf-8', closefd=False)
-    if sys.stderr is None:
-        sys.stderr = open(2, 'w', encoding='utf-8', closefd=False)
-    set_utf8_streams()

@@ -9,7 +9,8 @@ import sys
 import tempfile
 from typing import Iterable
 
-from .command import TEXT, Refused, flushed_output
+from .command import TEXT, Refused
+from .standard_streams import flushed_output
 
 
 def folder_to_write(path: str) -> str:

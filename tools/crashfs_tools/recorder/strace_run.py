@@ -12,10 +12,11 @@ import time
 from contextlib import nullcontext
 from typing import ContextManager, List, Optional, Sequence
 
-from crashfs_tools.common.command import Refused, flushed_output
+from crashfs_tools.common.command import Refused
 from crashfs_tools.common.guard import Guard
 from crashfs_tools.common.pipes import poll_for_input
 from crashfs_tools.common.signals import stop_signals
+from crashfs_tools.common.standard_streams import flushed_output
 
 from . import stacks
 from .log_stream import LogStream

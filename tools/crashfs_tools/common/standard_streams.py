@@ -1,0 +1,64 @@
+"""The standard streams: all are open and in UTF-8, and output that can't be written is noticed."""
+
+from __future__ import annotations
+
+import errno
+import io
+import os
+import sys
+from contextlib import contextmanager
+from typing import Iterator
+
+
+def set_utf8_streams() -> None:
+    """Makes standard output and standard error UTF-8, whatever the locale is. What can't be
+    encoded, halves of surrogate pairs, is printed as an escape. Streams of another class, as those
+    of a test, stay as they are."""
+    for stream in (sys.stdout, sys.stderr):
+        if isinstance(stream, io.TextIOWrapper):
+            stream.reconfigure(encoding='utf-8', errors='backslashreplace')
+
+
+def prepare_standard_streams() -> None:
+    """Opens /dev/null for each standard stream that is closed, also for programs that are started,
+    so that no other file gets the stream's number. Python's own sys.stdin may still be None. Then
+    calls set_utf8_streams(). OSError if /dev/null can't be opened."""
+    for number in (0, 1, 2):
+        try:
+            os.fstat(number)
+        except OSError:
+            os.set_inheritable(os.open(os.devnull, os.O_RDWR), True)
+    if sys.stdout is None:
+        sys.stdout = open(1, 'w', encoding='utf-8', closefd=False)
+    if sys.stderr is None:
+        sys.stderr = open(2, 'w', encoding='utf-8', closefd=False)
+    set_utf8_streams()
+
+
+@contextmanager
+def flushed_output() -> Iterator[None]:
+    """What is printed within this is written out by its end. OSError with the stream's name if it
+    can't be, or if standard output is closed; any OSError raised within counts as the stream's. If
+    the reader has closed its end, as `head` does, the rest of the block is skipped, without an
+    error. In each of these cases later output is discarded."""
+    if sys.stdout is None:
+        raise OSError(errno.EBADF, os.strerror(errno.EBADF), 'standard output')
+    try:
+        yield
+        sys.stdout.flush()
+    except OSError as error:
+        discard_output()
+        if not isinstance(error, BrokenPipeError):
+            raise OSError(error.errno, error.strerror, 'standard output') from error
+
+
+def discard_output() -> None:
+    """Makes the descriptor of standard output /dev/null: what is still in the buffer, which Python
+    writes as it ends, is discarded too. OSError if sys.stdout has no descriptor, or /dev/null can't
+    be opened."""
+    output = sys.stdout.fileno()
+    null_device = os.open(os.devnull, os.O_WRONLY)
+    # If standard output was closed, /dev/null may have got its number.
+    if null_device != output:
+        os.dup2(null_device, output)
+        os.close(null_device)
