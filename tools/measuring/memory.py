@@ -84,9 +84,9 @@ def measure_growth(
     server: subprocess.Popen[str], fill: Callable[[ExitStack], int]
 ) -> Tuple[int, int]:
     """By how many bytes a server grows while `fill` fills it, and the count that `fill` returns.
-    The growth is below 0 if the system takes more pages away meanwhile, or if the server ends. What
-    `fill` adds to the stack that it gets is closed at the end, also if it raises an error, which is
-    raised. OSError as resident_bytes()."""
+    The growth is below 0 if the system takes more pages of the server away meanwhile. What `fill`
+    adds to the stack that it gets is closed at the end, also if it raises an error, which is
+    raised. OSError if the server ends before its memory is read."""
     bytes_before = resident_bytes(server)
     with ExitStack() as opened:
         count = fill(opened)

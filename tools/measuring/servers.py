@@ -79,9 +79,9 @@ def serve_words(programs: Programs, address: str, connections: int) -> List[str]
 
 
 def resident_bytes(server: subprocess.Popen[str]) -> int:
-    """How many bytes a server has in memory: VmRSS of proc(5). 0 if the server has ended; OSError
-    if somebody has waited for it, too."""
+    """How many bytes a server has in memory: VmRSS of proc(5). OSError if the server has ended."""
     for line in Path(f'/proc/{server.pid}/status').read_text().splitlines():
         if line.startswith('VmRSS:'):
             return int(line.split()[1]) * 1024
-    return 0
+    # An ended process that nobody has waited for still has the file, but not this line.
+    raise OSError(f'the server, process {server.pid}, has ended')

@@ -18,6 +18,7 @@ from unittest import mock
 
 from measuring.client import Client, Refused, message, text_field
 from measuring.memory import (
+    add_memory_rows,
     fill_with_connections,
     fill_with_runs,
     fill_with_writes,
@@ -55,7 +56,9 @@ def answer(listener: socket.socket, replies: bytes) -> None:
             pass
 
 
-class Measure(InFolder):
+class WithPrograms(InFolder):
+    """A repository in which programs are what the tests write."""
+
     def setUp(self) -> None:
         super().setUp()
         self.write('crates.txt', CRATES)
@@ -79,6 +82,8 @@ class Measure(InFolder):
         words = [sys.executable, str(TOOLS / 'measure'), '--top', self.folder, *names]
         return subprocess.run(words, stdout=subprocess.PIPE, stderr=subprocess.PIPE, text=True)
 
+
+class Measure(WithPrograms):
     def test_rows_of_built_programs_are_printed_and_the_others_named(self) -> None:
         self.printing('first_bench', ROWS)
         told = self.measure()
@@ -144,7 +149,7 @@ class Measure(InFolder):
         self.assertEqual(told.stdout.count('memory failed: '), 3)
 
 
-class States(Measure):
+class States(WithPrograms):
     @needed(shutil.which('cc') is not None, 'cc is not there')
     def test_states_are_measured_beside_a_c_program(self) -> None:
         self.program('crashfs', ['#!/bin/sh', f'exec {READING} "$@"'])
@@ -160,7 +165,7 @@ class States(Measure):
         self.assertIn('states failed: ', self.measure('states').stdout)
 
 
-class Sets(Measure):
+class Sets(WithPrograms):
     """Rows of sets, of as few files as the second reading finds at once."""
 
     def printed(self, lines: List[int]) -> str:
@@ -265,6 +270,29 @@ class Memory(InFolder):
         self.assertEqual(
             self.grown(lambda address, opened: fill_with_writes(address, 8, opened)), 8
         )
+
+
+class EndedServers(WithPrograms):
+    def test_a_server_that_ends_when_it_is_full_is_a_failure_and_has_no_row(self) -> None:
+        def end_and_measure(server, fill):
+            def fill_and_end(opened):
+                count = fill(opened)
+                server.kill()
+                os.waitid(os.P_PID, server.pid, os.WEXITED | os.WNOWAIT)
+                return count
+
+            return measure_growth(server, fill_and_end)
+
+        self.program('crashfs', ['#!/bin/sh', f'exec {FAKE} "$@"'])
+        few = {'CONNECTIONS': 3, 'RUNS': 6, 'WRITES': 8}
+        tally = Tally(benchmark='memory')
+        with mock.patch.multiple('measuring.memory', measure_growth=end_and_measure, **few):
+            with contextlib.redirect_stdout(io.StringIO()) as out:
+                add_memory_rows(Programs(Path(self.folder)), tally)
+        self.assertRegex(
+            out.getvalue(), r'^(memory failed: the server, process \d+, has ended\n){3}$'
+        )
+        self.assertEqual((tally.failed, tally.within_count), (['memory'] * 3, 0))
 
 
 class Servers(unittest.TestCase):
