@@ -103,6 +103,18 @@ class Rows(unittest.TestCase):
         text = listed(row('row47.trace'), has_lines=True)
         self.assertIn('op 0 write_block 0 0 0 1 line 4 /f\n', text)
 
+    def test_a_path_that_ends_in_a_blank_is_listed_whole(self):
+        write = '{"op":"write","path":"/a ","offset":0,"text":"x"}\n'
+        lines = listed(HEADERS[3] + CREAT % '/a ' + write, has_lines=True).split('\n')
+        self.assertEqual(
+            lines[:3],
+            [
+                'op 0 create_dir_entry /a  file line 2',
+                'op 1 change_file_size 0 1 line 3 /a ',
+                'op 2 write_block 0 0 0 1 line 3 /a ',
+            ],
+        )
+
     def test_a_sync_of_a_range_takes_away_what_it_covers_from_the_files_family(self):
         sets = list(
             different_places(file_sets(make_plan(parse_trace(row('row45.trace').encode()))))

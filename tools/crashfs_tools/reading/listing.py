@@ -35,8 +35,8 @@ def plain_state_lines(plan: StateList, *, has_same: bool) -> Iterator[str]:
 def origin_text(operation: MicroOperation) -> str:
     """What --lines adds to the line of a micro-operation: the number of the trace's line that it
     comes from, and the path of a file that it changes. Other micro-operations have no path here."""
-    path = '' if operation.file_number is None else operation.path
-    return f' line {operation.line_number} {path}'.rstrip()
+    path_text = '' if operation.file_number is None else f' {operation.path}'
+    return f' line {operation.line_number}{path_text}'
 
 
 def first_equal_states(plan: StateList) -> Iterator[int]:
