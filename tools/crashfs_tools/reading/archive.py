@@ -17,9 +17,9 @@ KINDS = {'dir': tarfile.DIRTYPE, 'file': tarfile.REGTYPE, 'symlink': tarfile.SYM
 
 class ArchiveWriter:
     """Writes an archive of states of a plan to a stream, which stays open. The end of a `with` ends
-    the archive. If is_sparse is set, large files with many zeros are written as extents. What
-    writes raises an OSError of the stream, and IndexError if the plan has no state with the number.
-    """
+    the archive. If is_sparse is set, large files with many zeros are written as extents. Each
+    method that writes raises an OSError of the stream, and IndexError if it gets a number that no
+    state of the plan has."""
 
     def __init__(self, plan: StateList, stream: BinaryIO, *, is_sparse: bool = False) -> None:
         """Writes nothing yet."""
@@ -40,7 +40,8 @@ class ArchiveWriter:
         stream.close()
 
     def tree_of_state(self, number: int) -> Dict[str, Item]:
-        """What is at each path of the state with this number, as States.tree() returns it."""
+        """What is at each path of the state with this number, as States.tree() returns it.
+        IndexError if the plan has no such state."""
         return self.plan.trees.tree(self.plan.states[number].place_set)
 
     def write_state(self, number: int) -> None:

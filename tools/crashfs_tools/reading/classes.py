@@ -7,6 +7,7 @@ can still get one; bytes past a file's size count as long as a later size can sh
 
 from __future__ import annotations
 
+from functools import cached_property
 from typing import Dict, FrozenSet, Iterator, List, NamedTuple, Optional, Set, Tuple, Union
 
 from .contents import Contents
@@ -24,9 +25,9 @@ NameChanges = Dict[Union[Entry, int], Union[Inode, Rights, None]]
 # Each changed file, by its number, with the id of its content.
 FileContents = Tuple[Tuple[int, int], ...]
 # What is at a path: its kind, and the id of its content or a directory's rights.
-Shown = Tuple[object, ...]
+ShownItem = Tuple[object, ...]
 # Each path at which a state differs from the start tree, with what is there, or None if nothing is.
-Tree = FrozenSet[Tuple[str, Optional[Shown]]]
+TreeChanges = FrozenSet[Tuple[str, Optional[ShownItem]]]
 
 
 class SetResult(NamedTuple):
@@ -39,13 +40,13 @@ class SetResult(NamedTuple):
 
 
 class SetClasses:
-    """A walk through the sets of micro-operations that an order of a trace allows. Later walks use
-    what earlier ones have computed.
+    """The classes of the sets that an order of a trace allows, found by walks through these sets.
+    Later walks use what earlier ones have computed, which is kept in memory.
 
-    `changes` has an id for each NameChanges that some set leaves. By a file's number, start_ids has
-    the id of the file's first content, start_entries the entries that hold it in the start tree,
+    `changes` has an id for each NameChanges that was found. By a file's number, start_ids has the
+    id of the file's first content, start_entries the entries that hold it in the start tree,
     resizes the set of the places that change its size, and links that of the places that give it
-    one more entry. Without such entries or places, a file isn't in these maps.
+    one more entry. A file without such entries or places isn't in the last three.
     """
 
     def __init__(self, reading: Reading, order: Order) -> None:
@@ -58,10 +59,7 @@ class SetClasses:
             file_number: self.contents.initial_content_id(file_number)
             for file_number in reading.initial_rights
         }
-        self.start_entries: Dict[int, List[Entry]] = {}
-        for entry, node in reading.start.items():
-            if node.kind != DIRECTORY:
-                self.start_entries.setdefault(node.number, []).append(entry)
+        self.start_entries = entries_by_file(reading.start)
         self.resizes = sets_by_key(
             (operation.file_number, place)
             for place, operation in enumerate(reading.operations)
@@ -75,17 +73,16 @@ class SetClasses:
         self.changes: IdTable[NameChanges] = IdTable(lambda changes: frozenset(changes.items()))
         self._ids_after: Dict[Tuple[int, int], int] = {}
         self._has_name: Dict[Tuple[int, int], bool] = {}
-        self._start_paths: Dict[str, Inode] = {}
 
     def different_sets(self) -> Iterator[int]:
         """The first set of each different state, in the order of every_set(). States differ if
         their trees do, or their numbers of acknowledged lines. There may be far too many: the
         caller must stop when it has enough. What was found is kept in memory."""
-        trees: Set[Tuple[int, Tree]] = set()
+        states: Set[Tuple[int, TreeChanges]] = set()
         for place_set, result in self.first_sets():
-            tree = result.says, self.changed_tree(result)
-            if tree not in trees:
-                trees.add(tree)
+            state = result.says, self.tree_changes(result)
+            if state not in states:
+                states.add(state)
                 yield place_set
 
     def first_sets(self) -> Iterator[Tuple[int, SetResult]]:
@@ -122,16 +119,18 @@ class SetClasses:
         return result._replace(file_contents=tuple(shown_contents))
 
     def after_unit(self, result: SetResult, unit: int) -> SetResult:
-        """What a set leaves together with the micro-operations of the set `unit`, which must come
-        after its own. KeyError as after_operation()."""
+        """What a set leaves together with the micro-operations at the places of `unit`, which must
+        come after all places of the set; `result` is what the set leaves by itself. KeyError as
+        after_operation()."""
         for place in places_of(unit):
             result = self.after_operation(result, place)
         return result
 
     def after_operation(self, result: SetResult, place: int) -> SetResult:
-        """What a set leaves together with the micro-operation at `place`, which must come after its
-        own. The files of the result are sorted, so that equal results are equal keys. KeyError if
-        the set lacks what the micro-operation needs."""
+        """What a set leaves together with the micro-operation at `place`, which must come after all
+        places of the set; `result` is what the set leaves by itself. The files of what is returned
+        are sorted, so that equal results are equal keys. KeyError if the set lacks what the
+        micro-operation needs."""
         operation = self.reading.operations[place]
         if operation.file_number is not None:
             contents = dict(result.file_contents)
@@ -149,17 +148,17 @@ class SetClasses:
     def changes_id_after(self, changes_id: int, place: int) -> int:
         """The id of what name changes, given by their id, become by the micro-operation at `place`,
         which must change entries or a directory's rights. It is computed only once. KeyError as
-        change_held_nodes()."""
+        update_entries()."""
         key = changes_id, place
         if key not in self._ids_after:
             operation = self.reading.operations[place]
             changes = dict(self.changes.values[changes_id])
-            self.change_held_nodes(changes, operation)
-            self.change_directory_rights(changes, operation)
+            self.update_entries(changes, operation)
+            self.update_directory_rights(changes, operation)
             self._ids_after[key] = self.changes.id_of(changes)
         return self._ids_after[key]
 
-    def change_held_nodes(self, changes: NameChanges, operation: MicroOperation) -> None:
+    def update_entries(self, changes: NameChanges, operation: MicroOperation) -> None:
         """Updates `changes` by what a micro-operation does to entries. An entry that holds the same
         as at the start again is dropped. KeyError if an entry that the micro-operation removes or
         moves holds nothing."""
@@ -171,7 +170,7 @@ class SetClasses:
             if changes[entry] == self.reading.start.get(entry):
                 del changes[entry]
 
-    def change_directory_rights(self, changes: NameChanges, operation: MicroOperation) -> None:
+    def update_directory_rights(self, changes: NameChanges, operation: MicroOperation) -> None:
         """Updates `changes` by what a micro-operation does to the rights of directories. A removed
         directory, and one whose rights are as at the start again, are dropped."""
         changed_rights: Dict[int, Rights] = {}
@@ -198,7 +197,8 @@ class SetClasses:
         return self._has_name[key]
 
     def entries_of(self, changes_id: int, file_number: int) -> Iterator[Entry]:
-        """The entries that hold a file after the name changes with this id, in no order."""
+        """The entries that hold a file or symbolic link after the name changes with this id, in no
+        order."""
         changes = self.changes.values[changes_id]
         start_entries = self.start_entries.get(file_number, [])
         yield from (entry for entry in start_entries if entry not in changes)
@@ -209,9 +209,9 @@ class SetClasses:
 
     # The trees
 
-    def changed_tree(self, result: SetResult) -> Tree:
+    def tree_changes(self, result: SetResult) -> TreeChanges:
         """What is at each path at which the tree of a result's state differs from the start tree.
-        It is equal for two results exactly if their trees are equal."""
+        The changes of two results are equal exactly if their trees are."""
         changes, contents = self.changes.values[result.changes_id], dict(result.file_contents)
         is_moved = self.has_moved_directory(changes)
         nodes = self.all_nodes(changes) if is_moved else self.changed_nodes(result)
@@ -222,12 +222,10 @@ class SetClasses:
                 items[path] = item
         return frozenset(items.items())
 
-    @property
+    @cached_property
     def start_paths(self) -> Dict[str, Inode]:
-        """What is at each path of the start tree, the root among them. It is computed only once."""
-        if not self._start_paths:
-            self._start_paths = dict(reachable_paths(self.reading.start.items()))
-        return self._start_paths
+        """What is at each path of the start tree, the root among them."""
+        return dict(reachable_paths(self.reading.start.items()))
 
     def has_moved_directory(self, changes: NameChanges) -> bool:
         """Whether name changes have a directory at an entry that isn't at the directory's home, the
@@ -271,13 +269,23 @@ class SetClasses:
 
     def shown_item(
         self, node: Optional[Inode], changes: NameChanges, contents: Dict[int, int]
-    ) -> Optional[Shown]:
+    ) -> Optional[ShownItem]:
         """What a reader sees of `node`: its kind, and the id of a file's content or a directory's
-        rights; None if `node` is None. `contents` has the ids of changed files, by their numbers. A
-        file or directory that neither map has is as at the start."""
+        rights; None if `node` is None. `contents` has the ids of the contents of changed files, by
+        the files' numbers. A file or directory that neither map has is as at the start."""
         if node is None:
             return None
         if node.kind == DIRECTORY:
             return node.kind, changes.get(node.number, self.reading.start_rights.get(node.number))
         content_id = contents.get(node.number, self.start_ids[node.number])
         return node.kind, self.contents.shown_content_id(content_id)
+
+
+def entries_by_file(entries: Dict[Entry, Inode]) -> Dict[int, List[Entry]]:
+    """The entries that hold each file or symbolic link, by its number. A file that no entry holds
+    is left out."""
+    entries_of_files: Dict[int, List[Entry]] = {}
+    for entry, node in entries.items():
+        if node.kind != DIRECTORY:
+            entries_of_files.setdefault(node.number, []).append(entry)
+    return entries_of_files

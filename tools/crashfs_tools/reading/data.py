@@ -88,7 +88,7 @@ class Data:
             yield self.blocks.get(block, b'')[:size].ljust(size, b'\0')
 
     def all_bytes(self) -> bytes:
-        """The bytes up to the length, also those of large holes."""
+        """The bytes up to the length, zeros included."""
         return b''.join(self.shown_blocks())
 
     def read(self, begin: int, end: int) -> bytes:

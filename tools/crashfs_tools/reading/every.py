@@ -108,13 +108,14 @@ def nth_set(order: Order, extensions: List[Dict[int, int]], number: int) -> int:
     place_set, future, sets_to_pass = 0, order.all_places, number
     for place in range(order.count):
         bit = 1 << place
-        if future & bit:
-            future_without = order.future_without(future, bit)
-            sets_without = extensions[place + 1][future_without]
-            if sets_to_pass < sets_without:
-                future = future_without
-            else:
-                sets_to_pass -= sets_without
-                place_set |= order.unit_at(bit)
-                future &= ~order.unit_at(bit)
+        if not future & bit:
+            continue
+        future_without = order.future_without(future, bit)
+        sets_without = extensions[place + 1][future_without]
+        if sets_to_pass < sets_without:
+            future = future_without
+        else:
+            sets_to_pass -= sets_without
+            unit = order.unit_at(bit)
+            place_set, future = place_set | unit, future & ~unit
     return place_set

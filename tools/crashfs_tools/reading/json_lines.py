@@ -30,7 +30,8 @@ def read_object(line: str) -> Dict[str, Any]:
 
 def load_json(text: str) -> Any:
     """The value of a JSON text, with numbers as parse_integer() and parse_float() read them.
-    LineFault if it is no JSON, or is nested so deep that Python can't read it."""
+    LineFault if it is no JSON, has a number that overflows, or is nested so deep that Python can't
+    read it."""
     try:
         return json.loads(
             text, parse_int=parse_integer, parse_float=parse_float, parse_constant=refuse_constant
@@ -89,8 +90,8 @@ def is_trace_number(value: Any) -> bool:
 
 
 def read_array(line: bytes) -> List[Any]:
-    """The values of a line that is a JSON array; LineFault if it isn't one, or not UTF-8. What the
-    values are isn't checked."""
+    """The values of a line that is a JSON array. LineFault if the line isn't UTF-8 or no array, and
+    as load_json(). What the values are isn't checked."""
     try:
         text = line.decode('utf-8')
     except UnicodeDecodeError as error:

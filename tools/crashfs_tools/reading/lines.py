@@ -64,8 +64,8 @@ class Line:
     fields: Fields
 
     def paths(self) -> Iterator[str]:
-        """The paths that the line has, in the order of PATHS. A header, a sync and a say have
-        none."""
+        """The paths that the line has, in the order of PATHS: none if it is a header, a sync or a
+        say."""
         return (self.fields[key] for key in PATHS if key in self.fields)
 
     @property
@@ -131,12 +131,12 @@ class LineReader:
 
     def check_header(self, line: Line) -> None:
         """Sets `version` to that of a header. LineFault if the version is unknown, or has no such
-        profile; and as check_keys()."""
+        profile; and as check_fields()."""
         version = line.fields['trace']
         if not is_trace_number(version) or version not in HEADERS:
             raise syntax_fault(f'version {version} is not known (1, 2, 3, 4)')
         self.version = version
-        self.check_keys(line, (*HEADERS[version], *RIGHTS))
+        self.check_fields(line, (*HEADERS[version], *RIGHTS))
         profile = line.fields.get('profile', 'blocks')
         if PROFILES_SINCE.get(profile, 1) > version:
             raise syntax_fault(f'profile "{profile}" is not known in version {version}')
@@ -144,7 +144,7 @@ class LineReader:
     def check_word(self, line: Line) -> None:
         """Sets the word of a start line or an operation, and has_operation for an operation.
         LineFault for a start line after an operation, for a word that is no text or that the
-        version lacks (UnknownOp); and as check_keys()."""
+        version lacks (UnknownOp); and as check_fields()."""
         if line.key == 'start' and self.has_operation:
             raise syntax_fault('a start line after an operation')
         self.has_operation = line.key == 'op'
@@ -155,9 +155,9 @@ class LineReader:
         if first_version > self.version:
             raise LineFault('UnknownOp', f'unknown {line.key} "{word}" in version {self.version}')
         line.word = word
-        self.check_keys(line, keys)
+        self.check_fields(line, keys)
 
-    def check_keys(self, line: Line, keys: Tuple[str, ...]) -> None:
+    def check_fields(self, line: Line, keys: Tuple[str, ...]) -> None:
         """LineFault if a line lacks one of expected_keys(), has another key, or has a value that
         its key may not have."""
         expected_keys, own_keys = self.expected_keys(line, keys), line.fields.keys()
@@ -183,8 +183,9 @@ class LineReader:
         return expected_keys
 
     def keys_of_bytes(self, line: Line) -> Set[str]:
-        """The keys by which a line that lacks `bytes` gives its bytes: `text`, or in a start file
-        `length` and `parts`. `bytes` if it has none of them, or its version doesn't allow them."""
+        """The keys by which a line that lacks `bytes` must give its bytes: `length` and `parts` if
+        a start file has `parts`, else `text` if it has that. `bytes` if it has neither, or if its
+        version allows neither."""
         if self.version >= 4 and line.key == 'start' and 'parts' in line.fields:
             return {'length', 'parts'}
         return {'text' if self.version >= 3 and 'text' in line.fields else 'bytes'}
@@ -251,8 +252,8 @@ def check_target(target: str) -> None:
 
 
 def check_paths(line: Line) -> None:
-    """LineFault (BadName) for a path that no file can have. The path `/` is accepted only in an
-    fsync, a chmod and a chown."""
+    """LineFault (BadName) for a path that no file or directory can have. The path `/` is accepted
+    only in an fsync, a chmod and a chown."""
     for path in line.paths():
         if path == '/' and line.word in TAKE_ROOT:
             continue

@@ -54,7 +54,8 @@ def json_listing(plan: StateList) -> Iterator[str]:
 
 
 def operation_objects(plan: StateList) -> Iterator[Dict[str, Any]]:
-    """The fields of each micro-operation in `list --json`. What it needs includes itself."""
+    """The fields of each micro-operation in `list --json`. `needs` has the places of those that it
+    needs, and its own."""
     for place, operation in enumerate(plan.reading.operations):
         yield {
             'op': place,

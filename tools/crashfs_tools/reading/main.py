@@ -34,9 +34,9 @@ HELP = (
 
 def main(words: List[str]) -> int:
     """Runs a command, such as `list`, with its options, and returns the exit status that the
-    program has: 1 if the input has a fault, or if nobody reads standard output any more; 2 for
-    wrong options. A fault or a wrong option is printed on standard error, before any output. Any
-    other OSError of standard output is raised."""
+    program has: 1 if the input has a fault, or if nobody reads standard output any more, which is
+    /dev/null then; 2 for wrong words. A fault or a wrong word is printed on standard error, before
+    any output. Any other OSError of standard output is raised."""
     try:
         options = read_options(words)
         print_output(words[0], options)
@@ -57,10 +57,11 @@ def main(words: List[str]) -> int:
 
 
 def read_options(words: List[str]) -> Options:
-    """The options of a command, each with its value, or True if it takes none. If the last option
-    lacks its value, that is an empty text; if an option is given twice, the last value counts.
-    UsageFault for an unknown command or option; without --help also if --trace is missing, and for
-    `picks` as refuse_options()."""
+    """The options in the words of a command line, of which the first is the command: each with its
+    value, or True if it takes none. If the last option lacks its value, that is an empty text; if
+    an option is given twice, the last value counts. UsageFault if there is no command, or for an
+    unknown command or option; without --help also if --trace is missing, and for `picks` as
+    refuse_options()."""
     if not words or words[0] not in FLAGS:
         raise UsageFault(f"unrecognized subcommand '{words[0] if words else ''}'")
     options: Options = {}
@@ -82,9 +83,10 @@ def read_options(words: List[str]) -> Options:
 
 
 def print_output(command: str, options: Options) -> None:
-    """Prints the output of a command with these options. ReadingFault if an input file has a fault,
-    if there are too many states or sets, or if there is no such state or profile. UsageFault as
-    state_numbers(). An OSError of standard output is raised."""
+    """Prints the output of a command, with options that read_options() has accepted for it.
+    ReadingFault if an input file can't be read or has a fault, if there are too many states or
+    sets, or if there is no such state or profile. UsageFault as state_numbers(). An OSError of
+    standard output is raised."""
     if '--help' in options:
         print(HELP)
         return

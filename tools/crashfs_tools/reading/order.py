@@ -150,6 +150,7 @@ class Order:
         new_order.logged_sets = list(map(or_, self.logged_sets, other.logged_sets))
         for place, needs in enumerate(map(or_, self.needs, other.needs)):
             if place in new_order.units:
+                # A unit has two places, the halves of a rename: the first needs what both need.
                 needs |= (self.needs[place + 1] | other.needs[place + 1]) & ~(1 << place)
             new_order.needs.append(
                 needs | union_of(new_order.needs[needed] for needed in places_of(needs))

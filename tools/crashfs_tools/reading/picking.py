@@ -12,7 +12,7 @@ from .faults import ReadingFault
 from .lines import PROFILES
 from .order import Order, order_under
 from .place_sets import places_of
-from .plan import StateList, different_places, file_sets, lost_sets
+from .plan import StateList, different_places, family_sets
 from .trace import Reading
 
 DEFAULT_MOST = 1_000_000
@@ -91,10 +91,8 @@ def picked_sets(reading: Reading, options: Options) -> Iterator[List[int]]:
         count, seed = option_number(options, '--sample'), option_number(options, '--seed')
         drawn = drawn_sets(Order(reading), count, seed)
         return (list(places_of(place_set)) for place_set in drawn)
-    plan = StateList(reading)
-    families = [lost_sets(plan)] if '--lost' in options else []
-    families += [file_sets(plan)] if '--files' in options else []
-    # A set of both families is printed twice.
+    has_lost, has_files = '--lost' in options, '--files' in options
+    families = family_sets(StateList(reading), has_lost=has_lost, has_files=has_files)
     return (places for family in families for places in different_places(family))
 
 

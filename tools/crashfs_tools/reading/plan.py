@@ -51,7 +51,8 @@ class StateList:
         self.states.append(PlannedState(fields, place_set))
 
     def add_prefixes(self) -> None:
-        """Adds each prefix, from the empty one to the whole trace. ReadingFault as add_state()."""
+        """Adds each prefix, from the empty one to the whole trace. ReadingFault if the plan is
+        full; the states added before stay."""
         for end in range(self.order.count + 1):
             self.add_state({'kind': 'prefix', 'end': end}, (1 << end) - 1)
 
@@ -105,20 +106,19 @@ def add_families(plan: StateList, *, has_lost: bool, has_files: bool) -> None:
     """Adds the sets of the families --lost and --files to a plan, as picks, in this order. Each set
     is added once, and only if the plan lacks it. ReadingFault if the plan is full; the sets added
     before stay."""
-    families = [lost_sets(plan)] if has_lost else []
-    families += [file_sets(plan)] if has_files else []
+    families = family_sets(plan, has_lost=has_lost, has_files=has_files)
     planned_sets = {state.place_set for state in plan.states}
     for place_set in dict.fromkeys(chain.from_iterable(families)):
         if place_set not in planned_sets:
             plan.add_pick(places_of(place_set))
 
 
-def read_picks(data: bytes) -> List[List[int]]:
+def read_picks(picks_bytes: bytes) -> List[List[int]]:
     """The places of each set of a picks file, given by its bytes. ReadingFault, with the line's
     number, for a line that is no array of numbers up to LARGEST_PLACE, in UTF-8. Empty lines are
     skipped, but counted. Whether the sets are allowed isn't checked here."""
     picks = []
-    for number, line in enumerate(data.split(b'\n'), 1):
+    for number, line in enumerate(picks_bytes.split(b'\n'), 1):
         if not line:
             continue
         try:
@@ -129,6 +129,13 @@ def read_picks(data: bytes) -> List[List[int]]:
             raise ReadingFault(f'picks line {number}: Syntax')
         picks.append(pick)
     return picks
+
+
+def family_sets(plan: StateList, *, has_lost: bool, has_files: bool) -> List[Iterator[int]]:
+    """The sets of each family that is asked for, as a stream: of --lost first, then of --files. The
+    states of the plan aren't looked at."""
+    families = [lost_sets(plan)] if has_lost else []
+    return [*families, file_sets(plan)] if has_files else families
 
 
 def lost_sets(plan: StateList) -> Iterator[int]:

@@ -24,7 +24,7 @@ class Item(NamedTuple):
 
     @property
     def content(self) -> Optional[bytes]:
-        """All its bytes, with those of large holes; None for a directory."""
+        """All its bytes, zeros included; None for a directory."""
         return None if self.data is None else self.data.all_bytes()
 
 
@@ -79,15 +79,16 @@ class States:
     def tree(self, place_set: int) -> Dict[str, Item]:
         """The tree of an allowed set: what is at each path, the root among them, in the order of
         the paths. Trees share the bytes of files, which must not be changed."""
-        items = self.items(place_set, self.rights_and_data)
-        return {path: Item(kind, rights, data) for path, kind, rights, data in items}
+        rows = self.walk_tree(place_set, self.rights_and_data)
+        return {path: Item(kind, rights, data) for path, kind, rights, data in rows}
 
     def digest(self, place_set: int) -> Digest:
         """The tree of an allowed set, in a form that is equal for sets that leave equal trees, and
-        for no others. The acknowledged lines aren't in it: see count_says()."""
-        return tuple(self.items(place_set, self.rights_and_digest))
+        for no others. The acknowledged lines aren't in it: see count_says(). The digests of files
+        that are computed for it are kept in memory."""
+        return tuple(self.walk_tree(place_set, self.rights_and_digest))
 
-    def items(
+    def walk_tree(
         self, place_set: int, read_file: Callable[[int, int], Tuple[Rights, DataOrDigest]]
     ) -> Iterator[Tuple[str, str, Rights, Optional[DataOrDigest]]]:
         """What is at each path of an allowed set's tree, in the order of the paths: the path, its

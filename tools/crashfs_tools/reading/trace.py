@@ -26,7 +26,7 @@ from .syncs import DataSync, DirectorySync, FileSync, RangeSync, SyncPoint
 MICRO_OPERATIONS = 1_024
 PAGE_BYTES = 4_096
 BLANKS = ' \t\r'
-LINK_MODE = '777'
+SYMLINK_MODE = '777'
 
 
 class Reading:
@@ -101,12 +101,12 @@ class Reading:
         self.initial_rights[node.number] = self.rights[node] = line.rights
         return node
 
-    def make_link(self, line: Line) -> Inode:
+    def make_symlink(self, line: Line) -> Inode:
         """Makes the symbolic link of a line, whose bytes are its target and whose mode is
-        LINK_MODE, and returns its inode."""
+        SYMLINK_MODE, and returns its inode."""
         target = line.fields['target'].encode('utf-8')
         node = self.names.add_file(line.fields['path'], len(target), SYMLINK)
-        rights = line.fields['owner'], line.fields['group'], LINK_MODE
+        rights = line.fields['owner'], line.fields['group'], SYMLINK_MODE
         self.initial_rights[node.number] = self.rights[node] = rights
         data = Data.from_parts(self.block_size, len(target), [(0, target)])
         self.initial_data[node.number] = data
@@ -135,7 +135,7 @@ class Reading:
         self.add_start_entry(line, node)
 
     def start_symlink(self, line: Line) -> None:
-        self.add_start_entry(line, self.make_link(line))
+        self.add_start_entry(line, self.make_symlink(line))
 
     def start_link(self, line: Line) -> None:
         """Adds one more entry of a file, also to the start tree."""
@@ -156,11 +156,11 @@ class Reading:
         self.add_creation(line, self.make_directory(line))
 
     def op_symlink(self, line: Line) -> None:
-        self.add_creation(line, self.make_link(line))
+        self.add_creation(line, self.make_symlink(line))
 
     def add_creation(self, line: Line, node: Inode) -> None:
-        """Adds the micro-operation by which a line makes `node`, which make_file(), make_link() or
-        make_directory() must have returned for this line."""
+        """Adds the micro-operation by which a line makes `node`, which make_file(), make_symlink()
+        or make_directory() must have returned for this line."""
         path, target = line.fields['path'], line.fields.get('target', '')
         entry = self.names.entry_at(path)
         self.operations.append(CreateEntry(path, entry, node, self.rights[node], target))
@@ -223,8 +223,8 @@ class Reading:
 
     def op_truncate(self, line: Line) -> None:
         """Adds a truncate: a new size, or nothing if the file has this size. In version 4 a file
-        that gets shorter gets zeros first, from its new end to the end of that page, or to its old
-        end if that is in the page."""
+        whose new end is inside a page and before its old end gets zeros first: from the new end to
+        the end of that page or to the old end, whichever comes first."""
         file_number = self.names.file_number_at(line.fields['path'])
         length, size = line.fields['length'], self.names.sizes[file_number]
         if size == length:
@@ -250,8 +250,9 @@ class Reading:
         self.set_rights(line, (line.fields['owner'], line.fields['group'], mode))
 
     def set_rights(self, line: Line, rights: Rights) -> None:
-        """Adds the micro-operation that sets the rights of what is at a line's path, unless they
-        are these already. Its path is the line's for a directory, the oldest for a file."""
+        """Adds the micro-operation that sets the rights of what is at a line's path, unless it has
+        these rights already. The path of the micro-operation is the line's for a directory, the
+        oldest one for a file."""
         node = self.names.require_inode(line.fields['path'])
         if self.rights[node] == rights:
             return
@@ -294,8 +295,8 @@ def page_end(length: int) -> int:
 
 def parse_trace(data: bytes) -> Reading:
     """The trace whose file has these bytes. ReadingFault with its first fault: no UTF-8, a fault of
-    a line, no line at all, or, after all lines are read, more than MICRO_OPERATIONS
-    micro-operations. Lines of blanks are skipped, but counted."""
+    a line, no line but empty ones, or, after all lines are read, more than MICRO_OPERATIONS
+    micro-operations. Empty lines, also those of blanks, are skipped, but counted."""
     try:
         text = data.decode('utf-8')
     except UnicodeDecodeError as error:
