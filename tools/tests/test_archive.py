@@ -89,12 +89,15 @@ class Archives(unittest.TestCase):
         self.assertEqual((len(empty.data), empty.data.parts()), (1 << 30, []))
 
     def test_a_sparse_file_whose_list_is_wrong_is_refused(self):
-        for data in (PIECES[:-1], PIECES + b'x', b'', b'1\n', b'2\n1\n1\n', b'x\n'):
+        for data in (PIECES[:-1], PIECES + b'x', b'', b'1\n', b'2\n1\n1\n', b'x\n', b'-1\n'):
             with self.assertRaisesRegex(ArchiveFault, 'sparse', msg=data):
                 read(sparse_archive(SPARSE, data))
         shorter = {**SPARSE, 'GNU.sparse.realsize': '1073741823'}
         with self.assertRaisesRegex(ArchiveFault, 'a piece of a sparse file ends past its length'):
             read(sparse_archive(shorter, PIECES))
+        negative = {**SPARSE, 'GNU.sparse.realsize': '-1'}
+        with self.assertRaisesRegex(ArchiveFault, 'sparse'):
+            read(sparse_archive(negative, b'0\n'.ljust(512, b'\0')))
         without_size = {name: text for name, text in SPARSE.items() if 'size' not in name}
         with self.assertRaisesRegex(ArchiveFault, 'sparse'):
             read(sparse_archive(without_size, PIECES))
