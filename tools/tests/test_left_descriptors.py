@@ -2,10 +2,12 @@
 
 import errno
 import os
+import tempfile
 import unittest
-from contextlib import redirect_stdout
+from contextlib import contextmanager, redirect_stdout
 from unittest import mock
 
+from crashfs_tools.common import removal
 from crashfs_tools.common.forked_reading import ForkedReading
 from crashfs_tools.common.guard import Guard
 from crashfs_tools.common.standard_streams import flushed_output
@@ -15,6 +17,16 @@ from crashfs_tools.disks import loops
 def open_descriptors():
     """The numbers of the open descriptors, and the lowest free one."""
     return sorted(map(int, os.listdir('/proc/self/fd')))
+
+
+@contextmanager
+def open_folder(path):
+    """The descriptor of a directory, which is open within the `with`."""
+    descriptor = os.open(path, removal.FOLDER)
+    try:
+        yield descriptor
+    finally:
+        os.close(descriptor)
 
 
 def error_after(calls, function):
@@ -67,6 +79,15 @@ class LeftDescriptors(unittest.TestCase):
             self.assert_fails_and_leaves_none(
                 lambda: loops.open_loop_device('/nonexistent'), errno.ENOENT
             )
+
+    def test_a_directory_that_can_not_be_changed_is_closed(self):
+        not_permitted = OSError(errno.EPERM, os.strerror(errno.EPERM))
+        with tempfile.TemporaryDirectory() as trash:
+            os.mkdir(f'{trash}/d', 0o500)
+            with open_folder(trash) as trash_fd, mock.patch('os.fchmod', side_effect=not_permitted):
+                self.descriptors = open_descriptors()
+                empty_directory = removal.Removal(trash_fd).empty_directory
+                self.assert_fails_and_leaves_none(lambda: empty_directory('d'), errno.EPERM)
 
     def test_an_output_that_can_not_be_written_leaves_no_null_device_open(self):
         with open('/dev/full', 'w') as full, redirect_stdout(full):

@@ -31,7 +31,7 @@ def remove_tree(path: str, dir_fd: Optional[int] = None, trash: str = '') -> boo
     or may not be removed is left in the directory `trash`, or else at its path. `trash` must be on
     the same file system, and with `dir_fd` it must be passed; it is made if it isn't there, and
     stays, but the default, PATH + TRASH_ENDING, is removed if it is empty. OSError if it can't be
-    made."""
+    made or opened."""
     try:
         os.unlink(path, dir_fd=dir_fd)
     except FileNotFoundError:
@@ -74,7 +74,7 @@ def remove_if_empty(path: str, dir_fd: Optional[int]) -> bool:
 
 def make_trash(trash: str, path: str, dir_fd: Optional[int]) -> None:
     """Makes the directory `trash`. If the disk is full, make_room() first removes something from
-    the directory `path`. OSError if `trash` can't be made even then."""
+    the directory `path`. OSError as there, or if `trash` can't be made even then."""
     try:
         os.mkdir(trash, OPEN_MODE)
     except OSError as error:
@@ -168,6 +168,7 @@ class Removal:
         it stay too."""
         directory_fd = self.open_in_trash(name)
         try:
+            allow_owner(directory_fd)
             with os.scandir(directory_fd) as entries:
                 names = [(entry.name, entry.is_dir(follow_symlinks=False)) for entry in entries]
             for inner_name, is_directory in names:
@@ -179,14 +180,18 @@ class Removal:
             os.close(directory_fd)
 
     def open_in_trash(self, name: str) -> int:
-        """Opens a directory in the trash, and gives the directory's owner all rights. Returns the
-        descriptor, which the caller closes. OSError if it can't be opened, or the rights can't be
-        given."""
+        """Opens a directory in the trash, which gets the mode OPEN_MODE if it can't be opened
+        otherwise. Returns its descriptor, which the caller closes. OSError if it can't be opened
+        even then."""
         try:
-            directory_fd = os.open(name, FOLDER, dir_fd=self.trash_fd)
+            return os.open(name, FOLDER, dir_fd=self.trash_fd)
         except PermissionError:
             set_folder_mode(name, OPEN_MODE, self.trash_fd)
-            directory_fd = os.open(name, FOLDER, dir_fd=self.trash_fd)
-        if os.fstat(directory_fd).st_mode & OPEN_MODE != OPEN_MODE:
-            os.fchmod(directory_fd, OPEN_MODE)
-        return directory_fd
+            return os.open(name, FOLDER, dir_fd=self.trash_fd)
+
+
+def allow_owner(directory_fd: int) -> None:
+    """Gives an open directory the mode OPEN_MODE, unless its owner has all rights already. OSError
+    if that isn't permitted."""
+    if os.fstat(directory_fd).st_mode & OPEN_MODE != OPEN_MODE:
+        os.fchmod(directory_fd, OPEN_MODE)
