@@ -99,7 +99,7 @@ class Version4(unittest.TestCase):
         tree = tree_4('blocks')
         tree.version = 3
         tree.apply(Truncate('/d/f', 1))
-        self.assertEqual((tree.micro_operations, tree.steps_of_version_4), (1, 8))
+        self.assertEqual((tree.micro_operations, tree.micro_operations_of_version_4), (1, 8))
 
     def test_renames_before_the_version_changes_are_records_of_it(self) -> None:
         tree = tree_4('blocks')

@@ -51,8 +51,9 @@ def path_fault(path: str) -> Optional[str]:
 class Tree:
     """The entries by path. files has the number of the file, link or directory at each path; all
     paths of a file have one number, and share its entry. made_count counts all that was made or
-    linked, the root too; move_count the renames into another directory. version may be changed from
-    3 to 4: then the counts are those of version 4, also for earlier operations."""
+    linked, the root too; move_count the renames into another directory. Micro-operations that only
+    version 4 has are counted apart from those of all versions, so version may be changed from 3 to
+    4: then `records` and micro_operations are those of version 4, also for earlier operations."""
 
     def __init__(
         self,
@@ -71,8 +72,8 @@ class Tree:
         self.block = block
         self.version = version
         self.profile = profile
-        self.steps_of_all_versions = 0
-        self.steps_of_version_4 = 0
+        self.micro_operations_of_all_versions = 0
+        self.micro_operations_of_version_4 = 0
 
     @property
     def records(self) -> int:
@@ -84,7 +85,8 @@ class Tree:
     @property
     def micro_operations(self) -> int:
         """How many micro-operations the applied operations have, in the tree's present version."""
-        return self.steps_of_all_versions + (self.steps_of_version_4 if self.version >= 4 else 0)
+        own_count = self.micro_operations_of_version_4 if self.version >= 4 else 0
+        return self.micro_operations_of_all_versions + own_count
 
     def add_start(self, entry: StartLine) -> None:
         """Adds the file, directory or link of a start line, with a copy of bytes that can be
@@ -259,7 +261,7 @@ class Tree:
             self.add_link(operation.source, operation.target)
         elif isinstance(operation, Rename):
             self.apply_rename(operation)
-        self.steps_of_all_versions += self.apply_in_place(operation)
+        self.micro_operations_of_all_versions += self.apply_in_place(operation)
 
     def apply_rename(self, operation: Rename) -> None:
         """Renames a path, with all that is below a directory, and replaces what is at the target.
@@ -271,18 +273,18 @@ class Tree:
         is_directory = self.entries[source].is_directory
         if self.is_move(operation):
             self.move_count += 1
-            self.steps_of_version_4 += self.profile == BLOCKS and not is_directory
+            self.micro_operations_of_version_4 += self.profile == BLOCKS and not is_directory
         inner_paths = self.paths_below(source) if is_directory else ()
         for path in (source, *inner_paths):
             new_path = target + path[len(source) :]
             self.entries[new_path] = self.entries.pop(path)
             self.files[new_path] = self.files.pop(path)
-        self.steps_of_all_versions += 1
+        self.micro_operations_of_all_versions += 1
 
     def apply_in_place(self, operation: Operation) -> int:
         """Changes bytes, a length or rights, if an operation does so. Returns how many
         micro-operations the operation has in all versions, but 0 for a rename, which apply_rename()
-        counts. Those that only version 4 has are added to steps_of_version_4."""
+        counts. Those that only version 4 has are added to micro_operations_of_version_4."""
         if isinstance(operation, Write):
             return self.apply_write(operation)
         if isinstance(operation, Truncate):
@@ -293,26 +295,26 @@ class Tree:
 
     def apply_write(self, operation: Write) -> int:
         """Writes bytes. Returns how many micro-operations that is in all versions; 0 if there are
-        no bytes. One that only version 4 has is counted in steps_of_version_4."""
+        no bytes. One that only version 4 has is counted in micro_operations_of_version_4."""
         entry = self.entries[operation.path]
         old_size = len(entry.data or b'')
         if not operation.data:
             return 0
         end = operation.offset + len(operation.data)
         entry.write(operation.offset, operation.data)
-        self.steps_of_version_4 += is_growth_past_page(old_size, end)
+        self.micro_operations_of_version_4 += is_growth_past_page(old_size, end)
         return int(end > old_size) + self.count_blocks(operation.offset, end)
 
     def apply_truncate(self, operation: Truncate) -> int:
         """Sets a length. Returns how many micro-operations that is in all versions: 1, or 0 if the
-        file has this length already. In version 4 a cut also writes zeros in the last page, which
-        are counted in steps_of_version_4."""
+        file has this length already. In version 4 a cut also writes zeros to the end of the last
+        page: their blocks are counted in micro_operations_of_version_4."""
         entry, length = self.entries[operation.path], operation.length
         old_size = len(entry.data or b'')
         entry.resize(length)
         zeros_end = min(page_end(length), old_size)
         if length < zeros_end:
-            self.steps_of_version_4 += self.count_blocks(length, zeros_end)
+            self.micro_operations_of_version_4 += self.count_blocks(length, zeros_end)
         return int(old_size != length)
 
     def count_blocks(self, begin: int, end: int) -> int:
@@ -370,8 +372,8 @@ def start_lines(entries: Entries, files: Dict[str, int]) -> Tuple[Header, List[S
 
 
 def copy_of_bytes(entry: Entry) -> Union[bytes, SparseBytes, None]:
-    """A copy of the bytes of a file; None for a directory or a symbolic link. A file of LARGE_BYTES
-    or more is copied to SparseBytes."""
+    """A copy of the bytes of a file; None for a directory or a symbolic link. It is SparseBytes if
+    the file's bytes are, or if there are LARGE_BYTES or more."""
     if isinstance(entry.data, SparseBytes) or len(entry.data or b'') >= LARGE_BYTES:
         return SparseBytes.copy_of(entry.data or b'')
     return None if entry.data is None else bytes(entry.data)
