@@ -20,7 +20,6 @@ from .standard_streams import flushed_output
 # How every file of text is written.
 TEXT: Dict[str, Any] = {'encoding': 'utf-8', 'errors': 'surrogateescape', 'newline': '\n'}
 
-
 # The status of a text that could not be printed.
 NOT_PRINTED = 3
 # No line is longer: a fault may name a number of millions of digits. A path has 4,096 bytes.
@@ -108,15 +107,16 @@ def with_program_path(command: List[str]) -> List[str]:
 
 
 def relative_path_arguments(command: List[str]) -> List[str]:
-    """COMMAND's arguments that are relative paths of files or directories in this directory: a
-    COMMAND that runs in another directory doesn't find them."""
+    """COMMAND's arguments that are relative paths of existing files or directories, seen from this
+    directory: a COMMAND that runs in another directory doesn't find these by them. COMMAND may be
+    empty."""
     return [word for word in command[1:] if not os.path.isabs(word) and os.path.exists(word)]
 
 
 def end_process(status: int) -> NoReturn:
     """Ends this process with a status, once its output is written or can't be. It skips what Python
-    and the caller's program would do at the end: to free the memory of a check takes as long as ten
-    states."""
+    and the caller's program would do at the end: to free the memory of a check would take as long
+    as to try ten states."""
     try:
         for stream in filter(None, (sys.stdout, sys.stderr)):
             stream.flush()
@@ -148,7 +148,7 @@ def print_line(program: str, text: str) -> None:
 
 
 def shorten(text: str) -> str:
-    """A text of at most LINE_CHARACTERS; of a longer one its beginning and its end, half as many
+    """The same text if it has at most LINE_CHARACTERS; else its beginning and its end, half as many
     characters each, with `...` between them."""
     half = LINE_CHARACTERS // 2
     return text if len(text) <= LINE_CHARACTERS else f'{text[:half]} ... {text[-half:]}'

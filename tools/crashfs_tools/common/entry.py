@@ -54,10 +54,10 @@ class Entry:
         content.extend(bytes(length - len(content)))
 
     def writable_bytes(self, length: int) -> Union[bytearray, SparseBytes]:
-        """The bytes of a file in a form that can be changed in place, which the entry has from now
-        on: a copy of `bytes`, but the same bytearray or SparseBytes, which other entries may share.
-        `length` is their size after the change: above the limit of older traces a copy as
-        SparseBytes takes their place."""
+        """The bytes of a file in a form that can be changed in place, which the entry keeps: the
+        same bytearray or SparseBytes, which other entries may share, or a copy of `bytes`. `length`
+        is their size after the change: above limits.FILE_BYTES, if they aren't SparseBytes yet, the
+        form is a copy as SparseBytes."""
         if length > limits.FILE_BYTES and not isinstance(self.data, SparseBytes):
             self.data = SparseBytes.copy_of(bytes(self.data or b''))
         if not isinstance(self.data, (bytearray, SparseBytes)):
@@ -69,5 +69,6 @@ Entries = Dict[str, Entry]
 
 
 def parent_of(path: str) -> str:
-    """The path of the directory that has the last name of a path; `/` for the root itself."""
+    """The path of the directory in which the file or directory of a path is; `/` for the root
+    itself."""
     return path.rpartition('/')[0] or '/'

@@ -111,8 +111,8 @@ class Guard:
         """Ends all that was started with `environment`, and, if this process is a reaper, its other
         children and orphans, except the spared ones. A process started with `environment` can't be
         spared. Waits up to twice ENDING_SECONDS; the statuses of ended children are lost. Returns
-        `still_running`: what no call could end, each with its name; always empty without a
-        reaper."""
+        `still_running`: what no call could end, each with its name; always empty if this process is
+        no reaper. OSError without /proc."""
         end_processes_with_token(self.token)
         if self.is_reaper:
             children = descendants.end_children({self.watcher, *self.still_running, *spared})
@@ -123,7 +123,7 @@ class Guard:
         """Sends a signal to all that was started with `environment`, and, if this process is a
         reaper, to all its descendants, but not to `spared_process`. What is started meanwhile may
         not get it. Returns how many processes got it: those that are gone, or another user's,
-        don't."""
+        don't. OSError without /proc."""
         sent_count = 0
         processes = processes_with_token(self.token)
         if self.is_reaper:

@@ -62,7 +62,6 @@ class ProgramFault(Exception):
         self.text = error_text.decode('utf-8', 'replace').strip()
         # A path in it may have other characters that end a line for Python, such as U+2028.
         lines = self.text.split('\n')
-        # A command line parser prints its usage after its first line.
         line = lines[0 if status == UNKNOWN_OPTION else -1]
         super().__init__(line or f'crashfs {ending_text(status)}')
         self.status = status
@@ -115,9 +114,9 @@ class Crashfs:
 
     def program_for_version(self, version: int) -> Crashfs:
         """This program; or, if it doesn't read traces of a version, the second reading, with the
-        version as refused_version. Sets has_sparse, whether this program can write large files in
-        pieces. The program isn't started for versions before NEW_VERSION, which each program reads.
-        OSError as can_read_version()."""
+        version as refused_version. Versions before NEW_VERSION each program reads, so it isn't
+        started for them; for others it is, and has_sparse is set if it can write large files in
+        pieces. OSError as can_read_version()."""
         if self.is_unproved or version < NEW_VERSION:
             return self
         if not self.can_read_version(version):
@@ -127,8 +126,8 @@ class Crashfs:
 
     def can_read_version(self, version: int) -> bool:
         """Whether the program reads traces of a version: it is started with a trace that has only a
-        header. Any fault but REFUSED counts as yes, since the next command reports that. OSError if
-        no temporary file can be written."""
+        header. Any ProgramFault without REFUSED counts as yes, since the next command reports it.
+        OSError if no temporary file can be written, or as start()."""
         with tempfile.NamedTemporaryFile('w', suffix='.trace') as file:
             file.write(EMPTY_TRACE % version)
             file.flush()
@@ -140,8 +139,8 @@ class Crashfs:
 
     @cached_property
     def tar_help(self) -> str:
-        """The text of `crashfs tar --help`, or an empty text if that fails. The program is started
-        only once for it."""
+        """The text of `crashfs tar --help`; an empty text if the program fails. It is started only
+        the first time. OSError as start()."""
         try:
             return self.output_of(['tar', '--help'])
         except ProgramFault:
@@ -321,7 +320,8 @@ class ProgramOutput(io.RawIOBase):
 
 
 def end_program(child: RunningProgram) -> None:
-    """Kills a program, drops what it printed, and waits for its end."""
+    """Kills a program, waits for its end, and closes both pipes: what it printed and wasn't read is
+    dropped."""
     assert child.stdout is not None and child.stderr is not None
     with child.stdout, child.stderr:
         child.kill()

@@ -137,7 +137,7 @@ class SparseBytes:
         """Cuts the bytes, or adds zeros. Bytes that were cut are zeros if the length grows
         again."""
         if length < self.length:
-            self.clear(length, self.length + PAGE_BYTES)
+            self.clear(length, self.length)
         self.length = length
 
     def parts(self) -> List[Part]:
@@ -177,8 +177,8 @@ def split_texts(begin: int, data: bytes) -> Iterator[Part]:
     """The bytes at an offset of a file, without the zeros at their edges, split so that each long
     text (TEXT) is a part by itself. Each part comes after its offset; there is none if all bytes
     are zeros."""
-    stripped = data.strip(b'\0')
-    begin, end = begin + len(data) - len(data.lstrip(b'\0')), 0
+    begin += len(data) - len(data.lstrip(b'\0'))
+    stripped, end = data.strip(b'\0'), 0
     for text in TEXT.finditer(stripped):
         if text.start() > end:
             yield begin + end, stripped[end : text.start()]

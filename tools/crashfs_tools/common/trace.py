@@ -110,7 +110,7 @@ class Link:
 
 @dataclass(frozen=True)
 class Symlink:
-    """The making of a symbolic link; link is its target."""
+    """A symbolic link is made; link is its target."""
 
     path: str
     owner: str
@@ -182,7 +182,7 @@ class Sync:
 
 @dataclass(frozen=True)
 class Say:
-    """A line is acknowledged."""
+    """A program acknowledges a line."""
 
     text: str
 
@@ -314,9 +314,9 @@ def json_start_line(entry: StartLine, version: int) -> str:
 
 
 def with_parts_if_shorter(entry: StartLine) -> StartLine:
-    """An entry of the start tree; a file whose parts take less room than its bytes gets SparseBytes
-    in their place. Files of less than LEAST_BYTES_IN_PARTS, and text that people can read, are
-    never in parts."""
+    """The same entry of the start tree, or, if its bytes would take less room in parts, a copy that
+    has them as SparseBytes. Files of less than LEAST_BYTES_IN_PARTS, and text that people can read,
+    are the same."""
     if not isinstance(entry, Start) or not isinstance(entry.data, bytes):
         return entry
     if len(entry.data) < LEAST_BYTES_IN_PARTS or readable_text(entry.data):

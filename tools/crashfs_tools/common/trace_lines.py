@@ -74,9 +74,9 @@ class TraceLine(NamedTuple):
         return ' '.join([self.word, without_numbers(self.path), without_numbers(self.target)])
 
     def is_apart_from(self, other: TraceLine) -> bool:
-        """Whether no path of one line is equal to, above or below a path of the other: then a
-        program may change the order of the two. A line without a path, such as a sync, is apart
-        from all."""
+        """Whether no path of this line is equal to, above or below a path of the other: then they
+        have no file or directory in common, by these names. A line without a path, such as a sync
+        of everything, is apart from all."""
         return not any(
             own_path.startswith(other_path) or other_path.startswith(own_path)
             for own_path in self.paths_with_slash
@@ -85,14 +85,14 @@ class TraceLine(NamedTuple):
 
     @property
     def paths_with_slash(self) -> List[str]:
-        """The paths of the line, each with a slash at its end; two of a rename or link, none of a
-        sync or say."""
+        """The paths of the line, each with a slash at its end: two of a rename or link, none of a
+        say or a sync of everything."""
         return [path.rstrip('/') + '/' for path in (self.path, self.target) if path]
 
     def may_change_path(self, path: str) -> bool:
-        """Whether after this line a path may name another file or directory, or none: the line
-        renames or removes what is there or a directory above it, or renames something to it. A
-        rename of something to itself changes nothing."""
+        """Whether after this line a path at which something was may name another file or directory,
+        or none: the line renames or removes what is there or a directory above it, or renames
+        something to it. A rename of something to itself changes nothing."""
         if self.word not in PATH_CHANGES or self.path == self.target:
             return False
         return self.target == path or f'{path}/'.startswith(f'{self.path}/')
@@ -110,8 +110,8 @@ class TraceLine(NamedTuple):
 
 
 def trace_line_of_fields(number: int, fields: Dict[str, Any]) -> TraceLine:
-    """The TraceLine of an operation's line, from its number and its fields. KeyError if a key of
-    its operation is missing."""
+    """The TraceLine of an operation's line, from its number and its fields. A missing path is an
+    empty text; KeyError if `op` is missing, or as details_text()."""
     path = fields.get('path', fields.get('from', ''))
     return TraceLine(
         number,
@@ -127,13 +127,15 @@ def details_text(fields: Dict[str, Any]) -> str:
     """What reports show of an operation in addition to its paths: a say's text, cut to LARGEST_SAY
     characters; the number of bytes of a write or an fsync_range, and their offset, or `all bytes`
     for the largest file of versions before 4; a symlink's target; a length; the rights that a chmod
-    or chown sets. Empty for the others. KeyError if a key of its operation is missing."""
+    or chown sets. Empty for the others. KeyError if a key that it needs is missing; a right that is
+    missing is left out."""
     if fields['op'] == 'say':
         text: str = fields['text']
         return text if len(text) <= LARGEST_SAY else f'{text[:LARGEST_SAY]}..'
     if fields['op'] == 'write':
-        data = fields['text'].encode() if 'text' in fields else fields['bytes'][::2]
-        return f"{len(data):,} bytes at {fields['offset']:,}"
+        # In `bytes` a byte has two digits.
+        size = len(fields['text'].encode()) if 'text' in fields else len(fields['bytes']) // 2
+        return f"{size:,} bytes at {fields['offset']:,}"
     if fields['op'] == 'symlink':
         return f"target {fields['target']}"
     if fields['op'] == 'truncate':
@@ -212,8 +214,9 @@ def without_says(text: str) -> str:
 
 def is_large_trace(lines: Iterable[str], least_entries: int, least_bytes: int) -> bool:
     """Whether a trace has at least `least_entries` start lines, or `least_bytes` bytes: those of
-    its lines, with their ends, and the lengths that truncates set. No more lines are read than
-    needed. TraceError if a line that is read isn't JSON, AttributeError if it isn't an object."""
+    its lines, with their ends, but for a truncate the length that it sets. No more lines are read
+    than needed. TraceError if a line that is read isn't JSON; TypeError, AttributeError or KeyError
+    if it isn't a line of a trace."""
     entries = size = 0
     for number, line in enumerate(lines, 1):
         fields = parse_line(number, line) if line.strip(BLANKS) else {}

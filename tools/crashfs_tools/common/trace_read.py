@@ -44,9 +44,9 @@ def read_trace_with_numbers(trace_text: str) -> Tuple[Trace, List[int]]:
 
 
 def tree_at_end(lines: Iterable[str]) -> Tree:
-    """The tree at a trace's end; only one line at a time is in memory. TraceError for a line that
-    isn't one of the trace's version, ValueError for an operation that is impossible in the tree.
-    Start lines aren't checked in this way: an impossible one may raise KeyError."""
+    """The tree at a trace's end; only one line at a time is in memory. TraceError as read_trace(),
+    ValueError for an operation that is impossible in the tree. Start lines aren't checked in this
+    way: an impossible one may raise KeyError."""
     tree: Optional[Tree] = None
     for number, trace in read_lines(lines):
         tree = tree or tree_without_start(trace)
@@ -110,9 +110,9 @@ def profiles_of_version(version: int) -> Tuple[str, ...]:
 
 
 def read_line(trace: Trace, fields: Dict[str, Any]) -> None:
-    """Adds a start line or an operation to a trace, from its fields, and removes `note` from these:
-    only an operation's is kept. ValueError, KeyError or TypeError if it isn't a line of the trace's
-    version. Unknown keys aren't noticed."""
+    """Adds a start line or an operation to a trace, from its fields. From version 3 on `note` is
+    removed from these, and an operation's is kept. ValueError, KeyError, TypeError or
+    AttributeError if it isn't a line of the trace's version. Unknown keys aren't noticed."""
     note = fields.pop('note', None) if trace.version >= 3 else None
     line_class = class_of_line(fields)
     if not trace.has_kind(line_class):
@@ -128,7 +128,8 @@ def read_line(trace: Trace, fields: Dict[str, Any]) -> None:
 
 def class_of_line(fields: Dict[str, Any]) -> Type[Any]:
     """The class of a start line or an operation, from its fields. Directories, files and start
-    lines of an unknown kind are Start. KeyError for an unknown operation."""
+    lines of an unknown kind are Start. KeyError for an unknown operation; KeyError or TypeError if
+    the fields are of neither."""
     if 'start' in fields:
         return STARTS.get(fields['start'], Start)
     return KINDS[fields['op']]

@@ -40,9 +40,10 @@ def is_written_in_place(path: str) -> bool:
 
 def write_whole_file(path: str, pieces: Iterable[str], mode: int = 0o666) -> None:
     """Replaces a file, or the target of a link, by replace_file(). What is_written_in_place() isn't
-    synced, and gets no `mode`; a pipe waits for its reader. An OSError, also for a foreign file or
-    from `pieces`, has this path, or the name of standard output. After a failure a plain file is as
-    replace_file() leaves it; what is written in place may have a part."""
+    synced, and gets no `mode`; a pipe waits for its reader; standard output is flushed_output(). An
+    OSError, also for a foreign file or from `pieces`, has this path, or the name of standard
+    output. After it a plain file is as replace_file() leaves it; what is written in place may have
+    a part."""
     if path == '-':
         with flushed_output():
             sys.stdout.writelines(pieces)
@@ -65,7 +66,7 @@ def replace_file(path: str, pieces: Iterable[str], mode: int) -> None:
     exception, also from `pieces`, it is gone and the old file stays, unless only the sync of the
     directory failed."""
     folder = os.path.dirname(path)
-    # A name has up to 255 bytes, and a letter up to four.
+    # A name has up to 255 bytes, and a character up to four.
     descriptor, new_path = tempfile.mkstemp(prefix='.' + os.path.basename(path)[:50], dir=folder)
     try:
         with open(descriptor, 'w', **TEXT) as file:
@@ -96,9 +97,9 @@ def read_umask() -> int:
 
 
 def refuse_foreign_file(path: str) -> None:
-    """OSError (EACCES) if a path is a link, a pipe or another special file, in a sticky directory
-    that everybody may write, as /tmp, unless this user or the directory's owner made it. The target
-    of a link isn't looked at."""
+    """OSError (EACCES) if at a path there is anything but a plain file, as a link or a pipe, in a
+    sticky directory that everybody may write, as /tmp, unless this user or the directory's owner
+    owns it. The target of a link isn't looked at."""
     if not os.path.lexists(path):
         return
     status, folder = os.lstat(path), os.stat(os.path.dirname(path) or '.')
