@@ -11,7 +11,7 @@ from unittest import mock
 from crashfs_tools.campaign import main
 from crashfs_tools.campaign.book import Book, KnownFailure, failure_key, read_book
 from crashfs_tools.campaign.options import read_options
-from crashfs_tools.campaign.sessions import SessionVerdict, Failure, Sessions
+from crashfs_tools.campaign.sessions import SessionVerdict, Failure, read_report, verdict_of
 from crashfs_tools.campaign.shrinking import Shrinking, acknowledged_places
 from crashfs_tools.common.command import Refused
 from crashfs_tools.common.trace import Header, Say, Trace
@@ -38,6 +38,12 @@ test "$CRASHFS_SAYS" = 0 || test "${content#version }" -ge "$CRASHFS_SAYS" || {
     echo lost: a version; exit 1; }
 """
 LOST = 'lost: a version'
+
+
+def new_campaign(words):
+    """A campaign with the options of some words, whose RESULTS is made."""
+    options = read_options(words)
+    return main.Campaign(options, main.open_book(options))
 
 
 class Keys(unittest.TestCase):
@@ -91,6 +97,18 @@ class Cuts(InFolder):
         self.assertEqual(self.read('cut.trace'), self.read('session.trace'))
 
 
+    def test_the_page_of_a_kept_part_is_of_the_check_that_finds_its_failure(self):
+        self.write('session.trace', '{"op":"say","text":"x"}\n{"op":"sync"}\n')
+        sessions = mock.Mock(trace=Path(self.path('session.trace')), folder=Path(self.folder))
+        found = Failure('lost: a', [], 3, 1)
+        sessions.check.return_value = SessionVerdict([found])
+        kept, page = Path(self.path('kept.trace')), Path(self.path('kept.html'))
+        self.assertEqual(Shrinking(sessions, 'lost').write_part(1, kept, page), found)
+        self.assertEqual(kept.read_text('utf-8'), '{"op":"say","text":"x"}\n')
+        cut = Path(self.path('cut.trace'))
+        self.assertEqual(sessions.check.call_args_list, [mock.call(cut, page)])
+
+
 # An entry of a report.
 ENTRY = {'cause': 'lost: a', 'text': [], 'example': 3, 'different': 1}
 
@@ -99,18 +117,20 @@ class Reports(InFolder):
     """What counts of a check's report."""
 
     def checked(self, status, *groups, outcomes=()):
-        """What a check finds that ends with a status, and writes a report with these entries, and
-        these outcomes of states."""
+        """What a check finds that ends with a status, and whose report has these entries, and these
+        outcomes of states."""
         windows = [{'outcomes': {str(state): one for state, one in enumerate(outcomes)}}]
-        fields = {'crashfs-check': 4, 'windows': windows, 'groups': groups}
+        return verdict_of(status, 'it ended\n', {'windows': windows, 'groups': groups})
 
-        def write_report(tool, words, variables):
-            self.write('report.json', json.dumps(fields))
-            return status, 'it ended\n'
-
-        sessions = Sessions(mock.Mock(check=[], recovery=['true']), Path(self.folder))
-        with mock.patch.object(sessions, 'run_tool', write_report):
-            return sessions.check(Path(self.path('trace')))
+    def test_a_report_of_an_unknown_version_is_not_read(self):
+        path = Path(self.path('report.json'))
+        for version in (3, 4):
+            path.write_text(json.dumps({'crashfs-check': version}), 'utf-8')
+            self.assertEqual(read_report(path), {'crashfs-check': version})
+        for fields in ({'crashfs-check': 2}, {'crashfs-check': 5}, {}):
+            path.write_text(json.dumps(fields), 'utf-8')
+            with self.subTest(fields=fields), self.assertRaisesRegex(OSError, 'another version'):
+                read_report(path)
 
     def test_accepted_failures_are_none(self):
         known = {**ENTRY, 'accepted': {'cause': 'lost: a'}}
@@ -178,7 +198,7 @@ class Stores(InFolder):
 
         def run():
             words = ['--seeds', '1-2', 'found', '--', 'true', '--', 'true']
-            campaign = main.Campaign(read_options(words))
+            campaign = new_campaign(words)
             # The book is saved by its whole path, which may be closed to other users.
             with mock.patch.object(Book, 'save'):
                 with mock.patch.object(campaign.sessions, 'run_tool', leave_closed_folder):
@@ -251,7 +271,7 @@ class Campaigns(InFolder):
 
     def test_two_entries_with_the_same_key_are_one_session(self):
         words = [self.path('found'), '--', self.session, '--', self.recover]
-        campaign = main.Campaign(read_options(words))
+        campaign = new_campaign(words)
         entries = [Failure(f'lost: {name}', ['line 7 was not'], 3, 1) for name in 'ab']
         other = Failure('corrupt: a', [], 4, 1)
         trace = Path(self.write('session.trace', '{"op":"say","text":"x"}\n'))
@@ -269,7 +289,7 @@ class Campaigns(InFolder):
 
     def test_now_and_then_a_line_says_how_many_sessions_were_tried(self):
         words = [self.path('found'), '--', self.session, '--', self.recover]
-        campaign = main.Campaign(read_options(words))
+        campaign = new_campaign(words)
         campaign.sessions = mock.Mock(
             **{'record.return_value': '', 'check.return_value': SessionVerdict()}
         )

@@ -29,22 +29,14 @@ EVERY_SECONDS = 60.0
 
 class Campaign:
     """A campaign: its sessions are tried one after another, and its book has what was found.
-    print_time is when the campaign last printed a line, or began."""
+    results is the directory RESULTS, which must be there, and work a folder in it. print_time is
+    when the campaign last printed a line, or began."""
 
-    def __init__(self, options: CampaignOptions) -> None:
-        """Makes the directory RESULTS if it isn't there, and reads the book that an earlier run
-        left in it, to continue that. Refused as in read_book(), or if RESULTS can't be made or
-        read."""
+    def __init__(self, options: CampaignOptions, book: Book) -> None:
+        """A campaign that continues a book, which open_book() has opened. Nothing is made yet."""
         self.options = options
+        self.book = book
         self.results = Path(options.results)
-        book = self.results / 'campaign.json'
-        try:
-            self.results.mkdir(parents=True, exist_ok=True)
-            self.book = read_book(book, options.identity(), options.seeds[0])
-        except FileExistsError as error:
-            raise Refused(f'{options.results} is no directory') from error
-        except OSError as error:
-            raise Refused(f'{error.filename}: {error.strerror}') from error
         self.work = self.results / 'work'
         self.sessions = Sessions(options, self.work)
         self.print_time = time.monotonic()
@@ -81,10 +73,11 @@ class Campaign:
         self.book.next_seed = seed + 1
         self.book.save()
         if time.monotonic() - self.print_time >= EVERY_SECONDS:
-            self.print_line(f'seed {seed}: {verdict_line(self.book)}')
+            self.print_progress(f'seed {seed}: {verdict_line(self.book)}')
 
-    def print_line(self, line: str) -> None:
-        """Prints a line on standard error, after the command's name, and sets print_time."""
+    def print_progress(self, line: str) -> None:
+        """Prints a line on standard error, after the command's name and with its control characters
+        as escapes, and sets print_time."""
         print_line(NAME, escape_unprintable(line))
         self.print_time = time.monotonic()
 
@@ -99,13 +92,15 @@ class Campaign:
             new_failure = KnownFailure(failure, seed, len(self.book.entries) + 1)
             self.keep_session(new_failure, seed, shrinking, shrinking.shortest_length())
             self.book.entries[key] = new_failure
-            self.print_line(f'seed {seed}: new: {failure.cause}')
+            self.print_progress(f'seed {seed}: new: {failure.cause}')
             return
         known_failure.sessions += 1
         line_count = shrinking.shortest_length(known_failure.most_lines)
         if line_count:
             self.keep_session(known_failure, seed, shrinking, line_count)
-            self.print_line(f'seed {seed}: shorter: {length_text(known_failure)}: {failure.cause}')
+            self.print_progress(
+                f'seed {seed}: shorter: {length_text(known_failure)}: {failure.cause}'
+            )
 
     def keep_session(
         self, entry: KnownFailure, seed: int, shrinking: Shrinking, line_count: int
@@ -121,6 +116,19 @@ class Campaign:
         entry.failure = cut_failure or entry.failure
 
 
+def open_book(options: CampaignOptions) -> Book:
+    """Makes the directory RESULTS if it isn't there, and returns the book that an earlier run left
+    in it, or a new one. Refused as in read_book(), or if RESULTS can't be made or read."""
+    results = Path(options.results)
+    try:
+        results.mkdir(parents=True, exist_ok=True)
+        return read_book(results / 'campaign.json', options.identity(), options.seeds[0])
+    except FileExistsError as error:
+        raise Refused(f'{options.results} is no directory') from error
+    except OSError as error:
+        raise Refused(f'{error.filename}: {error.strerror}') from error
+
+
 def run_campaign(arguments: List[str]) -> int:
     """Runs a campaign, prints its report, and returns the status, also after a stop: once the
     campaign has begun, the first signal that stops a command does that, and later ones are ignored.
@@ -128,7 +136,7 @@ def run_campaign(arguments: List[str]) -> int:
     program (SystemExit). Any other error is raised, without a report: what was saved stays."""
     try:
         options = read_options(arguments)
-        campaign = Campaign(options)
+        campaign = Campaign(options, open_book(options))
         # It may be in RESULTS, which is there now.
         if options.html is not None:
             folder_to_write(options.html)

@@ -73,9 +73,9 @@ def parse_seeds(text: str) -> Tuple[int, int]:
     return first, last
 
 
-def parse_seconds(text: str) -> float:
-    """A number of seconds above 0, as `1.5`, or `inf` for no limit. ArgumentTypeError for any other
-    text."""
+def parse_time_limit(text: str) -> float:
+    """A time limit: a number of seconds above 0, as `1.5`, or `inf` for no limit.
+    ArgumentTypeError for any other text."""
     try:
         seconds = float(text)
     except ValueError:
@@ -114,7 +114,7 @@ def make_parser() -> argparse.ArgumentParser:
     parser.add_argument(
         '--time-limit',
         metavar='S',
-        type=parse_seconds,
+        type=parse_time_limit,
         default=float('inf'),
         help='begin no session after S seconds',
     )

@@ -25,7 +25,7 @@ BAD, NO_ANSWER = 'bad', 'no answer'
 NO_ENTRY = 'a failure has no entry in its report, as one of --nested'
 # A command that is asked to end, and hasn't after so long, is asked again.
 ENDING_SECONDS = 5.0
-# The version of the check's JSON that is read.
+# The versions of the check's JSON that are read.
 REPORTS = (3, 4)
 
 
@@ -50,11 +50,11 @@ class SessionVerdict:
 
 
 class Sessions:
-    """Makes traces in a folder, which must exist when a session is recorded, and checks them. trace
-    is the file of the last recorded session, which the next recording replaces."""
+    """Makes traces in a folder, and checks them there. trace is the file of the last recorded
+    session, which the next recording replaces."""
 
     def __init__(self, options: CampaignOptions, folder: Path) -> None:
-        """Nothing is made yet, and the folder needn't exist before a session is recorded."""
+        """Nothing is made yet; the folder must exist when record() or check() is called."""
         self.options = options
         self.folder = folder
         self.trace = folder / 'session.trace'
@@ -75,10 +75,9 @@ class Sessions:
         return '' if status in RECORDED else fault_text('crashfs-record', status, error_text)
 
     def check(self, trace: Path, page: Optional[Path] = None) -> SessionVerdict:
-        """Checks a trace with RECOVERY, and writes the report as a page too, if one is named.
-        Returns the failures in the report, which are those found by then if the check ended early,
-        and a fault if there is no whole verdict, or if what fails isn't among them. Raises what
-        run_tool() and read_report() do, and KeyError if the report lacks a key."""
+        """Checks a trace with RECOVERY, and returns what verdict_of() makes of the report. If
+        `page` is given, the check writes the report to that file as a page too. Raises what
+        run_tool(), read_report() and verdict_of() do."""
         report = self.folder / 'report.json'
         if report.exists():
             report.unlink()
@@ -86,13 +85,7 @@ class Sessions:
         words = ['--json', str(report), *pages, *self.options.check, str(trace), '--']
         status, error_text = self.run_tool('crashfs-check', [*words, *self.options.recovery], {})
         fields = read_report(report) if report.exists() else {'windows': [], 'groups': []}
-        unanswered = unanswered_causes(fields)
-        failures = failures_in(fields, unanswered)
-        if status == NONE_FAILS or status == SOME_FAIL and failures:
-            return SessionVerdict(failures)
-        reason = f'no answer: {unanswered[0]}' if unanswered else error_text
-        reason = NO_ENTRY if status == SOME_FAIL else reason
-        return SessionVerdict(failures, fault_text('crashfs-check', status, reason))
+        return verdict_of(status, error_text, fields)
 
     def run_tool(
         self, tool: str, words: Sequence[str], variables: Dict[str, str]
@@ -139,6 +132,21 @@ def read_report(report: Path) -> Dict[str, Any]:
     return fields
 
 
+def verdict_of(status: int, error_text: str, fields: Dict[str, Any]) -> SessionVerdict:
+    """What a check found, by its status, what it printed on standard error, and the JSON of its
+    report. The failures are those in the report; of a check that ended early it has those found by
+    then. There is a fault unless the status is NONE_FAILS, or is SOME_FAIL and there are failures.
+    KeyError if the report lacks a key."""
+    unanswered = unanswered_causes(fields)
+    failures = failures_in(fields, unanswered)
+    if status == NONE_FAILS or status == SOME_FAIL and failures:
+        return SessionVerdict(failures)
+    reason = f'no answer: {unanswered[0]}' if unanswered else error_text
+    if status == SOME_FAIL:
+        reason = NO_ENTRY
+    return SessionVerdict(failures, fault_text('crashfs-check', status, reason))
+
+
 def unanswered_causes(fields: Dict[str, Any]) -> List[str]:
     """Why states of a report gave no answer: each cause once, in the order of the states, without
     causes that failing states have too. KeyError if the report lacks a key."""
@@ -159,6 +167,6 @@ def failures_in(fields: Dict[str, Any], unanswered: List[str]) -> List[Failure]:
 
 
 def fault_text(tool: str, status: int, error_text: str) -> str:
-    """Why a command gave no result: its name, its status, and the last line of what it printed on
-    standard error."""
+    """Why a command gave no result: its name, its status, and the last line of error_text, such as
+    what it printed on standard error."""
     return f'{tool}: status {status}: {last_line(error_text) or "it printed nothing"}'

@@ -1,4 +1,5 @@
-"""Searches the shortest session in which a failure still comes: the fewest acknowledged lines."""
+"""Searches for the shortest part of a session in which a failure still comes: the part with the
+fewest acknowledged lines."""
 
 from __future__ import annotations
 
@@ -24,8 +25,9 @@ def is_say(fields: object) -> bool:
 
 
 class Shrinking:
-    """Searches how much of a session is enough for the failure with a key. Parts of the session are
-    counted by acknowledged lines: says has the places of these among the trace's lines."""
+    """Searches for the shortest part of a session that still has the failure with a key. A part is
+    the beginning of the session up to so many acknowledged lines: says has the places of these
+    among the trace's lines, and cut is the file that a part is written to."""
 
     def __init__(self, sessions: Sessions, key: str) -> None:
         """Reads the session that was recorded last; a later recording changes nothing. OSError if
@@ -38,22 +40,23 @@ class Shrinking:
         self.says = acknowledged_places(self.lines)
         self.cut = sessions.folder / 'cut.trace'
 
-    def find_failure(self, count: int) -> Optional[Failure]:
-        """Checks the session up to so many acknowledged lines (0: all of it), and returns the
-        failure with the key; None if it isn't found, or if the check gave no answer. The file `cut`
-        has that part of the session afterwards. Raises what Sessions.check() does, and OSError if
-        `cut` can't be written."""
+    def find_failure(self, count: int, page: Optional[Path] = None) -> Optional[Failure]:
+        """Writes the session up to so many acknowledged lines (0: all of it) to the file `cut`, and
+        checks that part, as Sessions.check() does with this page. Returns the failure with the key;
+        None if the check doesn't find it. Raises what Sessions.check() does, and OSError if `cut`
+        can't be written."""
         last_place = self.says[count - 1] if count else len(self.lines) - 1
         text = ''.join(self.lines[: last_place + 1])
         self.cut.write_text(text, 'utf-8', 'surrogateescape')
-        failures = self.sessions.check(self.cut).failures
+        failures = self.sessions.check(self.cut, page).failures
         return next((failure for failure in failures if failure_key(failure) == self.key), None)
 
     def shortest_length(self, most: Optional[int] = None) -> int:
         """The fewest acknowledged lines, at most `most` if that is given, with which the failure
         still comes, by binary search: what a part of a session may leave, a longer part may leave
-        too. 0 if the failure doesn't come with so many lines: it needs more, or what the session
-        does after its last line. Raises what find_failure() does."""
+        too. 0 if it doesn't come with the most lines that are looked at, `most` or all: it needs
+        more lines, or what the session does after its last one. Raises what find_failure()
+        does."""
         low, high = 0, len(self.says) if most is None else min(most, len(self.says))
         if not high or self.find_failure(high) is None:
             return 0
@@ -70,7 +73,6 @@ class Shrinking:
         and the report on it to `page`. Returns the failure as a check finds it in this part; None
         if the check doesn't find it, and the files are written even so. Raises what find_failure()
         does, and OSError if the trace can't be written."""
-        failure = self.find_failure(count)
+        failure = self.find_failure(count, page)
         trace.write_bytes(self.cut.read_bytes())
-        self.sessions.check(trace, page)
         return failure
