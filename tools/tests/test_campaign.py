@@ -96,7 +96,6 @@ class Cuts(InFolder):
         shrinking.find_failure(0)
         self.assertEqual(self.read('cut.trace'), self.read('session.trace'))
 
-
     def test_the_page_of_a_kept_part_is_of_the_check_that_finds_its_failure(self):
         self.write('session.trace', '{"op":"say","text":"x"}\n{"op":"sync"}\n')
         sessions = mock.Mock(trace=Path(self.path('session.trace')), folder=Path(self.folder))

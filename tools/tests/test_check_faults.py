@@ -35,7 +35,7 @@ from crashfs_tools.checker import checking, main
 from crashfs_tools.checker.findings import reruns
 from crashfs_tools.common.command import Refused
 from crashfs_tools.common.signals import TimeUp
-checking.Check.find_losses = mock.Mock(side_effect=TimeUp)
+checking.Check.report_losses = mock.Mock(side_effect=TimeUp)
 reruns.rerun_examples = mock.Mock(side_effect=Refused('a process was killed'))
 sys.exit(main.main(sys.argv[1:]))
 """
@@ -259,7 +259,7 @@ class OfItsOwn(InStore):
             with mock.patch.dict(os.environ, CRASHFS_TRACEBACK=variable), mock.patch(
                 'sys.stderr', os.fdopen(write, 'w')
             ) as stream, mock.patch.multiple(
-                main, run_command=fails, raise_on_stop_signals=mock.Mock()
+                main, carry_out=fails, raise_on_stop_signals=mock.Mock()
             ):
                 self.assertEqual(main.main(['t.trace', '--', 'true']), 3)
                 stream.close()

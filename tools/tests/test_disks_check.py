@@ -151,7 +151,7 @@ class NotDone(InStore):
         self.assertEqual(len(fields['not_done']), 2)
 
     def test_a_time_limit_may_come_when_all_states_are_tried(self) -> None:
-        with mock.patch.object(Check, 'add_details', side_effect=TimeUp):
+        with mock.patch.object(Check, 'report_details', side_effect=TimeUp):
             lines, fields = self.checked(0, disks=['ext4'])
         self.assertIn('  --disks: not tried (stopped by the time limit)', lines)
         self.assertNotIn('not tried', lines[1])

@@ -7,10 +7,11 @@ from crashfs_tools.checker.findings.advice import AdviceResult
 from crashfs_tools.checker.findings.groups import Findings
 from crashfs_tools.checker.report.report import CheckReport
 from crashfs_tools.checker.report.json_report import group_fields
-from crashfs_tools.checker.report.text import WIDTH, ReportText
+from crashfs_tools.checker.report.text import ReportText
 from crashfs_tools.checker.running.results import Head, Results
 from crashfs_tools.checker.running.runner import BAD, GOOD, Outcome
 from crashfs_tools.checker.states.read_plan import read_plan
+from crashfs_tools.common.printable import COLUMNS
 from crashfs_tools.common.trace_lines import TraceLine, parse_trace_text
 from crashfs_tools.common.trace_lines import with_syncs, without_numbers
 from crashfs_tools.reading import make_plan, parse_trace
@@ -278,7 +279,7 @@ class Groups(unittest.TestCase):
         report = report_of(
             text, lambda files, says: 'lost: ' + 'as ' * 60 if says and not files else ''
         )
-        self.assertTrue(all(len(one) <= WIDTH for one in ReportText(report).lines()[1:]))
+        self.assertTrue(all(len(one) <= COLUMNS for one in ReportText(report).lines()[1:]))
         self.assertIn(name, group_fields(report, report.groups()[0])['text'][0])
 
     def test_a_cause_is_shown_as_it_is(self):

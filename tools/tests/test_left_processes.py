@@ -281,7 +281,7 @@ class Unkillable(InStore, InRuns):
 
     def test_the_command_line_names_what_is_left_and_ends_with_status_3(self):
         ended = mock.Mock(side_effect=LeftRunning('left: 7'))
-        with mock.patch.multiple(main, run_command=ended, raise_on_stop_signals=mock.Mock()):
+        with mock.patch.multiple(main, carry_out=ended, raise_on_stop_signals=mock.Mock()):
             with redirect_stderr(io.StringIO()) as printed:
                 status = main.main(['--unproved', self.good, '--', 'true'])
         self.assertEqual((status, printed.getvalue()), (3, 'crashfs-check: left: 7\n'))

@@ -18,7 +18,7 @@ from crashfs_tools.checker.states.plan import Plan, PlannedTrace
 from crashfs_tools.common.archive import Member
 from crashfs_tools.common.entry import Entries
 from crashfs_tools.common.guard import Guard
-from crashfs_tools.common.program import Crashfs, tree_of_members
+from crashfs_tools.common.program import Crashfs, members_of_tree, tree_of_members
 from crashfs_tools.common.removal import remove_tree
 
 from .checks import path_text, refuse_every_with_families
@@ -45,7 +45,7 @@ class CrashState:
         folder = tempfile.mkdtemp(prefix='crashfs-state-')
         try:
             directory = os.path.join(folder, str(self.number))
-            lay_out(directory, ((path.lstrip('/'), entry) for path, entry in self.tree.items()))
+            lay_out(directory, members_of_tree(self.tree))
             yield Path(directory)
         finally:
             remove_tree(folder)
@@ -55,8 +55,8 @@ class CrashState:
         front. A file that is mostly zeros is whole too. Directories and symbolic links are left
         out."""
         return {
-            path.lstrip('/'): bytes(entry.data)
-            for path, entry in self.tree.items()
+            path: bytes(entry.data)
+            for path, entry in members_of_tree(self.tree)
             if entry.data is not None
         }
 

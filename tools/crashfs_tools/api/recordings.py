@@ -11,7 +11,7 @@ from pathlib import Path
 from typing import Callable, List, Mapping, Optional, Sequence, Union
 
 from crashfs_tools.common.command import Refused
-from crashfs_tools.common.program import LIBRARY
+from crashfs_tools.common.program import code_to_run
 
 from .reports import PathLike
 
@@ -19,15 +19,9 @@ from .reports import PathLike
 # its user that something is stored.
 SessionOf = Callable[[Path, Callable[[str], None]], object]
 
-RECORD = (
-    f'import sys; sys.path.insert(0, {LIBRARY!r}); '
-    'from crashfs_tools.recorder.main import main; sys.exit(main(sys.argv[1:]))'
-)
+RECORD = code_to_run('recorder.main')
 # Calls a function: its file, its module, its name, and where Python looks for modules.
-START = (
-    f'import sys; sys.path.insert(0, {LIBRARY!r}); '
-    'from crashfs_tools.api.sessions import main; main(sys.argv[1:])'
-)
+START = code_to_run('api.sessions')
 # The exit statuses of crashfs-record for a trace that is written; NOTED is that of a whole one.
 COMPLETE, NOTED, INCOMPLETE = 0, 4, 3
 # The descriptor for a function's acknowledged lines: what it prints is no such line.

@@ -5,17 +5,17 @@ from __future__ import annotations
 import html
 import os
 import shlex
-import textwrap
-import time
-from typing import Iterable, Iterator
+from typing import Iterator
 
-from crashfs_tools.common.printable import count_text, escape_unprintable
 from crashfs_tools.common.command import version_text
+from crashfs_tools.common.pages import html_text, present_time
+from crashfs_tools.common.printable import count_text, escape_unprintable, folded_lines
 
 from .book import Book, KnownFailure
 from .options import NAME, CampaignOptions
 
-COLUMNS = 100
+# That of the lines below the first one.
+INDENT = '    '
 # No more sessions without a verdict are printed.
 MOST_FAULTS = 20
 
@@ -57,7 +57,8 @@ def report_lines(options: CampaignOptions, book: Book) -> Iterator[str]:
     yield verdict_line(book)
     for entry in book.entries.values():
         yield from failure_lines(options, entry)
-    yield from folded_lines(f'seed {seed}: {text}' for seed, text in book.faults[:MOST_FAULTS])
+    faults = (f'seed {seed}: {text}' for seed, text in book.faults[:MOST_FAULTS])
+    yield from folded_lines(faults, INDENT, may_break_words=True)
 
 
 def failure_lines(options: CampaignOptions, entry: KnownFailure) -> Iterator[str]:
@@ -66,19 +67,11 @@ def failure_lines(options: CampaignOptions, entry: KnownFailure) -> Iterator[str
     escapes."""
     yield f'  {escape_unprintable(entry.failure.cause)}'
     yield (
-        f'    in {count_text(entry.sessions, "session")}, first with seed {entry.seed}; '
+        f'{INDENT}in {count_text(entry.sessions, "session")}, first with seed {entry.seed}; '
         f'kept: {length_text(entry)}'
     )
-    yield from folded_lines(entry.failure.text)
-    yield f'    {state_command(options, entry)}'
-
-
-def folded_lines(lines: Iterable[str]) -> Iterator[str]:
-    """Lines with their control characters as escapes, folded to at most COLUMNS characters. The
-    first part of each is indented by 4 characters, the others by 6. Blanks at the ends of a line
-    are left out, and a blank line gives none."""
-    for line in map(escape_unprintable, lines):
-        yield from textwrap.wrap(line, COLUMNS, initial_indent='    ', subsequent_indent='      ')
+    yield from folded_lines(entry.failure.text, INDENT, may_break_words=True)
+    yield f'{INDENT}{state_command(options, entry)}'
 
 
 STYLE = (
@@ -98,10 +91,10 @@ def page_text(options: CampaignOptions, book: Book, folder: str) -> str:
     """A page of all failures and all sessions without a verdict, with the present date. Each
     failure has a link to its own page, relative to `folder`, the directory of this page."""
     body = ''.join(page_section(options, entry, folder) for entry in book.entries.values())
-    faults = ''.join(f'<li>seed {seed}: {shown_text(text)}</li>' for seed, text in book.faults)
+    faults = ''.join(f'<li>seed {seed}: {html_text(text)}</li>' for seed, text in book.faults)
     body += f'<h2>Without a verdict</h2><ul>{faults}</ul>\n' if faults else ''
-    title = shown_text(f'Campaign of {verdict_line(book)}')
-    about = '<br>'.join(shown_text(line) for line in about_lines(options, book))
+    title = html_text(f'Campaign of {verdict_line(book)}')
+    about = '<br>'.join(html_text(line) for line in about_lines(options, book))
     return PAGE.format(title=title, style=STYLE, about=about, body=body)
 
 
@@ -110,24 +103,17 @@ def about_lines(options: CampaignOptions, book: Book) -> Iterator[str]:
     version, and the present date and time in UTC."""
     yield f'SESSION: {shlex.join(options.session)}'
     yield f'RECOVERY: {shlex.join(options.recovery)}'
-    date = time.strftime('%Y-%m-%d %H:%M:%S UTC', time.gmtime())
-    yield f'seeds up to {book.next_seed - 1:,}; {version_text(NAME)}; {date}'
-
-
-def shown_text(text: str) -> str:
-    """A text as HTML that shows each of its characters, and has no tag; control characters are
-    shown as escapes."""
-    return html.escape(escape_unprintable(text))
+    yield f'seeds up to {book.next_seed - 1:,}; {version_text(NAME)}; {present_time()}'
 
 
 def page_section(options: CampaignOptions, entry: KnownFailure, folder: str) -> str:
     """The page's part for one failure: its cause, with a link from `folder` to the failure's own
     page, its sentences, and the command that lays out its example."""
     link = os.path.relpath(os.path.join(options.results, entry.page), folder)
-    text = '<br>'.join(shown_text(line) for line in entry.failure.text)
+    text = '<br>'.join(html_text(line) for line in entry.failure.text)
     found = f'In {count_text(entry.sessions, "session")}, first with seed {entry.seed}'
     return (
-        f'<h2><a href="{html.escape(link)}">{shown_text(entry.failure.cause)}</a></h2>\n'
+        f'<h2><a href="{html.escape(link)}">{html_text(entry.failure.cause)}</a></h2>\n'
         f'<p>{found}; kept: {length_text(entry)}.</p><p>{text}</p>\n'
-        f'<pre>{shown_text(state_command(options, entry))}</pre>\n'
+        f'<pre>{html_text(state_command(options, entry))}</pre>\n'
     )

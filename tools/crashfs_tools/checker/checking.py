@@ -139,7 +139,7 @@ class Check:
         self.report.not_done = list(self.options_not_done())
         try:
             if self.head.stopped == TIME_LIMIT and window is not None:
-                self.rerun_examples(window, RERUN_SECONDS)
+                self.report_reruns(window, RERUN_SECONDS)
         finally:
             self.save_cache()
 
@@ -164,13 +164,13 @@ class Check:
             is_whole = self.try_window(trials)
             assert self.last_window is not None
             window = self.last_window
-            self.find_losses(window)
-            self.rerun_examples(window)
+            self.report_losses(window)
+            self.report_reruns(window)
             self.has_tried_all = planned.is_last and is_whole
             if not is_whole or self.is_ended_by(window):
                 self.note_end(FIRST_FAILURE)
                 return
-            self.add_details(window)
+            self.report_details(window)
             if self.end_cause:
                 return
 
@@ -271,7 +271,7 @@ class Check:
         advice from them."""
         return self.head.shard.parts > 1 or self.options.serve is not None
 
-    def find_losses(self, window: Window) -> None:
+    def report_losses(self, window: Window) -> None:
         """Finds the smallest losses of failing states whose pair is a guess, and makes the groups
         of the report again with these losses. Does nothing for a shard or a server. After an
         exception the report has the groups from before."""
@@ -284,7 +284,7 @@ class Check:
         find_losses(window.trials, self.trace.planner, findings)
         self.report.replace_last_window(findings)
 
-    def rerun_examples(self, window: Window, seconds: float = float('inf')) -> None:
+    def report_reruns(self, window: Window, seconds: float = float('inf')) -> None:
         """Runs the example of each of the largest groups of a window again, one at a time, and adds
         the outcomes to the report. After so many seconds no further run begins. After an exception
         none of the outcomes is in the report."""
@@ -294,7 +294,7 @@ class Check:
             rerun_examples(window.trials, window.findings, seconds)
             self.report.replace_last_window(window.findings)
 
-    def add_details(self, window: Window) -> None:
+    def report_details(self, window: Window) -> None:
         """Adds to the report what is found after a window's states: how files differ, what the
         advice changes, second crashes, and what disks leave. Does nothing for a shard or a server.
         Disks are left out if second crashes ended the check. What was added before an exception
@@ -308,13 +308,13 @@ class Check:
             add_details(trials, self.trace.planner.planner_of_copies(trials.plan), findings)
             self.report.replace_last_window(findings)
         if self.options.nested:
-            self.add_recoveries(window)
+            self.report_recoveries(window)
         if self.options.disks is not None and not self.end_cause:
             from crashfs_tools.checker.findings.disk_search import search_disks
 
             self.report.sightings = search_disks(trials, findings.outcomes_by_state)
 
-    def add_recoveries(self, window: Window) -> None:
+    def report_recoveries(self, window: Window) -> None:
         """Adds to the report the recoveries in a window's states, each with the states of its
         second crashes. With --fail-fast the first recovery with a state that fails or gives no
         answer is the last one, and ends the check."""

@@ -32,7 +32,7 @@ from .options import NAME, Options
 BAD_INPUT = 2
 
 
-def run_command(options: Options) -> int:
+def carry_out(options: Options) -> int:
     """Does what the options ask for; returns the exit status. Refused for bad input, PlanError if
     the program prints no plan, and OSError if a file can't be read or written. What ended a check
     early, a Stopped or an Interrupted, is raised after the report is written and printed, unless
@@ -158,7 +158,7 @@ def main(arguments: Optional[List[str]] = None) -> int:
     try:
         options = read_options(sys.argv[1:] if arguments is None else arguments)
         raise_on_stop_signals()
-        return run_command(options)
+        return carry_out(options)
     except Stopped as stopped:
         print_line(NAME, f'stopped by {stopped}')
         return stopped.status

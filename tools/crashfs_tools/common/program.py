@@ -41,6 +41,15 @@ NOT_STARTED = 126
 TOO_LARGE = ('plan too large', 'too many micro-operations')
 
 
+def code_to_run(module: str) -> str:
+    """Code for `python -c` that calls the main() of a module of this package, such as
+    `recorder.main`, with the words after the code, and ends with the status that main() returns; None is 0."""
+    return (
+        f'import sys; sys.path.insert(0, {LIBRARY!r}); '
+        f'from crashfs_tools.{module} import main; sys.exit(main(sys.argv[1:]))'
+    )
+
+
 def can_be_built() -> bool:
     """Whether these tools are in a clone, which has `tools/build`. Installed tools don't have
     it."""
@@ -250,6 +259,13 @@ def tree_of_members(members: Iterable[Member]) -> Entries:
     """A tree from the entries of an archive, which it reads to the end: paths get a slash in
     front."""
     return {'/' + path: entry for path, entry in members}
+
+
+def members_of_tree(tree: Entries) -> Iterator[Member]:
+    """Yields the entries of a tree as those of an archive: paths lose their first slash, so that of
+    the root is empty."""
+    for path, entry in tree.items():
+        yield path[1:], entry
 
 
 def first_name_of_path(member: Member) -> str:

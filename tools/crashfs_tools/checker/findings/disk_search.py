@@ -6,14 +6,14 @@ from __future__ import annotations
 import os
 import time
 from dataclasses import dataclass
-from typing import Callable, Dict, Iterator, List, NamedTuple, Optional, Sequence, Set, Tuple
+from typing import Callable, Dict, List, NamedTuple, Optional, Sequence, Set, Tuple
 
 from crashfs_tools.checker.running.runner import GOOD, Outcome, refuse_left_processes
 from crashfs_tools.checker.running.trials import Trials
 from crashfs_tools.checker.states.layout import lay_out
-from crashfs_tools.common.archive import Member
 from crashfs_tools.common.entry import Entries
 from crashfs_tools.common.guard import Guard
+from crashfs_tools.common.program import members_of_tree
 from crashfs_tools.common.removal import remove_tree
 from crashfs_tools.common.trace_read import read_trace_with_numbers
 from crashfs_tools.disks.disk import Crash, Disk, digest_of
@@ -172,7 +172,7 @@ class DiskSearch:
         those of the listed states. OSError if the tree can't be laid out: a part of it stays. Other
         exceptions as in Checker.run()."""
         directory = os.path.join(self.trials.guard.directory, 'disk')
-        lay_out(directory, members_of(tree.entries))
+        lay_out(directory, members_of_tree(tree.entries))
         try:
             plan = self.trials.plan
             return self.checker.run(plan.first + len(plan.listed), tree.says, directory)
@@ -200,13 +200,6 @@ def trees_after_crashes(disks: Dict[str, List[Disk]]) -> List[DiskTree]:
         for crash in disk.crashes
         for says in crash.moment.line_counts
     ]
-
-
-def members_of(tree: Entries) -> Iterator[Member]:
-    """The entries of a tree as an archive has them: the paths are without their first slash, that
-    of the root is empty."""
-    for path, entry in tree.items():
-        yield path[1:], entry
 
 
 def explain_failures(

@@ -14,7 +14,7 @@ from crashfs_tools.checker.running.trials import Trials
 from crashfs_tools.checker.states.plan import Offsets, State
 from crashfs_tools.checker.states.planning import Planner
 from crashfs_tools.common.command import TEXT, Refused, ending_text
-from crashfs_tools.common.program import LIBRARY, last_line
+from crashfs_tools.common.program import code_to_run, last_line
 from crashfs_tools.common.removal import remove_tree
 from crashfs_tools.common.trace import WRITTEN_VERSION
 from crashfs_tools.common.trace_lines import (
@@ -29,10 +29,7 @@ from .groups import Findings, Group
 from .reruns import rerun_examples
 from .second_crashes import Recovery
 
-RECORD = (
-    f'import sys; sys.path.insert(0, {LIBRARY!r}); '
-    'from crashfs_tools.recorder.main import main; sys.exit(main(sys.argv[1:]))'
-)
+RECORD = code_to_run('recorder.main')
 # Each line that the recorder prints begins with its name.
 RECORDER = 'crashfs-record'
 # The recorder's exit statuses for a trace that is written, whole or not.

@@ -2,22 +2,20 @@
 
 from __future__ import annotations
 
-import html
 import shlex
-import time
 from itertools import chain
 from typing import Iterable, Iterator, List
 
 from crashfs_tools.checker.findings.groups import Group
 from crashfs_tools.checker.findings.second_crashes import SecondCrash
-from crashfs_tools.common.printable import escape_unprintable
-from crashfs_tools.common.trace_lines import SYNCS, TraceLine
 from crashfs_tools.common.command import version_text
+from crashfs_tools.common.pages import html_text, present_time
+from crashfs_tools.common.trace_lines import SYNCS, TraceLine
 
 from .page_parts import SCRIPT, STYLE
 from .json_text import COMPACT, as_json
 from .report import CheckReport
-from .text import ReportText, lines_of_pair, second_crash_details, states_text
+from .text import ReportText, lines_of_pair, second_crash_details, states_and_example
 
 # Of a session in several windows, so many lines are shown before and after each marked one.
 NEAR_LINES = 20
@@ -40,7 +38,7 @@ def page_pieces(report: CheckReport) -> Iterator[str]:
     yield elements('p class="summary"', first_lines)
     yield about_line(report)
     groups = sorted(report.groups(), key=lambda group: group.accepted_entry is not None)
-    yield from chain.from_iterable(entry_lines(report, group) for group in groups)
+    yield from chain.from_iterable(entry_section(report, group) for group in groups)
     yield elements('p', map(str.strip, report_text.missing_accepted_lines()))
     yield from recovery_section(report)
     yield from disk_section(report)
@@ -53,9 +51,8 @@ def page_pieces(report: CheckReport) -> Iterator[str]:
 
 
 def shown_text(text: str) -> str:
-    """A text as HTML shows it: escaped, and with visible escapes for control characters other than
-    newlines and tabs."""
-    return html.escape(escape_unprintable(text, '\n\t'))
+    """A text as html_text() has it, with newlines and tabs as they are."""
+    return html_text(text, '\n\t')
 
 
 def elements(tag: str, lines: Iterable[str]) -> str:
@@ -86,16 +83,16 @@ def about_line(report: CheckReport) -> str:
         f'COMMAND: {shlex.join(report.head.command)}',
         version_text('crashfs-check'),
         states,
-        time.strftime('%Y-%m-%d %H:%M:%S UTC', time.gmtime()),
+        present_time(),
     ]
     return f'<p class="about">{shown_text("; ".join(parts))}</p>\n'
 
 
-def entry_lines(report: CheckReport, group: Group) -> Iterator[str]:
+def entry_section(report: CheckReport, group: Group) -> Iterator[str]:
     """An entry as HTML: its cause, its details, its two lines of the trace, how files differ, and
     the end of what COMMAND printed in the example. What isn't known is left out. Of a line that the
     report doesn't have only the number is shown."""
-    states = states_text(group)
+    states = states_and_example(group)
     css_class = '' if group.accepted_entry is None else ' class="accepted"'
     yield f'<section{css_class}><h2>{shown_text(group.cause)}</h2><p>{shown_text(states)}</p>\n'
     yield f'<ul>\n{elements("li", ReportText(report).details(group))}</ul>\n'
@@ -103,7 +100,7 @@ def entry_lines(report: CheckReport, group: Group) -> Iterator[str]:
     for line in lines_of_pair(group):
         yield line_row(report.head.lines.get(line.number) or TraceLine(line.number, ''), 'pair')
     yield '</table>\n'
-    yield from difference_lines(group)
+    yield from difference_section(group)
     if group.outcome.output:
         yield f'<pre>{shown_text(group.outcome.output)}</pre>\n'
     yield '</section>\n'
@@ -125,7 +122,7 @@ def recovery_section(report: CheckReport) -> Iterator[str]:
 def second_crash_lines(group: Group, second_crash: SecondCrash) -> Iterator[str]:
     """An entry of second crashes as HTML: its cause, the lines of second_crash_details(), and the
     end of what COMMAND printed in the example, if it printed anything."""
-    states = states_text(group, second_crash)
+    states = states_and_example(group, second_crash)
     details = second_crash_details(group, second_crash)
     yield f'<h3>{shown_text(group.cause)}</h3>\n<p>{shown_text(states)}</p>\n'
     yield f'<ul>\n{elements("li", details)}</ul>\n'
@@ -147,7 +144,7 @@ def disk_section(report: CheckReport) -> Iterator[str]:
     yield '</section>\n'
 
 
-def difference_lines(group: Group) -> Iterator[str]:
+def difference_section(group: Group) -> Iterator[str]:
     """How the files of an entry's example differ from those of the nearest good state, as HTML, or
     that they are equal; nothing if the files weren't compared."""
     difference = group.difference

@@ -2,12 +2,12 @@
 
 from __future__ import annotations
 
-from typing import TYPE_CHECKING, Iterable, List, Optional
+from typing import TYPE_CHECKING, List, Optional
 
 from crashfs_tools.checker.findings.groups import Group
 from crashfs_tools.checker.findings.accepted_failures import AcceptedFailure
 from crashfs_tools.checker.findings.wording import fail_text, joined_by
-from crashfs_tools.common.printable import count_text, escape_unprintable
+from crashfs_tools.common.printable import COLUMNS, count_text, escape_unprintable, folded_lines
 from crashfs_tools.common.program import can_be_built
 from crashfs_tools.common.trace_lines import TraceLine
 
@@ -21,7 +21,6 @@ if TYPE_CHECKING:
 SHOWN_GROUPS = 20
 # So many lines are shown of what an entry's example lacks, and of the syncs that aren't enough.
 SHOWN_LINES = 3
-WIDTH = 100
 CAUSE_WIDTH = 52
 UNPROVED = 'unproved: the Python implementation computed these states, not crashfs'
 VERSION_UNPROVED = (
@@ -45,7 +44,7 @@ class ReportText:
 
     def lines(self) -> List[str]:
         """The lines of the whole report, without their ends. Only those of first_lines() may be
-        longer than WIDTH: others are cut, and are whole in the JSON."""
+        longer than COLUMNS: others are cut, and are whole in the JSON."""
         groups = self.report.groups()
         accepted = [group for group in groups if group.accepted_entry is not None]
         # Entries that the syncs of accepted entries remove are shown as any others.
@@ -86,7 +85,7 @@ class ReportText:
         for group in accepted[:SHOWN_GROUPS]:
             assert group.accepted_entry is not None
             cause = cut_text(escape_unprintable(f'accepted: {group.cause}'), CAUSE_WIDTH)
-            lines.append(f'  {cause:<{CAUSE_WIDTH}} {states_text(group)}')
+            lines.append(f'  {cause:<{CAUSE_WIDTH}} {states_and_example(group)}')
             lines += folded_lines([accepted_text(group.accepted_entry)], '    ')
         more = len(accepted) - SHOWN_GROUPS
         return lines + ([f'  and {more:,} more that are accepted'] if more > 0 else [])
@@ -122,7 +121,7 @@ class ReportText:
         lines = ['  with these syncs these entries are gone too:'] if covered else []
         cause_kinds = {group.outcome.cause_kind for group in shown}
         for group in covered[:SHOWN_GROUPS]:
-            states = states_text(group)
+            states = states_and_example(group)
             cause = cut_text(escape_unprintable(group.cause), CAUSE_WIDTH - 2)
             lines.append(f'    {cause:<{CAUSE_WIDTH - 2}} {states}')
             if group.outcome.cause_kind not in cause_kinds:
@@ -199,7 +198,7 @@ class ReportText:
 
     def disk_lines(self) -> List[str]:
         """The lines on what was seen on real disks, and all failures there that no tried state has;
-        no line without --disks. They may be longer than WIDTH."""
+        no line without --disks. They may be longer than COLUMNS."""
         if self.report.sightings is None:
             return []
         lines = [f'  {line}' for line in self.report.sightings.lines()]
@@ -212,8 +211,10 @@ class ReportText:
     def group_lines(self, group: Group, second_crash: Optional[SecondCrash] = None) -> List[str]:
         """The lines of an entry: its cause, which may be cut, with its states, and below it the
         details, folded. second_crash is None unless the entry is one of second crashes."""
-        states = states_text(group, second_crash)
-        cause = cut_text(escape_unprintable(group.cause), max(CAUSE_WIDTH, WIDTH - len(states) - 3))
+        states = states_and_example(group, second_crash)
+        cause = cut_text(
+            escape_unprintable(group.cause), max(CAUSE_WIDTH, COLUMNS - len(states) - 3)
+        )
         details = folded_lines(self.entry_details(group, second_crash), '    ')
         return [f'  {cause:<{CAUSE_WIDTH}} {states}', *details]
 
@@ -226,9 +227,9 @@ class ReportText:
 
     def trace_sentences(self, group: Group) -> List[str]:
         """The sentences of an entry on lines of the trace, without what to do about them."""
-        return [line.rstrip(':') for line in [*group.advice.text, *self.needed_lines(group)]]
+        return [line.rstrip(':') for line in [*group.advice.text, *self.needed_loss_lines(group)]]
 
-    def needed_lines(self, group: Group) -> List[str]:
+    def needed_loss_lines(self, group: Group) -> List[str]:
         """A line that names what else must be lost for the example to fail; no line if there is
         nothing."""
         lines = ', '.join(map(self.line_text, group.needed_lines))
@@ -240,7 +241,7 @@ class ReportText:
         profiles allow its states, and on which disks these were seen."""
         lines = [f'line {line.number}: {line.note}' for line in lines_of_pair(group) if line.note]
         lines += [*acceptance_lines(group), *group.advice.lines()]
-        lines += [*other_sync_lines(group), *self.needed_lines(group)]
+        lines += [*other_sync_lines(group), *self.needed_loss_lines(group)]
         if 0 < len(group.explained_states) < group.count:
             lines.append(
                 f'{len(group.explained_states):,} of these states lack the first of the two lines '
@@ -288,7 +289,7 @@ def other_sync_lines(group: Group) -> List[str]:
     return [f'line {sync.number} is {sync.text}, which is not enough' for sync in syncs]
 
 
-def states_text(group: Group, second_crash: Optional[SecondCrash] = None) -> str:
+def states_and_example(group: Group, second_crash: Optional[SecondCrash] = None) -> str:
     """How many different states an entry has, and the option that shows its example.
     second_crash is None unless the entry is one of second crashes."""
     example = f'--state {example_number(group, second_crash)}'
@@ -334,25 +335,6 @@ def profile_text(name: str) -> str:
     return f'{name} ({SEEN[name]})' if name in SEEN else name
 
 
-def folded_lines(lines: Iterable[str], indent: str) -> List[str]:
-    """Lines with an indent, printable and wrapped at WIDTH; the further parts of a line have a
-    larger indent. A word that is longer than WIDTH isn't broken. Empty lines are left out."""
-    from textwrap import wrap
-
-    return [
-        part
-        for line in lines
-        for part in wrap(
-            escape_unprintable(line),
-            WIDTH,
-            initial_indent=indent,
-            subsequent_indent=f'{indent}  ',
-            break_long_words=False,
-            break_on_hyphens=False,
-        )
-    ]
-
-
 def acceptance_lines(group: Group) -> List[str]:
     """A line that says why an entry is accepted, or was until a day that has passed; no line for
     other entries."""
@@ -368,7 +350,7 @@ def accepted_text(entry: AcceptedFailure) -> str:
     return f'until {entry.until}: {entry.why}' if entry.until else entry.why
 
 
-def cut_text(text: str, width: int = WIDTH) -> str:
+def cut_text(text: str, width: int = COLUMNS) -> str:
     """Cuts a text to at most `width` characters, which must be at least 2: a longer text ends in
     two points."""
     return text if len(text) <= width else text[: width - 2] + '..'
