@@ -147,24 +147,37 @@ class Swapped(unittest.TestCase):
         lines = lines_of(line('truncate', '/f', length=0), line('creat', '/g'), rename('/f', '/g'))
         self.assertEqual(lines_to_move(lines[2], lines[4], lines), [])
 
-    def test_a_kept_line_in_parts_comes_after_the_moved_lines_and_one_sync(self):
+    def planned_copy(self, moved_numbers, text, line_numbers):
+        """The text of a copy in which these lines come before line 5, and its lines' numbers, from
+        a window with this text and these lines of the session; None if there is no copy."""
         kept, lost = (TraceLine(number, 'write', f'/{number}') for number in (5, 6))
         with tempfile.TemporaryDirectory() as folder:
             trace = os.path.join(folder, 'window.trace')
-            Path(trace).write_text('header\n5 a\n5 b\n6\n7\n', encoding='utf-8')
-            offsets = Offsets(lines=(0, 5, 5, 6, 7))
+            Path(trace).write_text(text, encoding='utf-8')
             trials = SimpleNamespace(
-                planned=SimpleNamespace(offsets=offsets, trace=trace),
+                planned=SimpleNamespace(offsets=Offsets(lines=line_numbers), trace=trace),
                 guard=SimpleNamespace(directory=folder),
             )
             planner = mock.Mock()
             group = SimpleNamespace(kept_line=kept, lost_line=lost)
-            Swap(trials, planner, None, group).plan_copy([6])
+            if Swap(trials, planner, None, group).plan_copy(moved_numbers) is None:
+                return None
             path, copied = planner.plan.call_args.args
-            text = Path(path).read_text(encoding='utf-8')
+            return Path(path).read_text(encoding='utf-8').split('\n'), copied.lines
+
+    def test_a_kept_line_in_parts_comes_after_the_moved_lines_and_one_sync(self):
+        text = 'header\n5 a\n5 b\n6\n7\n'
+        lines, numbers = self.planned_copy([6], text, (0, 5, 5, 6, 7))
         sync = '{"op": "fsync", "path": "/6"}'
-        self.assertEqual(text.split('\n'), ['header', '6', sync, '5 a', '5 b', '7'])
-        self.assertEqual(copied.lines, (0, 6, 0, 5, 5, 7))
+        self.assertEqual(lines, ['header', '6', sync, '5 a', '5 b', '7'])
+        self.assertEqual(numbers, (0, 6, 0, 5, 5, 7))
+
+    def test_a_window_that_has_a_line_in_parts_or_lacks_it_has_no_copy(self):
+        text = 'header\n5\n6 a\n6 b\n8\n'
+        for moved_numbers in ([6], [6, 7], [9]):
+            with self.subTest(moved=moved_numbers):
+                self.assertIsNone(self.planned_copy(moved_numbers, text, (0, 5, 6, 6, 8)))
+        self.assertIsNone(self.planned_copy([6], 'header\n6\n', (0, 6)))
 
 
 class Tries(InStore):

@@ -38,6 +38,18 @@ class KeptPart(unittest.TestCase):
             'bytes 0 to 2,047 of its 4,096, not bytes 2,048 to 4,095',
         )
 
+    def test_of_many_separate_parts_the_first_three_are_named(self):
+        for block_count, more in [(6, ''), (8, ' and 1 more part'), (10, ' and 2 more parts')]:
+            size = block_count * 4096
+            plan = self.plan(write('/f', 'x' * size), write('/f', 'y' * size))
+            places = [place for place, one in enumerate(plan.operations) if one.line == 4]
+            kept = sum(1 << place for place in (*range(places[0]), *places[::2]))
+            bytes_kept = (
+                f'bytes 0 to 4,095, 8,192 to 12,287, 16,384 to 20,479{more} of its {size:,}'
+            )
+            bytes_lost = f'bytes 4,096 to 8,191, 12,288 to 16,383, 20,480 to 24,575{more}'
+            self.assertEqual(kept_part_text(plan, kept, 4), f'{bytes_kept}, not {bytes_lost}')
+
     def test_in_version_4_a_file_may_grow_in_part(self):
         plan = self.plan(write('/f', 'x'), write('/f', 'y' * 9000, 1), version=4)
         for places, wanted in [

@@ -303,7 +303,7 @@ class Check:
             return
         trials, findings = window.trials, window.findings
         if findings.groups:
-            from crashfs_tools.checker.findings.advice_trials import add_details
+            from crashfs_tools.checker.findings.details import add_details
 
             add_details(trials, self.trace.planner.planner_of_copies(trials.plan), findings)
             self.report.replace_last_window(findings)
@@ -358,7 +358,7 @@ def open_trace(options: Options, guard: Guard, progress: Progress) -> Iterator[C
     """Yields the trace that some options name, ready for a check. Changes their `command`: its
     program gets its absolute path, or it becomes the name of the function. Refused if the trace,
     the program, COMMAND or a file system of --disks can't be used, and in the place of a
-    ProgramFault that is raised within the `with`."""
+    ProgramFault that is raised within the `with`. OSError as CheckedTrace()."""
     refuse_unreadable(options.trace or '')
     if options.disks is not None:
         from crashfs_tools.disks.filesystems import require_filesystems
@@ -392,7 +392,7 @@ def check_trace(
     options: Options, guard: Guard, progress: Progress, *, has_states: bool = False
 ) -> CheckResult:
     """Checks the trace that some options name; open_trace() changes their `command`. Returns or
-    raises what Check.run() does; Refused as open_trace() and Check(). With has_states the report
-    keeps the outcome of each state. `progress` shows how far the check is."""
+    raises what Check.run() does; raises too what open_trace() and Check() do. With has_states the
+    report keeps the outcome of each state. `progress` shows how far the check is."""
     with open_trace(options, guard, progress) as trace:
         return Check(trace, has_states=has_states).run()

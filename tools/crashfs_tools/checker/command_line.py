@@ -311,8 +311,8 @@ def with_default_every(words: List[str]) -> List[str]:
 
 
 def read_options(arguments: List[str]) -> Options:
-    """The options of a command line, given as its words. After a fault, the help or the version is
-    printed, the program ends (SystemExit)."""
+    """The options of a command line, given as its words. If they have a fault, or ask for the help
+    or the version, a text is printed, and the program ends (SystemExit)."""
     parser = make_parser()
     values, command = parse_command_line(parser, with_default_every(arguments))
     for line, is_fault in possible_faults(values, command).items():

@@ -36,8 +36,8 @@ def carry_out(options: Options) -> int:
     """Does what the options ask for; returns the exit status. Refused for bad input, PlanError if
     the program prints no plan, and OSError if a file can't be read or written. What ended a check
     early, a Stopped or an Interrupted, is raised after the report is written and printed, unless
-    writing or printing raises an OSError. Commands that this process starts later inherit only the
-    standard streams."""
+    writing or printing raises an OSError. Unless --merge is given, commands that this process
+    starts later inherit only the standard streams."""
     refuse_wrong_outputs(options)
     if options.merge is not None:
         return write_and_print(options, merge_reports(options))

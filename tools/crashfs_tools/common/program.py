@@ -43,7 +43,8 @@ TOO_LARGE = ('plan too large', 'too many micro-operations')
 
 def code_to_run(module: str) -> str:
     """Code for `python -c` that calls the main() of a module of this package, such as
-    `recorder.main`, with the words after the code, and ends with the status that main() returns; None is 0."""
+    `recorder.main`, with the words after the code. The status is the one that main() returns; for
+    None it is 0."""
     return (
         f'import sys; sys.path.insert(0, {LIBRARY!r}); '
         f'from crashfs_tools.{module} import main; sys.exit(main(sys.argv[1:]))'

@@ -75,7 +75,7 @@ class AdviceResult:
 
     @property
     def failing_counts(self) -> FailingCounts:
-        """How many different states fail in all, before and after the advised syncs are added."""
+        """How many different states fail in all, without the advice and with it."""
         return FailingCounts(self.before, self.after)
 
     @property
@@ -119,9 +119,9 @@ class AdviceResult:
 
 @dataclass
 class Advice:
-    """text is the sentence, in lines, and remedy what to do, or empty. syncs has the path to sync
-    after each line of the trace that is one of its keys. result is None if the advice wasn't
-    tried."""
+    """text is the sentence, in lines, and remedy what to do, or empty. syncs has the advised syncs:
+    the path to sync, by the number of the line after which it is synced. result is None if the
+    advice wasn't tried."""
 
     text: List[str] = field(default_factory=list)
     remedy: str = ''

@@ -22,7 +22,6 @@ from .set_outcomes import (
     outcome_of_set,
     outcomes_by_set,
 )
-from .tree_diff import find_differences
 
 # So many of the largest entries get a copy, unless others cover them, and so many copies are tried.
 MOST_COPIES, MOST_TRIED = 100, 5
@@ -37,19 +36,6 @@ class SyncedCopy(NamedTuple):
 
     planned: PlannedTrace
     state_keys: Set[object]
-
-
-def add_details(trials: Trials, planner: Planner, findings: Findings) -> None:
-    """Adds to the findings how files differ, the results of another order of lines, and those of
-    the advised syncs. The planner makes the plans of copies of the trace. What was added before an
-    exception stays. Exceptions as in find_differences(), add_swaps() and AdviceTrials."""
-    find_differences(trials, findings)
-    swappable = [group for group in findings.groups if group.is_swappable]
-    if swappable:
-        from .swaps import add_swaps
-
-        add_swaps(trials, planner, findings, swappable)
-    AdviceTrials(trials, planner, findings).run()
 
 
 class AdviceTrials:
@@ -79,7 +65,7 @@ class AdviceTrials:
         """Makes a copy with the group's syncs for each of the first MOST_COPIES groups, and tries
         the first MOST_TRIED copies. A group that earlier copies cover, or that is advised no sync,
         gets no copy. Sets the results and is_covered of the groups, and all_syncs of the findings.
-        After an exception, as of make_copy() or try_states(), all_syncs isn't set."""
+        After an exception, as of make_copy() or try_copy_states(), all_syncs isn't set."""
         copies: List[SyncedCopy] = []
         for group in self.findings.groups[:MOST_COPIES]:
             if not group.advice.syncs:
@@ -119,7 +105,7 @@ class AdviceTrials:
         """Tries all advised syncs at once, also those of groups that weren't tried, and returns
         them with how many states fail. Nothing is tried if there are no syncs, or if they are those
         of one group that was tried: its result is used. Exceptions as in make_copy() and
-        try_states()."""
+        try_copy_states()."""
         advised = [group for group in self.findings.groups if group.advice.syncs]
         points = advised_points(advised)
         if not points:
@@ -127,7 +113,7 @@ class AdviceTrials:
         if len(advised) == 1 and advised[0].advice.result is not None:
             return AllSyncs(points, advised[0].advice.result.failing_counts)
         planned = self.make_copy(points).planned
-        self.try_states(planned)
+        self.try_copy_states(planned)
         failing_after = count_failing_states(planned.plan, self.outcomes)
         return AllSyncs(points, FailingCounts(self.failing_before, failing_after))
 
@@ -163,9 +149,9 @@ class AdviceTrials:
     def try_copy(self, copy: SyncedCopy, group: Group) -> AdviceResult:
         """Tries the states of a copy, which must be the last one that was made, and returns what
         its syncs do for a group. States that --fail-fast left untried don't count as failing.
-        Exceptions as in try_states()."""
+        Exceptions as in try_copy_states()."""
         plan = copy.planned.plan
-        self.try_states(copy.planned)
+        self.try_copy_states(copy.planned)
         trials_left = {
             state.trial
             for state in group.states
@@ -181,10 +167,10 @@ class AdviceTrials:
             after=count_failing_states(plan, self.outcomes),
         )
 
-    def try_states(self, planned: PlannedTrace) -> None:
+    def try_copy_states(self, planned: PlannedTrace) -> None:
         """Tries those states of a planned copy, the last one that was made, whose outcomes aren't
-        known. Afterwards `outcomes` has those of the copy's sets, but for what --fail-fast left
-        untried. After an exception, as of Trials.try_states(), nothing is added."""
+        known. Afterwards `outcomes` has those of the copy's sets, except of states that --fail-fast
+        left untried. After an exception, as of Trials.try_states(), nothing is added."""
         plan = planned.plan
         by_trial = self.known_outcomes(plan)
         numbers = Results(plan).own_numbers.items()
@@ -199,8 +185,9 @@ class AdviceTrials:
                 self.outcomes.setdefault(plan.kept[state.number], by_trial[state.trial])
 
     def known_outcomes(self, plan: Plan) -> Dict[Trial, Outcome]:
-        """The outcomes of those trials of a copy's plan of which outcome_of_set() knows the outcome
-        of a set. If it knows several, that of the last set counts."""
+        """The outcomes of those trials of a copy's plan that have a set whose outcome
+        outcome_of_set() knows. If a trial has several such sets, the outcome of the last one
+        counts."""
         outcomes: Dict[Trial, Outcome] = {}
         for state in plan.states:
             outcome = outcome_of_set(plan.kept[state.number], self.outcomes, self.equal_sets)

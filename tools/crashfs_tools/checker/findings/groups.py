@@ -96,7 +96,7 @@ class Group:
 
     @property
     def is_reproducible(self) -> bool:
-        """Whether the example failed again in its second run, or had none."""
+        """Whether the example had no second run, or failed again in it, or gave no answer."""
         return self.rerun_outcome is None or self.rerun_outcome.result != GOOD
 
     @property
@@ -207,13 +207,11 @@ class Findings:
         self.groups = self.make_groups()
         self.set_reruns()
 
-    def own_outcomes(self) -> List[Outcome]:
-        """The outcomes of the states that the window before doesn't have: one for each state that
-        has an outcome, also for equal states."""
+    def own_states_with_outcome(self) -> List[State]:
+        """The states that the window before doesn't have, and that have an outcome, which may be
+        that of an equal state."""
         return [
-            self.outcomes_by_state[state.number]
-            for state in self.results.own_states
-            if state.number in self.outcomes_by_state
+            state for state in self.results.own_states if state.number in self.outcomes_by_state
         ]
 
     def make_groups(self) -> List[Group]:
@@ -252,7 +250,7 @@ class Findings:
         state of the number does."""
         kept_set, lacking = self.plan.kept[state.number], self.plan.set_lost_by(state)
         outcomes = self.outcomes_by_state
-        return self.losses[number].is_part_of(kept_set, lacking) and self.pairs.is_same_failure(
+        return self.losses[number].may_explain(kept_set, lacking) and self.pairs.is_same_failure(
             outcomes[number], outcomes[state.number]
         )
 

@@ -32,8 +32,8 @@ Search = Generator[int, bool, Loss]
 
 
 def sets_by_line(plan: Plan, micro_operations: int) -> List[int]:
-    """Divides a set of micro-operations by the lines of the trace: a set for each line that some of
-    them are of, in the order of lines."""
+    """Divides a set of micro-operations by the lines of the trace: a set for each line that has
+    some of them, in the order of the lines."""
     sets: Dict[int, int] = {}
     for place in places_of(micro_operations):
         line = plan.operations[place].line
@@ -42,7 +42,7 @@ def sets_by_line(plan: Plan, micro_operations: int) -> List[int]:
 
 
 def find_losses(trials: Trials, planner: Planner, findings: Findings) -> None:
-    """Finds the smallest losses of examples whose pair is a guess, of SEARCHED at most, or of
+    """Finds the smallest losses of examples whose pair is a guess: of at most SEARCHED examples, or
     SEARCHED_OF_ALL if all crash states are listed. Adds them to the findings, which make their
     groups again; after an exception those that were added stay. The planner makes plans of the sets
     to try: Refused if the program refuses one. Other exceptions as in find_equal_sets() and

@@ -46,9 +46,10 @@ class Loss(NamedTuple):
     pair: Pair
     lacking: int
 
-    def is_part_of(self, kept_set: int, lost_set: int) -> bool:
-        """Whether a state that has kept_set, and lost lost_set, lost all that this loss lacks, and
-        has the operation that the pair kept. False if the pair kept nothing."""
+    def may_explain(self, kept_set: int, lost_set: int) -> bool:
+        """Whether a state that has kept_set, and lacks lost_set before its last operation, lacks
+        all that this loss lacks, and has the operation that the pair kept. False if the pair kept
+        nothing."""
         has_kept = self.pair.kept is not None and bool(kept_set >> self.pair.kept & 1)
         return has_kept and self.lacking & ~lost_set == 0
 

@@ -51,7 +51,8 @@ class Swap:
         """Writes the copy and tries its states; returns how many different states fail in the trace
         and in the copy. Those that --fail-fast left untried don't count. None, and nothing is
         tried, if the lines can't change places, or the copy has more than MOST_STATES states.
-        Exceptions as in Trials.try_states(); OSError also if a file can't be read or written."""
+        Exceptions as in Planner.plan(), but not Refused, and Trials.try_states(); OSError also if a
+        file can't be read or written."""
         moved_numbers = lines_to_move(self.kept_line, self.lost_line, self.findings.head.lines)
         planned = self.plan_copy(moved_numbers) if moved_numbers else None
         if planned is None or len(planned.plan.states) > MOST_STATES:
@@ -66,7 +67,8 @@ class Swap:
 
     def plan_copy(self, moved_numbers: List[int]) -> Optional[PlannedTrace]:
         """Writes the copy, with the lines of lines_of_copy(), and plans it; a later copy replaces
-        the file. None if there are no such lines, or if the program refuses this order."""
+        the file. None if there are no such lines, or if the program refuses this order. Other
+        exceptions as in Planner.plan(); OSError also if a file can't be read or written."""
         lines = self.lines_of_copy(moved_numbers)
         if lines is None:
             return None
@@ -81,17 +83,15 @@ class Swap:
             return None
 
     def lines_of_copy(self, moved_numbers: List[int]) -> Optional[List[Tuple[int, str]]]:
-        """The lines of the copy, each after its number in the session. The lines of moved_numbers
-        come before the kept one, and after them an fsync of the lost line's path_to_fsync, with the
-        number 0. None if the window lacks one of the lines, or has one of moved_numbers in parts.
-        OSError if the window's trace can't be read."""
-        planned = self.trials.planned
-        with open(planned.trace, **TEXT) as file:
-            text_lines = file.read().rstrip('\n').split('\n')
-        lines = list(zip(planned.offsets.lines or range(1, len(text_lines) + 1), text_lines))
+        """The lines of the copy, each after its number in the session. The lines of moved_numbers,
+        which must ascend, come before the kept line, and after them an fsync of the lost line's
+        path_to_fsync, with the number 0. None if the window lacks one of these lines, or has one of
+        moved_numbers in parts. OSError as numbered_lines()."""
+        lines = numbered_lines(self.trials.planned)
         numbers = [number for number, _ in lines]
         moved = [(number, line) for number, line in lines if number in moved_numbers]
-        if len(moved) != len(moved_numbers) or self.kept_line.number not in numbers:
+        has_all = [number for number, _ in moved] == moved_numbers
+        if not has_all or self.kept_line.number not in numbers:
             return None
         sync = {'op': 'fsync', 'path': self.lost_line.path_to_fsync}
         # Of a kept line in parts this is the first: all parts come after the sync.
@@ -108,7 +108,8 @@ class Swap:
     ) -> Dict[int, Outcome]:
         """Tries the states of the planned copy, and returns the outcomes of its sets. A set with
         the same micro-operations as one of session_outcomes, which has those of the session's sets,
-        gets its outcome, and isn't tried. Sets that --fail-fast left untried have none."""
+        gets its outcome, and isn't tried. Sets that --fail-fast left untried have none. Exceptions
+        as in Trials.try_states()."""
         plan = planned.plan
         session_places = matching_places(plan, self.findings.plan)
         results = Results(plan)
@@ -124,6 +125,14 @@ class Swap:
         new_numbers = set(results.own_numbers.values()) - set(results.outcomes)
         Trials(self.trials.workplace, planned).try_states([new_numbers], on_outcome)
         return outcomes_by_set(plan, results.outcomes_by_state({}))
+
+
+def numbered_lines(planned: PlannedTrace) -> List[Tuple[int, str]]:
+    """The lines in the file of a planned trace, each after the number of the session's line that it
+    comes from, or is a part of. OSError if the file can't be read."""
+    with open(planned.trace, **TEXT) as file:
+        lines = file.read().rstrip('\n').split('\n')
+    return list(zip(planned.offsets.lines or range(1, len(lines) + 1), lines))
 
 
 def lines_to_move(kept: TraceLine, lost: TraceLine, lines: Dict[int, TraceLine]) -> List[int]:

@@ -5,6 +5,7 @@ from __future__ import annotations
 from typing import Iterator, List, NamedTuple, Tuple
 
 from crashfs_tools.checker.states.plan import PlannedMicroOperation, Plan
+from crashfs_tools.common.printable import count_text
 
 # So many separate parts are named.
 SHOWN = 3
@@ -21,8 +22,9 @@ class Piece(NamedTuple):
 
 def kept_part_text(plan: Plan, kept_set: int, line_number: int) -> str:
     """What a set has of a line of the trace, and what it lacks of that line, in words. The set must
-    have a part of the line, and lack a part. A truncate writes the zeros after the new end. A line
-    that writes nothing is a rename into another directory, whose second half is lost."""
+    have a part of the line, and lack a part. A line that writes blocks before it changes the length
+    is a truncate: the blocks are zeros after its new end. One that writes none is a rename into
+    another directory, whose second half is lost."""
     places = [
         place for place, operation in enumerate(plan.operations) if operation.line == line_number
     ]
@@ -82,4 +84,4 @@ def byte_ranges_text(pieces: List[Piece]) -> str:
     pieces there are."""
     shown = [f'{piece.begin:,} to {piece.end - 1:,}' for piece in pieces[:SHOWN]]
     more = len(pieces) - SHOWN
-    return ', '.join(shown) + (f' and {more:,} more parts' if more > 0 else '')
+    return ', '.join(shown) + (f' and {count_text(more, "more part")}' if more > 0 else '')

@@ -29,11 +29,13 @@ NO_ACCEPTED = AcceptedStates(0, Counter())
 
 @dataclass
 class StateCounts:
-    """How many states there are, over all windows. results and cause_kinds count different states,
-    which are tried once; `states` and all_failing_states also count states that are equal to them.
-    is_part says that all crash states were asked for, but only some are tried. seconds_per_state is
+    """What a check counts, over all windows. results and cause_kinds count different states, which
+    are tried once; `states` and all_failing_states also count states that are equal to them.
+    operations counts the session's micro-operations up to the end of the last window. is_part says
+    that all crash states were asked for, but only some are tried in a window. seconds_per_state is
     0 if it isn't known. drawn_results counts the sets that were drawn at random, up to the first
-    that wasn't tried, by their results. all_states has what is known of them in each window."""
+    that wasn't tried, by their results. all_states has what the plan of each window knows of all
+    its crash states, None if only families were asked for."""
 
     windows: int = 0
     operations: int = 0
@@ -70,7 +72,10 @@ class StateCounts:
         self.seconds_per_state = results.seconds_per_state or self.seconds_per_state
         self.drawn_results.update(outcome.result for outcome in drawn_outcomes(findings))
         self.tried_states += len(outcomes)
-        self.all_failing_states += sum(outcome.result == BAD for outcome in findings.own_outcomes())
+        self.all_failing_states += sum(
+            findings.outcomes_by_state[state.number].result == BAD
+            for state in findings.own_states_with_outcome()
+        )
         self.results.update(outcome.result for outcome in outcomes)
         self.cause_kinds.update(outcome.cause_kind for outcome in outcomes if outcome.result == BAD)
 
@@ -86,8 +91,8 @@ class StateCounts:
 
     @property
     def untried_count(self) -> int:
-        """How many different states were chosen for this shard, in the windows so far, and not
-        tried."""
+        """How many of the different states that were chosen for this shard, in the windows so far,
+        have no outcome."""
         return self.wanted_states - self.tried_states
 
     @property

@@ -74,9 +74,9 @@ def suite_counts(report: CheckReport, entries: List[ReportEntry]) -> str:
 def case_lines(
     report: CheckReport, group: Group, second_crash: Optional[SecondCrash], attributes: str
 ) -> Iterator[str]:
-    """The test case of an entry: a failure, or an error if the recovery gave no answer. If the
-    entry is accepted, the case is skipped, and only has the reason. attributes has the class and
-    the name of the case, quoted. second_crash is None unless the entry is one of second crashes."""
+    """The test case of an entry: a failure, or an error if COMMAND gave no answer. If the entry is
+    accepted, the case is skipped, and only has the reason. attributes has the class and the name of
+    the case, quoted. second_crash is None unless the entry is one of second crashes."""
     first_line, *details = ReportText(report).group_lines(group, second_crash)
     message = ' '.join(group.advice.lines()) or first_line.strip()
     yield f'<testcase {attributes} time="{group.rerun_seconds:.3f}">\n'

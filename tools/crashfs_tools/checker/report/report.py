@@ -190,10 +190,8 @@ def packed_results(findings: Findings) -> bytes:
 
 
 def state_rows(findings: Findings) -> List[StateRow]:
-    """The rows of the states of a window that have an outcome, which may be that of an equal state;
-    without the states that the window before has too."""
+    """A row for each of a window's own_states_with_outcome()."""
     return [
         (state, findings.outcomes_by_state[state.number], findings.plan.profile_names_of(state))
-        for state in findings.results.own_states
-        if state.number in findings.outcomes_by_state
+        for state in findings.own_states_with_outcome()
     ]
