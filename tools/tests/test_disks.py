@@ -20,6 +20,7 @@ from crashfs_tools.checker.findings.read_trees import entries_of
 from crashfs_tools.common.command import Refused
 from crashfs_tools.common.entry import Entries, Entry
 from crashfs_tools.common.limits import RECORDS
+from crashfs_tools.common.signals import time_limit
 from crashfs_tools.common.sparse import SparseBytes
 from crashfs_tools.common.trace import KINDS, Start, Trace
 from crashfs_tools.common.trace_read import read_trace, tree_at_end
@@ -366,6 +367,14 @@ class Copies(InFolder):
         images.copy_image(self.path('a'), self.path('b'))
         self.assertEqual(Path(self.path('a')).read_bytes(), Path(self.path('b')).read_bytes())
         self.assertLess(os.stat(self.path('b')).st_blocks * 512, 1 << 20)
+
+    def test_a_copy_ends_where_its_source_ends(self) -> None:
+        """An image may become shorter after its holes were read."""
+        source, target = Path(self.path('a')), Path(self.path('b'))
+        source.write_bytes(b'abc')
+        with source.open('rb') as read_file, target.open('wb') as written_file, time_limit(20):
+            images.copy_range(read_file.fileno(), written_file.fileno(), 1, 10)
+        self.assertEqual(target.read_bytes(), b'\0bc')
 
     def test_a_program_that_fails_is_named_with_its_first_line(self) -> None:
         with self.assertRaisesRegex(Refused, '--disks: sh: no'):

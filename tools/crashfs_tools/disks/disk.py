@@ -6,6 +6,7 @@ import hashlib
 import os
 import stat
 from dataclasses import dataclass
+from itertools import chain
 from typing import Dict, Iterator, List, NamedTuple, Tuple
 
 from crashfs_tools.common.entry import Entries, Entry
@@ -63,8 +64,8 @@ def paths_below(top: str) -> Iterator[str]:
 
 def read_entry(path: str, owners: Owners) -> Entry:
     """Reads a directory, a file with its bytes, or a symbolic link with its target. Of its mode
-    only the permission bits are kept. A user or group that the trace doesn't name is shown by the
-    digits of its number. OSError if something can't be read."""
+    only the permission bits are kept. The name of a user or group that the trace doesn't name is
+    the digits of its number. OSError if something can't be read."""
     status = os.lstat(path)
     user, group = owners.users.name(status.st_uid), owners.groups.name(status.st_gid)
     entry = Entry(user, group, status.st_mode & 0o777, None)
@@ -83,7 +84,7 @@ def digest_of(tree: Entries) -> str:
     """A digest of a tree: equal trees have equal digests, in whatever order their paths are and
     however their bytes are kept; different trees have different ones."""
     digest = hashlib.sha256()
-    for piece in (piece for path in sorted(tree) for piece in digested_pieces(path, tree[path])):
+    for piece in chain.from_iterable(digested_pieces(path, tree[path]) for path in sorted(tree)):
         digest.update(len(piece).to_bytes(8, 'little'))
         digest.update(piece)
     return digest.hexdigest()

@@ -15,13 +15,12 @@ from crashfs_tools.common.file_bytes import data_ranges
 
 from .filesystems import FileSystem
 from .loops import attached_loop_device
+from .system_calls import last_error, libc
 
 UMOUNT_TRIES, UMOUNT_SECONDS = 50, 0.05
 PIECE_BYTES = 1 << 20
 # The highest status of e2fsck after which the file system can be mounted.
 REPAIRED = 3
-
-libc = ctypes.CDLL(None, use_errno=True)
 
 
 def make_image(filesystem: FileSystem, image: str) -> None:
@@ -43,8 +42,8 @@ def dig_holes(image: str) -> None:
 def mounted_image(filesystem: FileSystem, image: str, mount_point: str) -> Iterator[str]:
     """Within this an image is mounted at a directory, which is made if it isn't there, and stays.
     Yields the directory's path. After the unmount the loop device is free again. Refused if no
-    device is free, or if the image can't be mounted. OSError if the image can't be opened, and at
-    the end as unmount()."""
+    device is free, or if the image can't be mounted. OSError if the directory can't be made or the
+    image can't be opened, and at the end as unmount()."""
     os.makedirs(mount_point, exist_ok=True)
     with attached_loop_device(image) as device:
         mount(filesystem, device, mount_point)
@@ -75,7 +74,7 @@ def unmount(mount_point: str) -> None:
         if ctypes.get_errno() != errno.EBUSY:
             break
         time.sleep(UMOUNT_SECONDS)
-    raise OSError(ctypes.get_errno(), os.strerror(ctypes.get_errno()), mount_point)
+    raise last_error(mount_point)
 
 
 def copy_image(source: str, target: str) -> None:
@@ -90,11 +89,15 @@ def copy_image(source: str, target: str) -> None:
 
 def copy_range(source: int, target: int, offset: int, end: int) -> None:
     """Copies the bytes from an offset to before `end` of an open file to the same place of another
-    one. The offsets of both descriptors change. OSError if one can't be read or written."""
+    one, or as far as the first one has them. The offsets of both descriptors change. OSError if one
+    can't be read or written."""
     os.lseek(source, offset, os.SEEK_SET)
     os.lseek(target, offset, os.SEEK_SET)
     while offset < end:
-        offset += os.sendfile(target, source, None, min(end - offset, PIECE_BYTES))
+        count = os.sendfile(target, source, None, min(end - offset, PIECE_BYTES))
+        if count == 0:
+            return
+        offset += count
 
 
 def repair_image(filesystem: FileSystem, image: str) -> None:

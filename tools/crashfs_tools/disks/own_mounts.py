@@ -10,10 +10,10 @@ from typing import Optional
 from crashfs_tools.common.command import Refused
 from crashfs_tools.common.signals import stop_signals_blocked
 
+from .system_calls import libc
+
 CLONE_NEWNS = 0x00020000
 MS_REC, MS_PRIVATE = 0x4000, 0x40000
-
-libc = ctypes.CDLL(None, use_errno=True)
 
 
 def use_own_mounts() -> None:

@@ -26,7 +26,7 @@ CrashedTrees = List[Tuple[Entries, Crash]]
 
 
 class Task(NamedTuple):
-    """A moment of the session on one of the file systems, by its name."""
+    """A moment of the session to be tried on a file system. `name` is the file system's."""
 
     name: str
     moment: Moment

@@ -35,6 +35,7 @@ from crashfs_tools.common.trace import (
 from crashfs_tools.common.whole_files import sync_directory
 
 from .owners import Owners
+from .system_calls import last_error, libc
 
 # The mode of a directory of the start tree until the tree is whole.
 NEW_DIRECTORY = 0o700
@@ -44,8 +45,6 @@ SYNC_FILE_RANGE_WRITE_AND_WAIT = 7
 
 # The lines that make an entry with an owner and a group.
 NewEntry = Union[Creat, Mkdir, Symlink, StartSymlink]
-
-libc = ctypes.CDLL(None, use_errno=True)
 
 
 def lay_out_start(trace: Trace, top: str, owners: Owners) -> None:
@@ -251,8 +250,7 @@ class Replay:
         descriptor = self.descriptor(operation.path)
         size = os.fstat(descriptor).st_size
         if operation.offset == 0 and operation.length >= size:
-            os.fdatasync(descriptor)
-            self.unsynced.pop(self.inode(operation.path), None)
+            self.fdatasync(Fdatasync(operation.path))
             return
         begin = operation.offset // mmap.PAGESIZE * mmap.PAGESIZE
         end = min(operation.offset + operation.length, size)
@@ -277,7 +275,7 @@ class Replay:
             ctypes.c_int64(0),
             SYNC_FILE_RANGE_WRITE_AND_WAIT,
         ):
-            raise OSError(ctypes.get_errno(), os.strerror(ctypes.get_errno()))
+            raise last_error()
 
 
 # How an operation of each kind is made.
@@ -306,6 +304,6 @@ def sync_file_system(path: str) -> None:
     descriptor = os.open(path, os.O_RDONLY | os.O_DIRECTORY | os.O_CLOEXEC)
     try:
         if libc.syncfs(descriptor):
-            raise OSError(ctypes.get_errno(), os.strerror(ctypes.get_errno()), path)
+            raise last_error(path)
     finally:
         os.close(descriptor)

@@ -7,7 +7,19 @@ import os
 import signal
 import traceback
 from multiprocessing.connection import Connection, Pipe, wait
-from typing import Callable, Dict, Generic, Iterator, List, NoReturn, Optional, Set, TypeVar, Union
+from typing import (
+    Any,
+    Callable,
+    Dict,
+    Generic,
+    Iterator,
+    List,
+    NoReturn,
+    Optional,
+    Set,
+    TypeVar,
+    Union,
+)
 
 from crashfs_tools.common.command import Refused
 from crashfs_tools.common.signals import stop_signals_blocked
@@ -62,20 +74,9 @@ class DiskWorkers(Generic[Task, Result]):
         self.start_processes(min(self.most_processes, len(tasks)))
         busy_pipes = [pipe for pipe in self.processes if send_next_task(pipe, remaining_tasks)]
         for pipe in ready_pipes(busy_pipes):
-            yield self.receive(pipe)
+            yield receive_result(pipe)
             if not send_next_task(pipe, remaining_tasks):
                 busy_pipes.remove(pipe)
-
-    def receive(self, pipe: Connection) -> Result:
-        """Waits without limit for the result of a process's task. Raises what the process has
-        raised, as caught_fault() returned it there, or Refused if the process was killed."""
-        try:
-            result = pipe.recv()
-        except (EOFError, OSError) as error:
-            raise Refused(GONE) from error
-        if isinstance(result, Exception):
-            raise result
-        return result  # type: ignore[no-any-return]  # what the worker has sent
 
     def start_processes(self, count: int) -> None:
         """Starts so many processes. OSError as start_process(): the ones that it started before run
@@ -99,7 +100,7 @@ class DiskWorkers(Generic[Task, Result]):
         """In the new process, never returns: does each task that its pipe brings, and sends the
         result. If `set_up` raises, each result is what it raised. Signals wait until `set_up` has
         returned; those of `blocked_before` were blocked before the fork, and stay so. A result that
-        can't be pickled ends the process: receive() then takes it as killed."""
+        can't be pickled ends the process: receive_result() then takes it as killed."""
         try:
             fault = caught_fault(self.set_up)
             signal.pthread_sigmask(signal.SIG_SETMASK, blocked_before)
@@ -135,6 +136,18 @@ def send_next_task(pipe: Connection, remaining_tasks: Iterator[Task]) -> bool:
             raise Refused(GONE) from error
         return True
     return False
+
+
+def receive_result(pipe: Connection) -> Any:
+    """Waits without limit for the result of a process's task. Raises what the process has raised,
+    as caught_fault() returned it there, or Refused if the process was killed."""
+    try:
+        result = pipe.recv()
+    except (EOFError, OSError) as error:
+        raise Refused(GONE) from error
+    if isinstance(result, Exception):
+        raise result
+    return result
 
 
 def caught_fault(call: Callable[[], None]) -> Optional[Exception]:
