@@ -8,7 +8,7 @@ import unittest
 from dataclasses import replace
 from unittest import mock
 
-from crashfs_tools.checker.running.trials import has_large_trees
+from crashfs_tools.checker.states.plan_trees import has_large_trees
 from crashfs_tools.checker.states import kept_tree
 from crashfs_tools.checker.states.kept_tree import KeptTree
 from crashfs_tools.common.entry import Entry

@@ -20,6 +20,9 @@ from .test_windows import HEADER, creat, said, sync, write
 # Each saved version is 15 micro-operations; none is lost if the directory is synced.
 CONFIG = str(EXAMPLES / 'config' / 'config.trace')
 RECOVERY = str(EXAMPLES / 'config' / 'check.sh')
+# Of this session so many states differ that their trees aren't all kept in memory.
+SQLITE = str(EXAMPLES / 'sqlite' / 'full.trace')
+FAILS_IN_99 = '#!/bin/sh\ntest "$CRASHFS_STATE" -ne 99 || { echo "lost: a row"; exit 1; }\n'
 STORE = HEADER + creat('/a') + write('/a', 9) + sync('/a') + said('1') + write('/a', 3, 9)
 
 
@@ -30,13 +33,13 @@ def programs() -> List[str]:
 
 class Starts(Listing):
     def starts(self, program: str, *words: str) -> List[str]:
-        """The commands with which a check starts a program."""
+        """The commands with which a check starts a program; one of its states or more must fail."""
         log = self.write('starts', '')
         script = f'#!/bin/sh\necho "$*" >> {log}\nexec {program} "$@"\n'
         crashfs = self.write('crashfs', script, 0o755)
         ran = self.run_tool('crashfs-check', '--crashfs', crashfs, '--jobs', '2', *words)
         self.assertEqual((ran.returncode, ran.stderr), (1, ''))
-        self.assertIn('with those 3 syncs 0 of these 12 states are left', ran.stdout)
+        self.assertRegex(ran.stdout, 'tried: with .* sync.* left, and no other fails')
         return self.read('starts').splitlines()
 
     def test_a_check_with_advice_starts_the_program_four_times(self) -> None:
@@ -56,6 +59,16 @@ class Starts(Listing):
     def test_families_take_two_starts(self) -> None:
         starts = self.starts(programs()[0], '--families', CONFIG, '--', RECOVERY)
         self.assertEqual([line.split(' ')[0] for line in starts], ['list', 'tar'])
+
+    def test_trees_that_are_needed_one_by_one_are_read_together(self) -> None:
+        """Two states are tried first. At the end the one that fails is tried twice again, and is
+        compared with a good one."""
+        command = self.write('command', FAILS_IN_99, 0o755)
+        starts = self.starts(programs()[0], '--quick', SQLITE, '--', command)
+        tar_starts = [line for line in starts if line.startswith('tar')]
+        self.assertEqual(len(tar_starts), 4, tar_starts)
+        shown = [line.partition(' --states ')[2] for line in (tar_starts[0], tar_starts[-1])]
+        self.assertEqual(shown, ['0,87', '4,99'])
 
 
 class Archived(Listing):

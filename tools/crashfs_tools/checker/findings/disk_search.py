@@ -154,7 +154,7 @@ class DiskSearch:
         acknowledged lines that they leave. ProgramFault if the program fails, KeyError if it lacks
         a tree."""
         listed = self.trials.plan.listed
-        trees = self.trials.read_trees({state.same for state in listed})
+        trees = self.trials.trees.read({state.same for state in listed})
         digests = {number: digest_of(tree) for number, tree in trees}
         numbers: Dict[TreeAndCount, List[int]] = {}
         for state in listed:

@@ -4,23 +4,26 @@ state, but of what several runs share."""
 from __future__ import annotations
 
 import time
+from typing import List
 
 from crashfs_tools.checker.running.trials import ATTEMPTS, Trials
 from crashfs_tools.checker.running.runner import GOOD, Outcome
 from crashfs_tools.checker.states.plan import State
 
 from .groups import Findings
+from .tree_diff import compared_states, numbers_of
 
 # So many entries have their example run again: the largest.
 ENTRIES = 20
 
 
-def rerun_example(trials: Trials, example: State) -> Outcome:
+def rerun_example(trials: Trials, example: State, next_numbers: List[int]) -> Outcome:
     """Tries a failing state again, until it is good or was tried ATTEMPTS times in all, since
     COMMAND may fail in some runs only; the cache may have the outcomes. Returns the last outcome:
-    if it is good, the failure isn't reproducible. Exceptions as in Trials.try_state()."""
+    if it is good, the failure isn't reproducible. next_numbers and exceptions as in
+    Trials.try_state()."""
     for attempt in range(1, ATTEMPTS):
-        outcome = trials.try_state(example, attempt)
+        outcome = trials.try_state(example, attempt, next_numbers)
         if outcome.result == GOOD:
             break
     return outcome
@@ -32,12 +35,15 @@ def rerun_examples(trials: Trials, findings: Findings, seconds: float = float('i
     the groups' outcomes and advice at the end: not after an exception of Trials.try_state(). If an
     example is good now, the states of its group are dropped from the cache."""
     deadline = time.monotonic() + seconds
-    results = findings.results
-    for group in findings.groups[:ENTRIES]:
+    results, groups = findings.results, findings.groups[:ENTRIES]
+    # One run of the program gives the trees of all examples, and those that are compared later.
+    examples = [group.example.number for group in groups]
+    next_numbers = [*examples, *numbers_of(compared_states(findings))]
+    for group in groups:
         number = results.tried_numbers[group.example.trial]
         if number not in results.reruns and time.monotonic() < deadline:
             begin = time.monotonic()
-            results.reruns[number] = rerun_example(trials, group.example)
+            results.reruns[number] = rerun_example(trials, group.example, next_numbers)
             group.rerun_seconds = time.monotonic() - begin
             if results.reruns[number].result == GOOD:
                 trials.drop_from_cache(state.number for state in group.states)

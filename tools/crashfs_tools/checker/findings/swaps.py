@@ -193,13 +193,13 @@ def is_overwriting(trials: Trials, findings: Findings, group: Group) -> bool:
     """Whether the micro-operation that a group's pair kept is a write that replaces bytes of a
     file, other than zeros, by different ones. False if the pair kept none. The trees of the
     prefixes before and after it are compared, also if they weren't tried. Exceptions as in
-    Trials.trees()."""
+    PlanTrees.of_states()."""
     plan, place = findings.plan, group.pair.kept
     if place is None or plan.operations[place].kind != 'write_block':
         return False
     path = plan.operations[place].path
     prefixes = findings.pairs.prefixes
-    trees = trials.trees([prefixes[place], prefixes[place + 1]])
+    trees = trials.trees.of_states([prefixes[place], prefixes[place + 1]])
     before, after = (tree.get(path) for tree in trees)
     if before is None or after is None or before.data is None or after.data is None:
         return False

@@ -2,7 +2,7 @@
 
 from __future__ import annotations
 
-from typing import Iterator, Optional, Tuple
+from typing import Iterator, List, Optional, Tuple
 
 from crashfs_tools.checker.running.runner import GOOD
 from crashfs_tools.checker.running.trials import Trials
@@ -20,16 +20,29 @@ SHOWN_BYTES = 8
 
 
 def find_differences(trials: Trials, findings: Findings) -> None:
-    """Compares the examples of the first ENTRIES groups, the largest, with their nearest good
-    states, and sets the `difference` of these groups, with its first SHOWN_LINES lines. If no state
-    is good, nothing is set. ProgramFault or KeyError if the program lacks a state: earlier groups
-    keep what was set."""
-    for group in findings.groups[:ENTRIES]:
-        good_state = nearest_good_state(findings, group)
-        if good_state is not None:
-            failing, good = trials.trees([group.example.number, good_state.number])
-            lines = list(difference_lines(failing, good))
-            group.difference = Difference(good_state.number, lines[:SHOWN_LINES])
+    """Compares the states of compared_states(), and sets the `difference` of these groups, with its
+    first SHOWN_LINES lines. ProgramFault or KeyError if the program lacks a state: then some of the
+    groups, or all, have no difference."""
+    compared = compared_states(findings)
+    trials.trees.keep(numbers_of(compared))
+    for group, good_state in compared:
+        numbers = [group.example.number, good_state.number]
+        lines = list(difference_lines(*trials.trees.of_states(numbers)))
+        group.difference = Difference(good_state.number, lines[:SHOWN_LINES])
+
+
+def compared_states(findings: Findings) -> List[Tuple[Group, State]]:
+    """The first ENTRIES groups, the largest, each with the nearest good state of its example. Empty
+    if no state is good."""
+    groups = findings.groups[:ENTRIES]
+    pairs = ((group, nearest_good_state(findings, group)) for group in groups)
+    return [(group, good_state) for group, good_state in pairs if good_state is not None]
+
+
+def numbers_of(compared: List[Tuple[Group, State]]) -> List[int]:
+    """The numbers of all states of compared_states(), the examples and the good ones."""
+    examples = [group.example for group, _ in compared]
+    return [state.number for state in (*examples, *(good_state for _, good_state in compared))]
 
 
 def nearest_good_state(findings: Findings, group: Group) -> Optional[State]:

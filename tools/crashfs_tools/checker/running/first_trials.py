@@ -4,7 +4,7 @@ so it is COMMAND that is wrong if it doesn't."""
 from __future__ import annotations
 
 import os
-from typing import List, Optional
+from typing import List, Optional, Sequence
 
 from crashfs_tools.checker.states.plan import PlannedTrace, State
 from crashfs_tools.common.command import Refused, relative_path_arguments
@@ -34,7 +34,8 @@ class FirstTrials:
         those to try; the outcome of end_plan's state is dropped."""
         prefixes = [state for state in self.trials.plan.states if state.family == 'prefix']
         if self.end_plan is None:
-            self.try_state(prefixes[-1], "the tree at the session's end")
+            end_name = "the tree at the session's end"
+            self.try_state(prefixes[-1], end_name, next_numbers=[prefixes[0].number])
         else:
             state = self.end_plan.plan.listed[0]
             outcome = Trials(self.trials.workplace, self.end_plan).try_state(state)
@@ -45,17 +46,20 @@ class FirstTrials:
             )
         self.try_state(prefixes[0], 'the start tree')
 
-    def try_state(self, state: State, tree_name: str) -> None:
+    def try_state(self, state: State, tree_name: str, next_numbers: Sequence[int] = ()) -> None:
         """Tries a state, unless the results have its outcome already. They get the outcome if this
         shard must try the state. tree_name says in words which tree the state has. Refused if
-        COMMAND fails in it; other exceptions as in Trials.try_state() and wanted_numbers()."""
+        COMMAND fails in it; next_numbers and other exceptions as in Trials.try_state() and
+        wanted_numbers()."""
         number = self.results.tried_numbers[state.trial]
         tried_state = self.trials.plan.state(number)
-        outcome = self.results.outcomes.get(number) or self.trials.try_state(tried_state)
+        outcome = self.results.outcomes.get(number) or self.trials.try_state(
+            tried_state, next_numbers=next_numbers
+        )
         if number in self.trials.wanted_numbers(self.results):
             self.results.outcomes[number] = outcome
         hints = []
-        if outcome.result == BAD and state.numbers[0] == 0 and self.trials.tree(number):
+        if outcome.result == BAD and state.numbers[0] == 0 and self.trials.trees.of_state(number):
             hints.append('did the directory have files of an earlier session when it was recorded?')
         if self.is_command:
             hints.append(f'inspect it with --state {number}')

@@ -5,33 +5,18 @@ from __future__ import annotations
 from dataclasses import dataclass, field, replace
 from functools import cached_property, lru_cache
 from itertools import product
-from typing import (
-    TYPE_CHECKING,
-    Callable,
-    Dict,
-    Iterable,
-    Iterator,
-    List,
-    Optional,
-    Sequence,
-    Set,
-    Tuple,
-)
+from typing import Callable, Dict, Iterable, Iterator, List, Optional, Sequence, Set, Tuple
 
 from crashfs_tools.checker.address import Address
 from crashfs_tools.checker.options import Options
-from crashfs_tools.checker.states.layout import (
-    Archive,
-    Layout,
-    TreesByState,
-    trees_of_small_plan,
-)
+from crashfs_tools.checker.states.layout import Archive, Layout
 from crashfs_tools.checker.states.plan import PlannedTrace, State
+from crashfs_tools.checker.states.plan_trees import PlanTrees
 from crashfs_tools.common.command import TEXT, Refused
 from crashfs_tools.common.guard import Guard
 from crashfs_tools.common.limits import RUNS
 from crashfs_tools.common.program import Crashfs
-from crashfs_tools.common.trace_lines import is_large_trace, root_owner
+from crashfs_tools.common.trace_lines import root_owner
 
 from .cache import OutcomeCache, StateKeys
 from .progress import Pace, Progress, TooSlow
@@ -40,13 +25,6 @@ from .results import Results
 from .runner import BAD, AcknowledgedLines, Checker, Outcome, do_nothing, refuse_left_processes
 from .batches import states_in_batches
 from .workers import OnOutcome, StateWorkers
-
-if TYPE_CHECKING:
-    from crashfs_tools.common.entry import Entries
-
-# Trees are kept from state to state if a trace has so many start lines, or so many bytes in its
-# lines and in what they make files grow to.
-MUCH_ENTRIES, MUCH_BYTES = 32, 1 << 20
 
 # A state may be tried so often: once, and the example of an entry twice more.
 ATTEMPTS = 3
@@ -69,21 +47,21 @@ class Workplace:
 
 
 class Trials:
-    """Tries the states of one plan. With keeps_trees all trees of a small plan are kept in memory,
-    which pays for trials that need most of them."""
+    """Tries the states of one plan, whose trees `trees` reads. With keeps_trees these keep all
+    trees of a small plan, which pays for trials that need most of them."""
 
     def __init__(
         self, workplace: Workplace, planned: PlannedTrace, keeps_trees: bool = False
     ) -> None:
         """Nothing is read or started here, only when it is needed."""
         self.workplace = workplace
-        self.keeps_trees = keeps_trees
         self.options = workplace.options
         self.program = workplace.program
         self.guard = workplace.guard
         self.acknowledged_lines = workplace.acknowledged_lines
         self.planned = planned
         self.plan = planned.plan
+        self.trees = PlanTrees(self.program, planned, self.guard, keeps_all=keeps_trees)
 
     def with_plan(self, planned: PlannedTrace, program: Crashfs) -> Trials:
         """Trials of another plan, such as that of a recovery, with the same COMMAND and workplace,
@@ -101,9 +79,9 @@ class Trials:
         )
 
     def archive_layout(self, folder: str) -> Archive:
-        """A layout that makes states below a folder, each in a directory of its own. Reads
-        kept_trees: ProgramFault as there."""
-        return Archive(self.program, self.planned, folder, self.guard.environment, self.kept_trees)
+        """A layout that makes states below a folder, each in a directory of its own, from the kept
+        trees if these are enough: ProgramFault as PlanTrees.kept."""
+        return Archive(self.program, self.planned, folder, self.guard.environment, self.trees.kept)
 
     def new_layout(self, is_for_many: bool = False) -> Layout:
         """A new layout, below the guard's directory or, with --serve, that of server_layout(). If
@@ -112,7 +90,7 @@ class Trials:
         trace can't be read."""
         if self.options.serve is not None:
             return self.server_layout(self.options.serve)
-        if is_for_many and self.are_trees_large and self.program.has_tar_changes:
+        if is_for_many and self.trees.are_large and self.program.has_tar_changes:
             from crashfs_tools.checker.states.kept_layout import KeptLayout
 
             return KeptLayout(
@@ -130,54 +108,22 @@ class Trials:
             uname = self.options.uname or root_owner(file)
         return Mounts(address, uname, self.guard.directory, self.guard.environment)
 
-    @cached_property
-    def are_trees_large(self) -> bool:
-        """Whether the trace has so many start lines or bytes that its trees aren't kept in
-        memory."""
-        return has_large_trees(self.planned.trace)
-
-    @cached_property
-    def kept_trees(self) -> Optional[TreesByState]:
-        """All trees of the plan in memory, read once. None if they aren't kept: they are large, too
-        many, or keeps_trees is False. ProgramFault if the program lacks one."""
-        if not self.keeps_trees or self.are_trees_large:
-            return None
-        return trees_of_small_plan(self.program, self.planned, self.guard.environment)
-
-    def tree(self, number: int) -> Entries:
-        """The tree of a state, without its root. Errors as in trees()."""
-        return self.trees([number])[0]
-
-    def trees(self, numbers: Sequence[int]) -> List[Entries]:
-        """The trees of the states of these numbers, in their order, without the roots. Entries may
-        be shared, and must not be changed. If the program lacks a tree: ProgramFault, or KeyError
-        for its number."""
-        kept = self.kept_trees
-        if kept is not None:
-            first_numbers = [self.plan.state(number).same for number in numbers]
-            return [
-                {f'/{path}': entry for path, entry in kept[first_number] if path}
-                for first_number in first_numbers
-            ]
-        trees = dict(self.read_trees(numbers))
-        for tree in trees.values():
-            tree.pop('/', None)
-        return [trees[number] for number in numbers]
-
-    def read_trees(self, numbers: Iterable[int]) -> Iterator[Tuple[int, Entries]]:
-        """Reads the trees of the states of these numbers from the program, and yields each, with
-        its root, after its number, in any order. Kept trees aren't used. ProgramFault if the
-        program fails; a state that it leaves out is missing."""
-        for request in self.planned.requests(numbers):
-            for own_number, tree in self.program.trees(request.options, self.guard.environment):
-                yield own_number + request.number_offset, tree
-
-    def try_state(self, state: State, attempt: int = 0) -> Outcome:
+    def try_state(
+        self, state: State, attempt: int = 0, next_numbers: Iterable[int] = ()
+    ) -> Outcome:
         """The outcome of a state, by a run of COMMAND or from the cache. `attempt`, a number below
-        ATTEMPTS, says which of the state's outcomes in the cache it is. Exceptions as in
+        ATTEMPTS, says which of the state's outcomes in the cache it is. next_numbers are those of
+        the states whose trees are needed next, see PlanTrees.keep(). Exceptions as there and in
         find_outcomes()."""
+
+        def layout() -> Layout:
+            """A layout that has the state's tree in memory, if it makes states from archives."""
+            if self.options.serve is None:
+                self.trees.keep([state.number], next_numbers)
+            return self.new_layout()
+
         outcomes: Dict[int, Outcome] = {}
-        self.find_outcomes(self.new_layout, {state.number}, outcomes.__setitem__, attempt)
+        self.find_outcomes(layout, {state.number}, outcomes.__setitem__, attempt)
         return outcomes[state.number]
 
     def run_words(self, words: List[str], number: int) -> Tuple[Outcome, str]:
@@ -355,11 +301,3 @@ class Trials:
         batches = [batch & numbers for batch in all_batches]
         other_numbers = numbers - set().union(*batches)
         return [batch for batch in [*batches, other_numbers] if batch]
-
-
-def has_large_trees(trace_path: str) -> bool:
-    """Whether a trace has at least MUCH_ENTRIES start lines, or MUCH_BYTES bytes in its lines and
-    in the sizes that truncates set: then its trees take longer to lay out than a recovery runs.
-    OSError if the file can't be read, TraceError if a line is no JSON."""
-    with open(trace_path, **TEXT) as lines:
-        return is_large_trace(lines, MUCH_ENTRIES, MUCH_BYTES)

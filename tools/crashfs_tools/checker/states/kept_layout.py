@@ -25,7 +25,7 @@ class KeptLayout(Archive):
         self, program: Crashfs, planned: PlannedTrace, folder: str, environment: Dict[str, str]
     ) -> None:
         """Asks the program for the start tree; ProgramFault if it fails."""
-        super().__init__(program, planned, folder, environment)
+        super().__init__(program, planned, folder, environment, kept={})
         words = [*planned.parts[0].options, '--state', '0']
         with program.open_archive(words, environment) as members:
             self.start: Entries = dict(members)

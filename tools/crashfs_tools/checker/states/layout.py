@@ -60,7 +60,8 @@ class Layout(ABC):
 
 class Archive(Layout):
     """Lays states out below a folder, each as a directory whose name is the state's number. kept
-    has all trees of the plan; it is None if they aren't kept in memory."""
+    has trees of the plan that are in memory, maybe none: if it has those of all states that are
+    wanted, the program isn't started."""
 
     def __init__(
         self,
@@ -68,7 +69,7 @@ class Archive(Layout):
         planned: PlannedTrace,
         folder: str,
         environment: Dict[str, str],
-        kept: Optional[TreesByState] = None,
+        kept: TreesByState,
     ) -> None:
         """The folder must exist. The environment is that of the program. Nothing is made or started
         yet."""
@@ -91,14 +92,14 @@ class Archive(Layout):
         """Yields directories that have their trees already, each made when it is asked for. OSError
         if a directory can't be made or filled: a part of it stays. ProgramFault if the program
         fails and, after the other states, if it lacks one."""
-        if self.kept is None:
+        first_numbers = {number: self.planned.plan.state(number).same for number in wanted}
+        if not self.kept.keys() >= set(first_numbers.values()):
             yield from read_trees(
                 self.program, self.planned, wanted, self.environment, self.make_directory
             )
             return
         for number in sorted(wanted):
-            tree = self.kept[self.planned.plan.state(number).same]
-            yield number, self.make_directory(number, tree)
+            yield number, self.make_directory(number, self.kept[first_numbers[number]])
 
     def make_directory(self, number: int, tree: Iterable[Member]) -> str:
         """Makes the directory of a state, with its tree, and returns the directory's path, which
@@ -124,6 +125,12 @@ def read_trees(
         for request in planned.requests(wanted)
     )
     return with_all_wanted(wanted, chain.from_iterable(values_of_requests))
+
+
+def keep_tree(_number: int, tree: Iterable[Member]) -> List[Member]:
+    """The entries of a tree as a list, in the form that read_trees() asks for: the state's number
+    isn't used."""
+    return list(tree)
 
 
 def read_trees_of_request(
@@ -173,9 +180,7 @@ def trees_of_small_plan(
     trees: TreesByState = {}
     byte_count = 0
     first_numbers = {state.same for state in planned.plan.listed}
-    numbered_trees = read_trees(
-        program, planned, first_numbers, environment, lambda _, tree: list(tree)
-    )
+    numbered_trees = read_trees(program, planned, first_numbers, environment, keep_tree)
     for number, tree in numbered_trees:
         trees[number] = tree
         byte_count += sum(len(entry.data or b'') for _, entry in tree)
