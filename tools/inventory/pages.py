@@ -3,8 +3,9 @@
 from __future__ import annotations
 
 import re
-from typing import Callable, Dict, List
+from typing import Callable, Dict, List, Tuple
 
+from .markdown import table_cell, table_lines
 from .sources import (
     TOP,
     DescribedTest,
@@ -27,14 +28,11 @@ END = '<!-- made by tools/inventories: end -->'
 MOST_CALLS = 4
 
 
-def table_cell(text: str) -> str:
-    """A text as a cell of a Markdown table, which a `|` would end."""
-    return text.replace('|', '\\|')
-
-
-def table_rows(tests: List[DescribedTest]) -> List[str]:
-    """The rows of a table of tests: what each shows, and its name."""
-    return [f'| {table_cell(test.sentence)} | `{test.name}` |' for test in tests]
+def table_of_tests(columns: Tuple[str, str], tests: List[DescribedTest]) -> List[str]:
+    """The lines of a table of tests, after an empty line. A row has what a test shows, and its
+    name."""
+    rows = ((table_cell(test.sentence), f'`{test.name}`') for test in tests)
+    return ['', *table_lines(columns, rows)]
 
 
 def lines_of_crate_tests(crate: str) -> List[str]:
@@ -47,15 +45,14 @@ def lines_of_crate_tests(crate: str) -> List[str]:
             name = path.relative_to(TOP / 'crates' / crate / 'src')
             comment = read_head_comment(path)
             lines += ['', f'`{name}`: {comment}' if comment else f'`{name}`:']
-            lines += ['', '| Example | Test |', '|---|---|', *table_rows(tests)]
+            lines += table_of_tests(('Example', 'Test'), tests)
     return ['', f'### {crate}', *lines] if lines else []
 
 
 def lines_of_tool_tests() -> List[str]:
     """The lines that list tools/tests: a heading, and a table with a row for each file. A file
     without a docstring is listed too. SyntaxError if a file isn't Python."""
-    rows = table_rows(tests_of_tools())
-    return ['', '### tools/tests', '', '| What it shows | File |', '|---|---|', *rows]
+    return ['', '### tools/tests', *table_of_tests(('What it shows', 'File'), tests_of_tools())]
 
 
 def lines_of_cases() -> List[str]:
@@ -63,26 +60,22 @@ def lines_of_cases() -> List[str]:
     as there."""
     lines: List[str] = []
     for area in case_areas():
-        lines += ['', f'### tools/tests/data/cases/{area}', '', '| Example | File |', '|---|---|']
-        lines += table_rows(cases_in(area))
+        lines += ['', f'### tools/tests/data/cases/{area}']
+        lines += table_of_tests(('Example', 'File'), cases_in(area))
     return lines
 
 
 def lines_of_edits() -> List[str]:
     """The lines that list the must-fail edits: a heading, and a table with a row for each crate
     that has edits. OSError as crate_names()."""
-    lines = [
-        '',
-        '## Wrong bodies that the prover refuses',
-        '',
-        '| Crate | Must-fail edits |',
-        '|---|---|',
-    ]
-    for crate in crate_names():
-        edits = edits_of(crate)
-        if edits:
-            lines.append(f'| {crate} | {", ".join(f"`{name}`" for name in edits)} |')
-    return lines
+    edits_by_crate = {crate: edits_of(crate) for crate in crate_names()}
+    rows = (
+        (crate, ', '.join(f'`{name}`' for name in edits))
+        for crate, edits in edits_by_crate.items()
+        if edits
+    )
+    heading = '## Wrong bodies that the prover refuses'
+    return ['', heading, '', *table_lines(('Crate', 'Must-fail edits'), rows)]
 
 
 def tests_list() -> str:
@@ -107,12 +100,16 @@ def lines_of_words(crate: str, calls: Dict[str, List[str]]) -> List[str]:
     its file, and the calls that cite it. `calls` has these calls by word, without the words that
     nothing cites. Empty if the crate has no words."""
     rows = [
-        f'| `{table_cell(word.name)}` | {table_cell(word.sentence)} | {word.file} '
-        f'| {calls_text(calls.get(word.name, []))} |'
+        (
+            f'`{table_cell(word.name)}`',
+            table_cell(word.sentence),
+            word.file,
+            calls_text(calls.get(word.name, [])),
+        )
         for word in words_of(crate)
     ]
-    head = ['| Word | What it says | File | Cited by |', '|---|---|---|---|']
-    return ['', f'## {crate}', '', *head, *rows] if rows else []
+    columns = ('Word', 'What it says', 'File', 'Cited by')
+    return ['', f'## {crate}', '', *table_lines(columns, rows)] if rows else []
 
 
 def words_list() -> str:

@@ -5,38 +5,35 @@ from __future__ import annotations
 import json
 from typing import Any, Dict, Iterator, List, Set
 
+from .markdown import table_lines
 from .sources import TOP
 
 PAGE = TOP / 'docs' / 'RESULTS.md'
-DATA = TOP / 'docs' / 'results.json'
+RESULTS = TOP / 'docs' / 'results.json'
 PROFILES = ('blocks', 'ordered', 'journal')
-# The file systems by the names that the data has, with those of the page.
+# The file systems by the names that RESULTS has, with those of the page.
 DISKS = {'ext4': 'ext4', 'xfs': 'XFS', 'btrfs': 'btrfs'}
 # As a link of the page has it.
 STORES = '../examples/stores'
 
-# A session of a store with what was found: an object of DATA.
+# A session of a store with what was found: an object of RESULTS.
 Row = Dict[str, Any]
 
 
 def results_part() -> str:
-    """The part of PAGE that is made from DATA: the table of all sessions, and the first failure of
-    each store. OSError if DATA can't be read, ValueError if it is no JSON, KeyError if a row lacks
-    a key that is used."""
-    rows: List[Row] = json.loads(DATA.read_text('utf-8'))
-    return '\n'.join([*table_lines(rows), *failure_lines(rows)])
+    """The part of PAGE that is made from RESULTS: the table of all sessions, and the first failure
+    of each store. OSError if RESULTS can't be read, ValueError if it is no JSON, KeyError if a row
+    lacks a key that is used."""
+    rows: List[Row] = json.loads(RESULTS.read_text('utf-8'))
+    return '\n'.join([*session_table(rows), *failure_lines(rows)])
 
 
-def table_lines(rows: List[Row]) -> Iterator[str]:
-    """The lines of the table of sessions in Markdown, in the order of the rows: its head, and a
-    line for each."""
+def session_table(rows: List[Row]) -> Iterator[str]:
+    """The lines of the table of sessions, in the order of the rows."""
     columns = ['Store', 'Session', 'Crash states (sets)', 'Fail']
     columns += [f'`{name}`' for name in PROFILES]
     columns += list(DISKS.values())
-    yield f'| {" | ".join(columns)} |'
-    yield f'|{"---|" * len(columns)}'
-    for row in rows:
-        yield f'| {" | ".join(row_cells(row))} |'
+    return table_lines(columns, map(row_cells, rows))
 
 
 def row_cells(row: Row) -> Iterator[str]:
@@ -90,7 +87,7 @@ def disk_cell(row: Row, file_system: str) -> str:
 
 def failure_lines(rows: List[Row]) -> Iterator[str]:
     """The lines below the table: a heading, and for each store with a failing session the report of
-    the first such session, as far as DATA has the report. Other stores aren't named."""
+    the first such session, as far as RESULTS has the report. Other stores aren't named."""
     yield from ('', '## The first failure of each store', '')
     stores: Set[str] = set()
     for row in rows:

@@ -21,8 +21,8 @@ class Refused(Exception):
 def text_field(text: str) -> bytes:
     """A text as a message of 9P has it: its length in two bytes, then its bytes in UTF-8.
     struct.error if it has more than 65,535 bytes."""
-    data = text.encode()
-    return struct.pack('<H', len(data)) + data
+    text_bytes = text.encode()
+    return struct.pack('<H', len(text_bytes)) + text_bytes
 
 
 def message(kind: int, fields: bytes, tag: int = 1) -> bytes:
@@ -32,9 +32,9 @@ def message(kind: int, fields: bytes, tag: int = 1) -> bytes:
 
 
 class Client:
-    """A connection to a server. All requests but the first have one tag, so each call waits for
-    the replies to all that it sends. After an OSError the connection can't be used
-    any more; after Refused it can. The caller must call close()."""
+    """A connection to a server. All requests but the first have one tag, so each call waits for the
+    replies to all that it sends. After an OSError the connection can't be used any more; after
+    Refused it can. The caller must call close()."""
 
     def __init__(self, address: str) -> None:
         """Connects to HOST:PORT, and agrees on VERSION with the server. OSError if nobody listens

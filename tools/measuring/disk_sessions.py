@@ -18,6 +18,7 @@ from crashfs_tools.reading.classes import SetClasses
 from crashfs_tools.reading.lines import PROFILES
 from crashfs_tools.reading.order import order_under, profile_names
 from crashfs_tools.reading.states import States
+from inventory.markdown import table_lines
 
 from .random_sessions import draw_session
 
@@ -141,23 +142,26 @@ class SessionMaker:
         return replace(result, operations=operation_count)
 
 
-def table_lines(results: List[SessionResult]) -> Iterator[str]:
+def sums_table(results: List[SessionResult]) -> Iterator[str]:
     """The lines of a table of sums in Markdown: a row for each file system that has results, in the
     order of PROFILE_OF. KeyError if a result lacks one of PROFILES."""
     profile_columns = [f'by `{profile}`' for profile in PROFILES]
     columns = ['File system', 'Sessions', 'Disks', 'Different', *profile_columns]
-    yield f'| {" | ".join(columns)} |'
-    yield f'|{"---|" * len(columns)}'
-    for filesystem in PROFILE_OF:
-        sessions = [result for result in results if result.filesystem == filesystem]
-        if sessions:
-            sums = ' | '.join(f'{count:,}' for count in session_sums(sessions))
-            yield f'| {filesystem} | {sums} |'
+    sessions_of = {
+        filesystem: [result for result in results if result.filesystem == filesystem]
+        for filesystem in PROFILE_OF
+    }
+    rows = (
+        [filesystem, *(f'{count:,}' for count in session_sums(sessions))]
+        for filesystem, sessions in sessions_of.items()
+        if sessions
+    )
+    return table_lines(columns, rows)
 
 
 def session_sums(sessions: List[SessionResult]) -> Iterator[int]:
     """How many sessions there are, how many disks they left, how many of these differ, and for each
-    of PROFILES how many of the different disks it allows. KeyError as table_lines()."""
+    of PROFILES how many of the different disks it allows. KeyError as sums_table()."""
     yield len(sessions)
     yield sum(session.disks for session in sessions)
     yield sum(session.different for session in sessions)

@@ -26,7 +26,7 @@ from crashfs_tools.disks.filesystems import missing_requirement, filesystems_by_
 from crashfs_tools.disks.pool import become_worker
 from crashfs_tools.disks.workers import DiskWorkers
 
-from .disk_sessions import OPERATIONS, PROFILE_OF, SessionMaker, SessionResult, table_lines
+from .disk_sessions import OPERATIONS, PROFILE_OF, SessionMaker, SessionResult, sums_table
 from .random_sessions import draw_session
 
 MEMORY = '/dev/shm'
@@ -99,14 +99,13 @@ class Measurement:
         done_tasks = {(result.filesystem, result.seed) for result in self.read_results()}
         return [task for task in self.tasks() if task not in done_tasks]
 
-    def make_sessions(self, folder: str) -> None:
-        """Makes the sessions of tasks_left(), several at once, saves each result as it comes, and
+    def make_sessions(self, tasks: List[Task], folder: str) -> None:
+        """Makes the sessions of these tasks, several at once, saves each result as it comes, and
         shows on standard error how many are made. Images are made in the folder, and DIR first, if
         it isn't there. Refused if an image can't be made or mounted; OSError if DIR can't be made,
         or is a file; other errors as DiskWorkers.results() and save_result(). The results that were
         saved stay."""
         self.options.dir.mkdir(parents=True, exist_ok=True)
-        tasks = self.tasks_left()
         makers = {
             filesystem.name: SessionMaker(filesystem, folder)
             for filesystem in filesystems_by_names(self.filesystems)
@@ -164,15 +163,16 @@ def main(words: List[str]) -> int:
     if refusal is not None:
         print(f'measure disks: {refusal}', file=sys.stderr)
         return 2
-    if measurement.tasks_left():
+    tasks = measurement.tasks_left()
+    if tasks:
         with Guard('measure-disks', MEMORY if os.path.isdir(MEMORY) else None) as guard:
             try:
-                measurement.make_sessions(guard.directory)
+                measurement.make_sessions(tasks, guard.directory)
             except Refused as refused:
                 print(f'measure disks: {refused}', file=sys.stderr)
                 return 2
     results = measurement.read_results()
     operation_count = measurement.options.operations
     print(f'Kernel {platform.release()}, {operation_count} operations a session\n')
-    print('\n'.join([*table_lines(results), *outside_texts(results)]))
+    print('\n'.join([*sums_table(results), *outside_texts(results)]))
     return 1 if any(result.outside for result in results) else 0

@@ -73,8 +73,8 @@ def measure_new_server(
     programs: Programs, fill: Callable[[str, ExitStack], int], connections: int
 ) -> Tuple[int, int]:
     """Starts a server that takes so many connections, calls `fill` with its address, kills it, and
-    returns what measure_growth() returned. OSError if the server doesn't listen; errors of `fill`
-    are raised."""
+    returns what measure_growth() returned. OSError if the server doesn't listen, or ends too early;
+    errors of `fill` are raised."""
     address = free_address()
     with running_server(serve_words(programs, address, connections)) as server:
         return measure_growth(server, lambda opened: fill(address, opened))

@@ -81,19 +81,19 @@ class DrawnSession:
     def draw_start(self) -> List[StartLine]:
         """Draws the lines of the start tree: /d and /e, perhaps /d/f, two files, and perhaps the
         symbolic link /e/c. `tree` isn't needed yet."""
-        directories = ['/d', '/e', *(['/d/f'] if self.is_drawn(one_in=3) else [])]
+        directories = ['/d', '/e', *(['/d/f'] if self.draw_boolean(true_once_in=3) else [])]
         start: List[StartLine] = []
         start += [Start(path, *ROOT, DIRECTORY_MODE, None) for path in directories]
         for path in self.random.sample(['/a', '/b', '/d/a', '/d/b', '/e/a'], 2):
             data = self.random.choice([b'old', b'x' * 5000])
             start.append(Start(path, *ROOT, FILE_MODE, data))
-        if self.is_drawn(one_in=3):
+        if self.draw_boolean(true_once_in=3):
             start.append(StartSymlink('/e/c', *ROOT, 'a'))
         return start
 
-    def is_drawn(self, one_in: int) -> bool:
-        """Draws whether to do something: true in one of so many draws, on average."""
-        return self.random.randrange(one_in) == 0
+    def draw_boolean(self, *, true_once_in: int) -> bool:
+        """Draws true or false: true once in so many draws, on average."""
+        return self.random.randrange(true_once_in) == 0
 
     def draw_operations(self, count: int) -> None:
         """Adds so many useful operations, 0 or more, to the trace, with acknowledged lines as

@@ -21,6 +21,10 @@ def processor_halves() -> Tuple[List[int], List[int]]:
     return processors[:half] or processors, processors[half:]
 
 
+# The second number of the hosts of free_address(), which it takes in turn.
+_HOSTS = itertools.cycle(range(1, 255))
+
+
 def free_address() -> str:
     """HOST:PORT on this machine, at which nobody listens. The host is one of 127.0.0.0/8 that the
     next 253 calls, and processes whose ids have other low 16 bits, don't use: so nobody else takes
@@ -30,9 +34,6 @@ def free_address() -> str:
     with socket.socket() as listener:
         listener.bind((host, 0))
         return f'{host}:{listener.getsockname()[1]}'
-
-
-_HOSTS = itertools.cycle(range(1, 255))
 
 
 @contextmanager

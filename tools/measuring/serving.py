@@ -29,14 +29,15 @@ def running_servers(programs: Programs, addresses: List[str], clients: int) -> I
 
 def add_serving_rows(programs: Programs, tally: Tally) -> None:
     """Starts all four servers for each setting, and prints the rows that `serve_bench` prints of
-    them. If a server doesn't listen, or a program can't be started, that is a failure of the tally,
-    and the next setting is measured. `crashfs` and `serve_bench` must be built."""
+    them. If a server has no free port or doesn't listen, or a program can't be started, that is a
+    failure of the tally, and the next setting is measured. `crashfs` and `serve_bench` must be
+    built."""
     bench = str(programs.path_if_built('serve_bench'))
     for clients, runs in SETTINGS:
         runs_text = 'each on a run of its own' if runs == 'own' else 'all on one run'
         tally.add_line(f'-- {clients} clients, {runs_text}')
-        addresses = [free_address() for _ in range(len(KEEPING) + 1)]
         try:
+            addresses = [free_address() for _ in range(len(KEEPING) + 1)]
             with running_servers(programs, addresses, clients):
                 tally.run_program([bench, *addresses, str(clients), runs], processor_halves()[1])
         except OSError as error:

@@ -63,15 +63,19 @@ def time_command(words: List[str], environment: Optional[Dict[str, str]] = None)
 
 
 class Checks:
-    """Checks of SQLite's example. `folder` is for the modules that Python compiles: these are there
-    before anything is measured, as they are after a user's first check."""
+    """Checks of SQLite's example. `folder` is for the modules that Python compiles. Call
+    compile_modules() first, so that the checks are measured as they are after a user's first one.
+    """
 
     def __init__(self, programs: Programs, folder: str) -> None:
-        """Runs a first check, which isn't measured, so that Python compiles the modules. The
-        program `crashfs` must be built. OSError if the check fails."""
+        """Runs nothing yet. The program `crashfs` must be built."""
         self.program = str(programs.path_if_built('crashfs'))
         self.environment = {**os.environ, 'PYTHONPYCACHEPREFIX': folder}
         self.environment.pop('PYTHONDONTWRITEBYTECODE', None)
+
+    def compile_modules(self) -> None:
+        """Runs a check, so that Python compiles its modules into the folder. OSError as
+        measure_check()."""
         self.measure_check('--prefixes')
 
     def measure_check(self, *options: str) -> Times:
@@ -125,6 +129,7 @@ def measure_all_times(programs: Programs) -> AllTimes:
     that is removed at the end. OSError or CalledProcessError if a program is missing or fails."""
     with tempfile.TemporaryDirectory() as folder:
         checks = Checks(programs, folder)
+        checks.compile_modules()
         check, short_check = checks.least_times(), checks.least_times('--prefixes')
         one_job_check = checks.measure_check('--jobs', '1')
         c_program = measure_c_program(folder, check.tried_count)
@@ -133,7 +138,7 @@ def measure_all_times(programs: Programs) -> AllTimes:
 
 def add_state_rows(programs: Programs, tally: Tally) -> None:
     """Measures and prints the rows of states. If a program is missing or fails, that is a failure
-    of the tally, and no row is printed."""
+    of the tally, and no row is printed. The program `crashfs` must be built."""
     if shutil.which('cc') is None:
         tally.add_failure('there is no cc')
         return

@@ -6,7 +6,8 @@ import tempfile
 import unittest
 
 from inventory.made_files import outdated_files, outdated_lines, write_outdated_files
-from inventory.pages import BEGIN, END, calls_text, page_with_part, table_cell
+from inventory.markdown import table_cell, table_lines
+from inventory.pages import BEGIN, END, calls_text, page_with_part
 from inventory.sources import TOP, Word, contracts_in, tests_in, words_in
 
 TESTS = '''\
@@ -105,6 +106,10 @@ class Inventories(unittest.TestCase):
     def test_a_bar_and_many_calls_stay_in_their_cell(self):
         self.assertEqual(table_cell('a || b'), 'a \\|\\| b')
         self.assertEqual(calls_text(list('abcdef')), '`a`, `b`, `c`, `d` and 2 more')
+
+    def test_a_table_has_a_head_and_then_a_line_for_each_row(self):
+        lines = list(table_lines(('Key', 'Value'), [('a', 'b'), ('c', '')]))
+        self.assertEqual(lines, ['| Key | Value |', '|---|---|', '| a | b |', '| c |  |'])
 
     def test_a_part_is_put_between_its_marks_alone(self):
         page = page_with_part(f'head\n{BEGIN}\nold\n{END}\ntail\n', 'new')

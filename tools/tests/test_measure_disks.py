@@ -29,7 +29,7 @@ from measuring.disk_sessions import (
     OPERATIONS,
     SessionResult,
     session_result,
-    table_lines,
+    sums_table,
 )
 from measuring.disks import Measurement, parse_words
 from measuring.random_sessions import draw_session
@@ -97,7 +97,7 @@ class Judgements(unittest.TestCase):
 
     def test_the_table_has_a_row_for_each_file_system(self) -> None:
         one = SessionResult('ext4', 1, 1000, 20, 99, {'blocks': 20, 'ordered': 19, 'journal': 18})
-        rows = list(table_lines([one, one, SessionResult('xfs', 1, 1, 1, 1, dict(one.allowed))]))
+        rows = list(sums_table([one, one, SessionResult('xfs', 1, 1, 1, 1, dict(one.allowed))]))
         self.assertEqual(rows[2], '| ext4 | 2 | 2,000 | 40 | 40 | 38 | 36 |')
         self.assertEqual([row.split(' ')[1] for row in rows[2:]], ['ext4', 'xfs'])
 

@@ -16,7 +16,7 @@ from crashfs_tools.common.signals import Stopped
 from crashfs_tools.reading import parse_trace
 from crashfs_tools.reading.every import count_sets
 from crashfs_tools.reading.order import Order
-from inventory.results import results_part, row_cells, table_lines
+from inventory.results import results_part, row_cells, session_table
 from measuring import stores
 from measuring.store_rows import STORES, ResultsFile, disk_counts, session_keys
 from measuring.stores import Session, SessionCheck, find_sessions, installed_version
@@ -87,7 +87,7 @@ class Tables(unittest.TestCase):
     def test_a_row_has_its_states_failures_profiles_and_disks(self) -> None:
         seen = {'ext4': {'trees': 9, 'failing': 0, 'outside': 0}}
         seen['xfs'] = {'trees': 1000, 'failing': 2, 'outside': 1}
-        (_, _, line) = table_lines([row(disks=seen)])
+        (_, _, line) = session_table([row(disks=seen)])
         self.assertEqual(
             line,
             '| KV 1.2 | [three puts](../examples/stores/kv) | 100 (1,234) '
