@@ -80,6 +80,18 @@ class AllListed(Listing):
                 assert planned.plan.all_states is not None
                 self.assertTrue(planned.plan.all_states.are_listed)
 
+    def test_the_second_reading_alone_lists_each_crash_state_once(self) -> None:
+        for name, text in trace_texts():
+            with self.subTest(name):
+                plan, path = self.planned(text).plan, self.path('a.trace')
+                known = self.planner(None).plan_different_states(path, plan)
+                assert known is not None
+                tried, states = self.trials(text, known), known.plan.states
+                self.assertEqual((len(tried), set(tried)), (len(states), wanted_trials(text)))
+                self.assertEqual([state.says for state in states], [says for _, says in tried])
+                few = self.planner(None, most=len(states) - 1)
+                self.assertIsNone(few.plan_different_states(path, plan))
+
     def test_a_plan_in_parts_has_the_same_states_as_in_one(self) -> None:
         for name, text in trace_texts():
             whole = self.planned(text)

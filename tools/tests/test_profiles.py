@@ -15,7 +15,7 @@ from crashfs_tools.checker.states.read_plan import read_plan
 from crashfs_tools.common.command import Refused
 from crashfs_tools.reading import StateList, parse_trace
 from crashfs_tools.reading.every import every_set
-from crashfs_tools.reading.order import orders_by_profile
+from crashfs_tools.reading.order import order_under, profile_names
 
 from .support import EXAMPLES, FAKE, InFolder
 from .test_all_states import OPTIONS, trace_texts
@@ -36,7 +36,8 @@ def allowed_trees(text: str) -> Dict[TreeAndCount, Set[str]]:
     reading = parse_trace(text.encode())
     trees = StateList(reading).trees
     found: Dict[TreeAndCount, Set[str]] = {}
-    for name, order in orders_by_profile(reading).items():
+    for name in profile_names(reading):
+        order = order_under(reading, name)
         if reading.version < 3:
             order = order.with_earlier_lines(reading)
         for one in every_set(order):
@@ -45,12 +46,15 @@ def allowed_trees(text: str) -> Dict[TreeAndCount, Set[str]]:
 
 
 class Planning(InFolder):
-    def planned(self, text: str, profile: str = '', program: Any = None) -> PlannedTrace:
+    def planner(self, profile: str, program: Any) -> Planner:
         options: Any = SimpleNamespace(
             **OPTIONS, has_every=True, most_states=20_000, profile=profile, draw_count=50
         )
         guard: Any = SimpleNamespace(directory=self.temporary, environment=None)
-        return Planner(options, program or Reader(), guard).plan(self.write('a.trace', text))
+        return Planner(options, program, guard)
+
+    def planned(self, text: str, profile: str = '', program: Any = None) -> PlannedTrace:
+        return self.planner(profile, program or Reader()).plan(self.write('a.trace', text))
 
     def trees_of(self, text: str, planned: PlannedTrace) -> Dict[TreeAndCount, Set[str]]:
         trees, plan = StateList(parse_trace(text.encode())).trees, planned.plan
@@ -75,8 +79,13 @@ class Planning(InFolder):
             for profile in ('blocks', 'ordered'):
                 with self.subTest(f'{name} {profile}'):
                     wanted = {one for one, names in allowed_trees(text).items() if profile in names}
-                    found = self.trees_of(text, self.planned(text, profile))
-                    self.assertEqual(set(found), wanted)
+                    planned = self.planned(text, profile)
+                    self.assertEqual(set(self.trees_of(text, planned)), wanted)
+                    known = self.planner(profile, None).plan_different_states(
+                        self.path('a.trace'), planned.plan
+                    )
+                    assert known is not None
+                    self.assertEqual(set(self.trees_of(text, known)), wanted)
 
     def test_a_profile_that_a_trace_lacks_is_refused(self) -> None:
         with self.assertRaisesRegex(Refused, 'the profiles of this trace are blocks, ordered'):

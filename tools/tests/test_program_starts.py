@@ -62,12 +62,12 @@ class Starts(Listing):
 
     def test_trees_that_are_needed_one_by_one_are_read_together(self) -> None:
         """Two states are tried first. At the end the one that fails is tried twice again, and is
-        compared with a good one."""
+        compared with a good one; the program isn't asked for the copy that has the advised sync."""
         command = self.write('command', FAILS_IN_99, 0o755)
-        starts = self.starts(programs()[0], '--quick', SQLITE, '--', command)
-        tar_starts = [line for line in starts if line.startswith('tar')]
-        self.assertEqual(len(tar_starts), 4, tar_starts)
-        shown = [line.partition(' --states ')[2] for line in (tar_starts[0], tar_starts[-1])]
+        starts = self.starts(programs()[0], SQLITE, '--', command)
+        names = [line.split(' ')[0] for line in starts]
+        self.assertEqual(names, ['picks', 'list', 'picks', *4 * ['tar']])
+        shown = [line.partition(' --states ')[2] for line in (starts[3], starts[-1])]
         self.assertEqual(shown, ['0,87', '4,99'])
 
 

@@ -247,12 +247,6 @@ def order_under(reading: Reading, profile: str) -> Order:
     return order if profile == order.profile else order.restricted_to(reading, profile)
 
 
-def orders_by_profile(reading: Reading) -> Dict[str, Order]:
-    """The order of order_under() for each profile of profile_names(), by its name, in the order of
-    these names."""
-    return {profile: order_under(reading, profile) for profile in profile_names(reading)}
-
-
 class Profiles:
     """Which profiles allow a set of a trace, each only by its own rules: unlike in order_under(),
     the rules of the trace's own profile aren't added. But the trace's own profile decides whether a

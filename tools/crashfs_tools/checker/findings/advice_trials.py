@@ -3,7 +3,7 @@
 from __future__ import annotations
 
 import os
-from typing import Dict, FrozenSet, Iterable, List, NamedTuple, Set, Tuple
+from typing import Dict, FrozenSet, Iterable, List, NamedTuple, Optional, Set, Tuple
 
 from crashfs_tools.checker.running.results import Results
 from crashfs_tools.checker.running.runner import Outcome
@@ -118,16 +118,35 @@ class AdviceTrials:
         return AllSyncs(points, FailingCounts(self.failing_before, failing_after))
 
     def make_copy(self, points: SyncPoints) -> SyncedCopy:
-        """Writes a copy of the trace that has these syncs, as write_copy() does, and plans it.
-        Refused if the program refuses the copy; other exceptions as in write_copy() and
-        Planner.plan()."""
-        says = self.trials.planned.offsets.says
-        planned = self.planner.plan(self.write_copy(points), Offsets(says=says))
+        """Writes a copy of the trace that has these syncs, as write_copy() does, and plans it: by
+        known_copy() or, if that returns None, by the program. Refused if the copy is refused; other
+        exceptions as in write_copy() and Planner.plan()."""
+        copy_path = self.write_copy(points)
+        copy = self.known_copy(copy_path)
+        if copy is not None:
+            return copy
+        planned = self.planner.plan(copy_path, Offsets(says=self.trials.planned.offsets.says))
+        return SyncedCopy(planned, self.listed_keys(planned.plan))
+
+    def known_copy(self, copy_path: str) -> Optional[SyncedCopy]:
+        """The plan of a written copy by the second reading alone, and the keys of its states. None
+        unless each of them is equal to a state of the trace that was tried, as with all crash
+        states listed: syncs only take states away. Exceptions as in
+        Planner.plan_different_states()."""
         if self.listed_sets is None:
-            return SyncedCopy(planned, set())
-        plan = planned.plan
-        keys = {self.state_key(plan.kept[state.number]) for state in plan.states}
-        return SyncedCopy(planned, keys)
+            return None
+        planned = self.planner.plan_different_states(copy_path, self.findings.plan)
+        if planned is None:
+            return None
+        copy = SyncedCopy(planned, self.listed_keys(planned.plan))
+        return copy if copy.state_keys <= self.listed_sets.outcomes.keys() else None
+
+    def listed_keys(self, plan: Plan) -> Set[object]:
+        """The keys of the states of a copy's plan by state_key(); empty unless all crash states of
+        the trace are listed."""
+        if self.listed_sets is None:
+            return set()
+        return {self.state_key(plan.kept[state.number]) for state in plan.states}
 
     def write_copy(self, points: SyncPoints) -> str:
         """Writes a copy of the trace that has these syncs, and returns its path, which is the same

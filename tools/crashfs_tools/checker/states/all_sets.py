@@ -92,7 +92,7 @@ class ProgramSets:
     def different_sets(self, most: int, profile: str = '') -> Optional[List[int]]:
         """Asks `picks --every --different`. The second reading answers if the program doesn't know
         an option, or if a profile is named and has too many sets for the program: are_read is True
-        from then on, and a profile that the trace doesn't have is a KeyError. Returns None as
+        from then on, and a profile that the trace doesn't have is a ReadingFault. Returns None as
         AllSets.different_sets() says."""
         profile_options = ['--profile', profile] if profile else []
         options = ['--every', '--different', '--most', str(most), *profile_options]
@@ -160,17 +160,8 @@ class ReadingSets:
         self.trace = trace
         with open(trace, 'rb') as file:
             self.reading = parse_trace(file.read())
-
-    @cached_property
-    def orders(self) -> Dict[str, Order]:
-        """The order that a file system of each profile keeps, by the profile's name. By each order,
-        also in older traces, what follows an acknowledged line needs this line."""
-        from crashfs_tools.reading.order import orders_by_profile
-
-        orders = orders_by_profile(self.reading)
-        if self.reading.version >= ACKNOWLEDGED_FIRST:
-            return orders
-        return {name: order.with_earlier_lines(self.reading) for name, order in orders.items()}
+        # What order() has returned, by the profile's name.
+        self.orders: Dict[str, Order] = {}
 
     @cached_property
     def state_list(self) -> StateList:
@@ -192,7 +183,7 @@ class ReadingSets:
 
     @cached_property
     def profile_names(self) -> Tuple[str, ...]:
-        """The names of the trace's profiles, as in `orders`; no order is computed for them."""
+        """The names of the profiles that a trace of this version may have."""
         from crashfs_tools.reading.order import profile_names
 
         return tuple(profile_names(self.reading))
@@ -211,9 +202,18 @@ class ReadingSets:
         return [set_of(map(place_of, self.profiles.names_allowing(members))) for members in sets]
 
     def order(self, profile: str = '') -> Order:
-        """The order of the profile with this name, or of the trace's own profile if the name is
-        empty. KeyError for a profile that the trace doesn't have."""
-        return self.orders[profile or self.reading.profile]
+        """The order that allows what a file system of the profile with this name may leave of the
+        trace's allowed sets; by default that of the trace's own profile. Also in older traces, what
+        follows an acknowledged line needs this line. It is computed once for each profile.
+        ReadingFault for a profile that the trace doesn't have."""
+        name = profile or self.reading.profile
+        if name not in self.orders:
+            from crashfs_tools.reading.order import order_under
+
+            order = order_under(self.reading, name)
+            is_old = self.reading.version < ACKNOWLEDGED_FIRST
+            self.orders[name] = order.with_earlier_lines(self.reading) if is_old else order
+        return self.orders[name]
 
     def count_sets(self) -> Optional[int]:
         """How many sets the trace's own profile allows; None if they are too many to count."""
@@ -226,7 +226,7 @@ class ReadingSets:
             return None
 
     def different_sets(self, most: int, profile: str = '') -> Optional[List[int]]:
-        """As AllSets.different_sets() says. KeyError for a profile that the trace doesn't have."""
+        """As AllSets.different_sets() says. ReadingFault as order()."""
         from crashfs_tools.reading.classes import SetClasses
 
         all_different = SetClasses(self.reading, self.order(profile)).different_sets()

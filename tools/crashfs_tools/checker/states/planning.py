@@ -16,8 +16,8 @@ from crashfs_tools.common.program import Crashfs, ProgramFault, is_plan_too_larg
 from .all_sets import AllSets, ReadingSets, all_sets
 from .joining import joined_states
 from .layout import is_small
-from .place_sets import places_of
-from .plan import AllStates, Needs, Offsets, Part, Plan, PlannedTrace, SetProfiles
+from .place_sets import places_of, size_of
+from .plan import AllStates, Needs, Offsets, Part, Plan, PlannedTrace, SetProfiles, State
 from .read_plan import read_plan
 
 # Sets are drawn by the same seed each time.
@@ -71,6 +71,28 @@ class Planner:
         if not is_small(plan):
             return self
         return Planner(self.options, Crashfs.second_reading(), self.guard)
+
+    def plan_different_states(self, copy: str, plan: Plan) -> Optional[PlannedTrace]:
+        """A plan of a copy of a plan's trace, with the same micro-operations: each different crash
+        state, under the profile of --in if that is given, is one pick. The second reading finds
+        them. The program doesn't know the plan, so that no state of it can be made. None if there
+        are more than options.most_states states. Refused as read_trace()."""
+        reading_sets = self.read_trace(copy)
+        sets = reading_sets.different_sets(self.options.most_states, self.options.profile or '')
+        if sets is None:
+            return None
+        states = [
+            State(
+                number,
+                'pick',
+                tuple(places_of(members)),
+                size_of(members & plan.say_places),
+                number,
+            )
+            for number, members in enumerate(sets)
+        ]
+        needs = [needed | 1 << place for place, needed in enumerate(reading_sets.order().needs)]
+        return PlannedTrace(copy, [], Plan(plan.operations, states, Needs(needs)))
 
     def has_few_states(self, trace: str) -> bool:
         """Whether a trace has at most options.most_states different crash states, so that all can
