@@ -11,7 +11,7 @@ import threading
 import time
 from pathlib import Path
 
-from .order import TOP, Work, chain_lengths, libraries
+from .order import TOP, Work, chain_lengths, library_uses
 from .proving import (
     build_program,
     copy_proved_libraries,
@@ -73,7 +73,7 @@ def build_all(processors: int) -> int:
     running checks go on to their end. Proved libraries are copied to the repository itself in
     either case. OSError if crates.txt or a text can't be read, or a copy of the repository or of a
     library can't be made."""
-    uses, start_time = libraries(), time.monotonic()
+    uses, start_time = library_uses(), time.monotonic()
     work = Work(uses, chain_lengths(uses), processors, read_stamps(TOP, uses))
     with tempfile.TemporaryDirectory(prefix='crashfs-build-') as folder:
         copies = [

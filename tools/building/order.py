@@ -46,10 +46,10 @@ def crates_below(uses: Dict[str, List[str]], name: str) -> Set[str]:
     return crates
 
 
-def libraries() -> Dict[str, List[str]]:
-    """The crates of this repository that the program uses, directly or not, in no particular order;
-    for each those of this repository that it uses directly. Empty if crates.txt has no line for the
-    program; errors as read_uses()."""
+def library_uses() -> Dict[str, List[str]]:
+    """What each library of the program uses, directly: crates of this repository. The libraries are
+    the crates of this repository that the program uses, directly or not, in no particular order.
+    Empty if crates.txt has no line for the program; errors as read_uses()."""
     uses = read_uses()
     own_uses = {
         name: [crate for crate in used_crates if crate in uses]
@@ -65,16 +65,16 @@ def paths_of_texts(crate_folder: Path) -> Iterator[Path]:
 
 
 def count_crate_lines(name: str) -> int:
-    """How many lines the texts of a crate have: the more, the longer a check takes. 0 if there is
+    """How many lines the texts of a crate have: the more, the longer its check takes. 0 if there is
     no such crate; OSError if a text can't be read."""
     paths = (path for path in paths_of_texts(TOP / 'crates' / name) if path.is_file())
     return sum(len(path.read_bytes().splitlines()) for path in paths)
 
 
 def chain_lengths(uses: Dict[str, List[str]]) -> Dict[str, int]:
-    """For each crate, how many lines the longest chain of crates has that begins with it, and in
-    which each crate uses the one before. Used crates that are no keys of `uses` are ignored.
-    RecursionError if there is a cycle, OSError as count_crate_lines()."""
+    """For each crate, how many lines the texts of the longest chain of crates have that begins with
+    it, and in which each crate uses the one before. Used crates that are no keys of `uses` are
+    ignored. RecursionError if there is a cycle, OSError as count_crate_lines()."""
     users = {name: [user for user in uses if name in uses[user]] for name in uses}
 
     @lru_cache(maxsize=None)
@@ -88,7 +88,7 @@ def chain_lengths(uses: Dict[str, List[str]]) -> Dict[str, int]:
 @dataclass
 class Work:
     """What is left to prove, shared by threads, one for each copy of the repository. uses and
-    chain_lengths are as libraries() and chain_lengths() return them; old_stamps has the stamp of
+    chain_lengths are as library_uses() and chain_lengths() return them; old_stamps has the stamp of
     each library that the repository itself had when the build began. Threads hold change_condition
     to change the rest: proved_in, the copy in which each crate was proved; begun_crates, whose
     checks have begun; jobs, the number of processors of each running check; and failed_crate, the
@@ -115,10 +115,10 @@ class Work:
         ]
 
     def jobs_wanted(self, name: str, spare_processors: int) -> int:
-        """How many processors a ready crate should get. spare_processors are those that the other
-        ready crates don't need. One if MANY_BELOW crates or more are below it; else two if its
-        chain is longer than those of all running checks, or all spare ones if these are more, but
-        at most MOST_JOBS. The caller must hold change_condition."""
+        """How many processors a ready crate should get. One if MANY_BELOW crates or more are below
+        it. Else all of spare_processors, which the other ready crates don't need; but at least one,
+        at least two if its chain is longer than those of all running checks, and at most MOST_JOBS.
+        The caller must hold change_condition."""
         if len(crates_below(self.uses, name)) >= MANY_BELOW:
             return 1
         is_longest = all(

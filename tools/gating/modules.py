@@ -37,8 +37,8 @@ def result_of(name: str, ran: unittest.TestResult) -> ModuleResult:
 
 def run_here(name: str, result_path: Path) -> int:
     """Runs a module in this process and writes its result, without the output, to a file, as JSON.
-    Returns 0, also if a test fails. OSError if the file can't be written. The folder tools/ must be
-    on Python's path."""
+    Returns 0, also if a test fails or the module can't be imported. OSError if the file can't be
+    written. The folder tools/ must be on Python's path."""
     tests = unittest.defaultTestLoader.loadTestsFromName(name)
     result = result_of(name, unittest.TextTestRunner().run(tests))
     result_path.write_text(json.dumps(asdict(result)), encoding='utf-8')
@@ -46,7 +46,7 @@ def run_here(name: str, result_path: Path) -> int:
 
 
 def run_module(name: str) -> ModuleResult:
-    """Runs a module in a new process, waits for its end, and returns its result."""
+    """Runs a module in a new process, waits for its end without limit, and returns its result."""
     with tempfile.TemporaryDirectory() as folder:
         path = Path(folder) / 'result'
         words = ['--module', name, '--result', str(path)]

@@ -15,7 +15,7 @@ import sys
 from collections import Counter
 from concurrent.futures import ThreadPoolExecutor
 from pathlib import Path
-from typing import List, Optional, Sequence
+from typing import Iterator, List, Optional, Sequence
 
 from .modules import ModuleResult, run_here, run_module
 
@@ -38,7 +38,7 @@ QUICK = (
 )
 
 
-def modules_to_run(is_quick: bool) -> List[str]:
+def modules_to_run(*, is_quick: bool) -> List[str]:
     """The names of the test modules, such as `tests.test_gate`, in alphabetical order; with
     is_quick only the QUICK ones that are there."""
     names = sorted(path.stem for path in (TOOLS / 'tests').glob('test_*.py'))
@@ -53,19 +53,32 @@ def count_at_once(processors: int) -> int:
 
 
 def run_modules(names: Sequence[str], count: int) -> List[ModuleResult]:
-    """Runs modules, `count` at once, and then those that failed once more, one after the other.
-    Prints what each printed, as it is known in the order of names. Returns the last result of each
-    module."""
-    results = {}
+    """Runs modules, `count` at once, and then those that failed once more, one after the other,
+    unless `count` is 1. Prints on standard error what each printed. Returns the last result of each
+    module, in the order of `names`."""
+    results = {result.name: result for result in run_at_once(names, count)}
+    if count > 1:
+        for name in [name for name, result in results.items() if result.failed]:
+            results[name] = run_again(name)
+    return list(results.values())
+
+
+def run_at_once(names: Sequence[str], count: int) -> Iterator[ModuleResult]:
+    """Runs modules, `count` at once. Yields their results in the order of `names`, each after what
+    the module printed is printed on standard error."""
     with ThreadPoolExecutor(count) as pool:
         for result in pool.map(run_module, names):
             print(result.output, end='', file=sys.stderr, flush=True)
-            results[result.name] = result
-    for name in [name for name, result in results.items() if result.failed and count > 1]:
-        print(f'{name} failed beside others: again, alone', file=sys.stderr, flush=True)
-        results[name] = run_module(name)
-        print(results[name].output, end='', file=sys.stderr, flush=True)
-    return list(results.values())
+            yield result
+
+
+def run_again(name: str) -> ModuleResult:
+    """Runs a module that failed beside others alone. Prints on standard error that it does so, and
+    then what the module printed. Returns its result."""
+    print(f'{name} failed beside others: again, alone', file=sys.stderr, flush=True)
+    result = run_module(name)
+    print(result.output, end='', file=sys.stderr, flush=True)
+    return result
 
 
 def count_skipped_for_program(reasons: Sequence[str]) -> int:
@@ -74,7 +87,7 @@ def count_skipped_for_program(reasons: Sequence[str]) -> int:
     return sum('crashfs' in reason for reason in reasons)
 
 
-def summary_line(results: Sequence[ModuleResult], needs_program: bool) -> str:
+def summary_line(results: Sequence[ModuleResult], *, needs_program: bool) -> str:
     """How many tests ran, failed and were skipped, and why they were skipped, the commonest reason
     first. With needs_program the line also counts those that were skipped for lack of `crashfs`, as
     a fault."""
@@ -92,7 +105,7 @@ def summary_line(results: Sequence[ModuleResult], needs_program: bool) -> str:
     )
 
 
-def has_passed(results: Sequence[ModuleResult], needs_program: bool) -> bool:
+def has_passed(results: Sequence[ModuleResult], *, needs_program: bool) -> bool:
     """Whether at least one test ran and none failed; with needs_program also whether none was
     skipped for lack of `crashfs`."""
     skips = [reason for result in results for reason in result.skips]

@@ -30,7 +30,8 @@ def count_edits(crate: Path) -> int:
 
 
 def edits_cost(crate: Path) -> int:
-    """How long the edits of a crate take, in lines that are proved in that time."""
+    """How long the edits of a crate take, as a number of lines that are proved in that time: all of
+    the crate once more, and LINES_PER_EDIT for each edit."""
     lines = sum(path.read_bytes().count(b'\n') for path in (crate / 'src').rglob('*.rt'))
     return lines + LINES_PER_EDIT * count_edits(crate)
 
@@ -52,23 +53,25 @@ def group_in_turn(commit: str) -> int:
 
 
 def move_others_aside(commit: str, folder: Path, crates: Path = CRATES) -> str:
-    """Moves the edits of all crates whose turn it isn't into folders of this folder, which is made,
-    and returns a line that counts what stays. OSError if something can't be moved; then some are.
-    """
+    """Moves the edits of the crates whose turn it isn't into `folder`, which is made if it isn't
+    there, those of each crate into a new folder of its name. Returns a line that counts the edits
+    and crates that stay. ValueError as group_in_turn(); OSError if something can't be moved: then
+    the edits of some crates are moved."""
     costs = {path.parent.name: edits_cost(path.parent) for path in crates.glob(f'*/{EDITS}')}
-    total = sum(count_edits(crates / name) for name in costs)
-    stay = group_crates(costs)[group_in_turn(commit)]
-    tried = sum(count_edits(crates / name) for name in stay)
-    for name in sorted(set(costs) - set(stay)):
+    edit_count = sum(count_edits(crates / name) for name in costs)
+    names_in_turn = group_crates(costs)[group_in_turn(commit)]
+    tried_count = sum(count_edits(crates / name) for name in names_in_turn)
+    for name in sorted(set(costs) - set(names_in_turn)):
         (folder / name).mkdir(parents=True)
         shutil.move(str(crates / name / EDITS), str(folder / name / EDITS))
-    return f'edits: {tried} of {total}, those of {len(stay)} of {len(costs)} crates'
+    counted_crates = f'{len(names_in_turn)} of {len(costs)} crates'
+    return f'edits: {tried_count} of {edit_count}, those of {counted_crates}'
 
 
 def move_back(folder: Path, crates: Path = CRATES) -> None:
-    """Moves the edits that are in the folder back to their crates. Nothing happens if there are
-    none. OSError if something can't be moved, also if a crate has a folder of edits again; then
-    some are moved."""
+    """Moves the edits that move_others_aside() moved into `folder` back to their crates. Nothing
+    happens if there are none. OSError if something can't be moved, also if a crate has a folder of
+    edits again: then the edits of some crates are moved."""
     for aside in sorted(folder.glob(f'*/{EDITS}')):
         edits = crates / aside.parent.name / EDITS
         if edits.exists():
@@ -79,7 +82,7 @@ def move_back(folder: Path, crates: Path = CRATES) -> None:
 
 def main(words: Optional[List[str]] = None) -> int:
     """Moves edits as the words ask; None means the words of the command line. Returns 0. A wrong
-    word ends the program (SystemExit)."""
+    word ends the program (SystemExit). Errors as move_others_aside() or move_back()."""
     parser = argparse.ArgumentParser(prog='gating.turns', description=__doc__)
     parser.add_argument('commit', nargs='?', help='whose name decides; without it, all go back')
     parser.add_argument('folder', type=Path, help='where the others are meanwhile')

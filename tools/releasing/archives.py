@@ -65,8 +65,8 @@ def folders_of(items: Items) -> List[str]:
 
 def member_header(path: str, kind: bytes, mode: int, seconds: int) -> tarfile.TarInfo:
     """The header of a tar member that belongs to root. `kind` is a type of tarfile, such as
-    DIRTYPE, and `seconds` the member's time, since 1970. The caller sets the size of a file and the
-    target of a link."""
+    DIRTYPE; `seconds` is the member's time, in seconds since 1970. The caller sets the size of a
+    file and the target of a link."""
     info = tarfile.TarInfo(path)
     info.type, info.mode, info.mtime = kind, mode, seconds
     info.uname = info.gname = 'root'
@@ -83,7 +83,7 @@ def add_item(archive: tarfile.TarFile, path: str, item: Item, seconds: int) -> N
 
 
 def add_folders(archive: tarfile.TarFile, paths: List[str], seconds: int) -> None:
-    """Adds folders to an archive in their order, each with this time, since 1970."""
+    """Adds folders to an archive in their order, each with a time in seconds since 1970."""
     for path in paths:
         archive.addfile(member_header(path, tarfile.DIRTYPE, 0o755, seconds))
 
@@ -177,8 +177,8 @@ def checksums_below(root: Path) -> str:
 
 def with_debian_files(items: Items, version: str, seconds: int) -> Items:
     """A copy of the items with three more files: the copyright and the changelog, which Debian's
-    policy requires (12.5, 12.7), and lintian's overrides. `seconds` is the time of the release,
-    since 1970."""
+    policy requires (12.5, 12.7), and lintian's overrides. `seconds` is the time of the release, in
+    seconds since 1970."""
     year = datetime.fromtimestamp(seconds, timezone.utc).year
     changelog = (
         f'crashfs ({version}) unstable; urgency=medium\n\n'

@@ -57,7 +57,7 @@ def function_head(test: str) -> str:
     return f'fn {test.rpartition("::")[2]}('
 
 
-def parse_outcome(crate: Crate, printed: str) -> Outcome:
+def outcome_of_crate(crate: Crate, printed: str) -> Outcome:
     """The outcome of a crate's tests, from what `rt try --test` printed. A test that isn't reported
     as passed counts as failed, or, if only the gate runs it, as not run. If a test failed, the
     outcome's output is what was printed, without the lines of passed tests; else it is empty."""
@@ -79,9 +79,9 @@ def without_passed(printed: str) -> str:
     return '\n'.join(line for line in printed.splitlines() if not line.endswith(' ... ok'))
 
 
-def run_tests(crate: Crate) -> Outcome:
+def run_crate_tests(crate: Crate) -> Outcome:
     """Runs the tests of a crate by `rt`, without any proof, and returns their outcome. The status
-    of `rt` isn't looked at, since a test that only the gate runs may fail: parse_outcome() reads
+    of `rt` isn't looked at, since a test that only the gate runs may fail: outcome_of_crate() reads
     what was printed. OSError if there is no `rt`."""
     words = ['rt', 'try', '--test', '--seconds', SECONDS]
-    return parse_outcome(crate, run_command(words, CRATES / crate.name).printed)
+    return outcome_of_crate(crate, run_command(words, CRATES / crate.name).printed)

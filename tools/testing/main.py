@@ -13,7 +13,7 @@ from building.memory import GIGABYTE, available_memory
 from crashfs_tools.common.program import Crashfs
 
 from .at_once import Part, most_parts_at_once, run_parts
-from .crates import GATE_CRATES, crates_with_tests, run_tests
+from .crates import GATE_CRATES, crates_with_tests, run_crate_tests
 from .examples import run_examples, run_scripts, script_examples
 from .outcome import Outcome
 from .tools_tests import run_tools_tests
@@ -30,7 +30,7 @@ def parts_with_rt() -> Dict[str, Part]:
     GATE_CRATES, and the scripts of the examples if Crashfs.find() finds no program. Nothing is run.
     OSError as crates_with_tests()."""
     parts: Dict[str, Part] = {
-        crate.name: partial(run_tests, crate)
+        crate.name: partial(run_crate_tests, crate)
         for crate in crates_with_tests()
         if crate.name not in GATE_CRATES
     }

@@ -15,7 +15,7 @@ COUNTS = re.compile(r'(?<!expected )\b(failures|errors|skipped|unexpected succes
 SKIPPED = re.compile(r'^(.*): the tests that need it are skipped$', re.M)
 
 
-def parse_outcome(printed: str, status: int) -> Outcome:
+def outcome_of_tools(printed: str, status: int) -> Outcome:
     """The outcome of the tools' tests, from what unittest printed and its status. At least one test
     counts as failed if the status isn't 0, or if no line counts the tests. An unexpected success
     counts as failed, an expected failure as passed; for skipped tests not_run has a line too. The
@@ -39,4 +39,4 @@ def run_tools_tests() -> Outcome:
     """Runs all tests of the tools in a new process, and returns their outcome."""
     words = [sys.executable, '-m', 'unittest', 'discover', '-s', 'tools', '-t', 'tools']
     ended = run_command(words, TOP)
-    return parse_outcome(ended.printed, ended.status)
+    return outcome_of_tools(ended.printed, ended.status)

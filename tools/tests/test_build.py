@@ -19,7 +19,7 @@ from unittest import mock
 from building import checks, main, order, proving
 from building.checks import Check, killed_text, run_check
 from building.memory import GIGABYTE, available_memory, memory_of_machine
-from building.order import MANY_BELOW, Work, count_crate_lines, libraries
+from building.order import MANY_BELOW, Work, count_crate_lines, library_uses
 from building.proving import (
     build_program,
     copy_proved_libraries,
@@ -116,7 +116,7 @@ class Order(unittest.TestCase):
             self.assertEqual(count_crate_lines('a'), 15)
 
     def test_the_libraries_are_all_that_the_program_uses(self) -> None:
-        below = libraries()
+        below = library_uses()
         self.assertIn('cs_names', below)
         self.assertNotIn('cs_bench', below)
         self.assertTrue(all(it in below for its in below.values() for it in its))
@@ -248,7 +248,7 @@ class Sharing(unittest.TestCase):
             return Check(0, b'', 1)
 
         top, copy = self.room / 'top', self.room / '1'
-        with mock.patch.object(main, 'libraries', return_value=BELOW), mock.patch.object(
+        with mock.patch.object(main, 'library_uses', return_value=BELOW), mock.patch.object(
             main, 'chain_lengths', return_value=CHAINS
         ), mock.patch.object(main, 'TOP', top), mock.patch.object(
             proving, 'TOP', top

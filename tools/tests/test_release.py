@@ -19,7 +19,7 @@ from pathlib import Path
 from typing import Dict, Set
 from unittest import mock
 
-from building.order import crates_below, libraries, read_uses, uses_by_crate
+from building.order import crates_below, library_uses, read_uses, uses_by_crate
 from crashfs_tools import VERSION
 from releasing import programs
 from releasing.archives import control_text, with_debian_files, write_package, write_tarball
@@ -150,7 +150,7 @@ class Installed(InFolder):
 class Linked(unittest.TestCase):
     def test_the_list_has_each_library_of_the_program_and_no_other(self) -> None:
         found = packages_of(spdx_document(MADE, read_uses()))
-        own = set(libraries()) - {'crashfs'}
+        own = set(library_uses()) - {'crashfs'}
         of_kit = {'rattle-standard-library', 'glibc', 'libgcc'}
         self.assertTrue(own < set(found))
         for name, version in found.items():

@@ -25,7 +25,7 @@ OK = 'test tests::a::one ... ok\n'
 
 class Crates(unittest.TestCase):
     def counts(self, printed: str, left: Optional[Dict[str, str]] = None) -> List[int]:
-        found = crates.parse_outcome(Crate('low', 2, 9, left or {}), printed)
+        found = crates.outcome_of_crate(Crate('low', 2, 9, left or {}), printed)
         self.assertEqual(found.output != '', found.failed > 0)
         return [found.passed, found.failed, len(found.not_run)]
 
@@ -43,7 +43,7 @@ class Crates(unittest.TestCase):
         self.assertEqual(self.counts(f'test {SLOW} ... FAILED\n', left), [0, 1, 1])
 
     def test_what_passed_is_not_printed(self) -> None:
-        found = crates.parse_outcome(
+        found = crates.outcome_of_crate(
             Crate('low', 2, 9), OK + 'test tests::a::two ... FAILED\nwhy\n'
         )
         lines = ['low: results of 2 of 2 tests', 'test tests::a::two ... FAILED', 'why']
@@ -73,13 +73,15 @@ class Tools(unittest.TestCase):
         ]
         for printed, status, counts in rows:
             with self.subTest(printed):
-                found = tools_tests.parse_outcome(printed, status)
+                found = tools_tests.outcome_of_tools(printed, status)
                 self.assertEqual((found.passed, found.failed, found.skipped), counts)
                 self.assertEqual(found.output, printed if counts[1] else '')
 
     def test_what_is_skipped_is_named_once_with_its_reason(self) -> None:
         line = 'fish is not there: the tests that need it are skipped\n'
-        found = tools_tests.parse_outcome(f'{line}{line}Ran 3 tests in 1s\n\nOK (skipped=2)\n', 0)
+        found = tools_tests.outcome_of_tools(
+            f'{line}{line}Ran 3 tests in 1s\n\nOK (skipped=2)\n', 0
+        )
         self.assertEqual(found.not_run, ['2 tests of the tools: fish is not there'])
 
 
