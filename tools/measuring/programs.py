@@ -10,6 +10,8 @@ from dataclasses import dataclass, field
 from pathlib import Path
 from typing import Any, List, NamedTuple, Optional, Sequence
 
+from building.order import uses_by_crate
+
 VERDICT = re.compile(r', (within|past) \(at (?:most|least) ')
 
 
@@ -28,8 +30,7 @@ class Programs:
     def benchmark_names(self) -> List[str]:
         """The names of the benchmark programs, built or not, in the order of crates.txt: those of
         crates that end in `_bench` and are no library. OSError if there is no crates.txt."""
-        lines = (self.top / 'crates.txt').read_text().splitlines()
-        crates = [words[0] for words in (line.partition(':')[0].split() for line in lines) if words]
+        crates = uses_by_crate((self.top / 'crates.txt').read_text('utf-8'))
         return [name for name in crates if name.endswith('_bench') and self.is_program(name)]
 
     def is_program(self, name: str) -> bool:

@@ -47,14 +47,14 @@ class Session(NamedTuple):
         return f'{self.folder}/{self.name}'
 
     @property
-    def path(self) -> Path:
+    def scripts_folder(self) -> Path:
         """The folder of its scripts."""
         return STORES / self.folder
 
     @property
-    def trace(self) -> Path:
+    def committed_trace(self) -> Path:
         """Where its trace is if it is committed: large ones aren't."""
-        return self.path / f'{self.name}.trace'
+        return self.scripts_folder / f'{self.name}.trace'
 
     def missing_packages(self) -> List[str]:
         """The Debian packages that aren't installed, of those that the session's scripts need: the
@@ -119,8 +119,8 @@ class SessionCheck:
     def __init__(self, session: Session, options: argparse.Namespace, folder: Path) -> None:
         self.session = session
         self.options = options
-        self.trace = folder / f'{session.name}.trace'
-        self.json = folder / 'report.json'
+        self.trace_path = folder / f'{session.name}.trace'
+        self.report_path = folder / 'report.json'
 
     def make_row(self) -> Dict[str, Any]:
         """Makes the session's trace, checks it, and returns the session's row, with the version of
@@ -130,26 +130,27 @@ class SessionCheck:
         missing = self.session.missing_packages()
         if missing:
             raise NoResult(f'not installed: {", ".join(missing)}')
-        run_command([str(STORES / 'build.sh'), str(self.session.path)])
+        run_command([str(STORES / 'build.sh'), str(self.session.scripts_folder)])
         self.make_trace()
         limit, disks = self.limit_options(), self.disk_options()
         report = self.run_check(*limit, *([] if limit else disks))
-        row = row_of_check(self.session.store, self.session.key, str(self.json), report)
+        row = row_of_check(self.session.store, self.session.key, str(self.report_path), report)
         if limit and disks:
             # A check that the limit ends tries no disks: they have a second check.
             self.run_check('--prefixes', *disks)
-            row['disks'] = disk_counts(json.loads(self.json.read_text('utf-8')))
+            row['disks'] = disk_counts(json.loads(self.report_path.read_text('utf-8')))
         return {**row, 'version': installed_version(self.session.store['package'])}
 
     def make_trace(self) -> None:
         """Puts the session's trace into the folder: a copy of the committed trace, or, if there is
         none or --record is given, what record.sh makes, however long that takes. NoResult if
         record.sh makes no trace, OSError if it can't be started."""
-        if self.session.trace.exists() and not self.options.record:
-            self.trace.write_bytes(self.session.trace.read_bytes())
+        if self.session.committed_trace.exists() and not self.options.record:
+            self.trace_path.write_bytes(self.session.committed_trace.read_bytes())
             return
-        run_command([str(self.session.path / 'record.sh'), self.session.name, str(self.trace)])
-        if not self.trace.exists():
+        script = self.session.scripts_folder / 'record.sh'
+        run_command([str(script), self.session.name, str(self.trace_path)])
+        if not self.trace_path.exists():
             raise NoResult('record.sh made no trace')
 
     def run_check(self, *options: str) -> str:
@@ -157,10 +158,12 @@ class SessionCheck:
         the report. The file of --json is replaced. NoResult if the check wrote no such file; its
         status doesn't matter. OSError if crashfs-check can't be started. The trace must be made."""
         words = [str(TOOLS / 'crashfs-check'), '--jobs', str(self.options.jobs), *MORE_OPTIONS]
-        words += ['--json', str(self.json), '--timeout', '60', *options, str(self.trace), '--']
-        self.json.unlink(missing_ok=True)
-        report = run_command([*words, str(self.session.path / 'check.sh'), self.session.name])
-        if not self.json.exists():
+        words += ['--json', str(self.report_path), '--timeout', '60', *options]
+        words += [str(self.trace_path), '--']
+        words += [str(self.session.scripts_folder / 'check.sh'), self.session.name]
+        self.report_path.unlink(missing_ok=True)
+        report = run_command(words)
+        if not self.report_path.exists():
             raise NoResult('crashfs-check made no report')
         return report
 
@@ -179,7 +182,7 @@ class SessionCheck:
     def has_few_operations(self) -> bool:
         """Whether the trace has MOST_OPERATIONS operations at most; acknowledged lines count as
         operations. OSError if make_trace() hasn't made the trace."""
-        text = self.trace.read_bytes()
+        text = self.trace_path.read_bytes()
         return text.count(b'\n{"op":') <= MOST_OPERATIONS
 
 

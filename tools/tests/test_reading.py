@@ -3,6 +3,7 @@
 import itertools
 import os
 import subprocess
+import sys
 import unittest
 from pathlib import Path
 
@@ -102,6 +103,22 @@ class Rows(unittest.TestCase):
         self.assertIn(' line 7 /z\n', listed(renamed, has_lines=True))
         text = listed(row('row47.trace'), has_lines=True)
         self.assertIn('op 0 write_block 0 0 0 1 line 4 /f\n', text)
+
+    def test_renamed_directories_may_be_nested_deeper_than_python_calls(self):
+        below = '/d' * 60
+        count = sys.getrecursionlimit() // 60 + 1
+        folder = f'{{"start":"dir","path":"%s",{RIGHTS}}}\n'
+        lines = [f'{{"trace":4,"profile":"ordered","block":4096,{ROOT}}}\n']
+        for number in range(count):
+            lines += [folder % f'/{number}{"/d" * depth}' for depth in range(61)]
+        lines.append(f'{{"start":"file","path":"/0{below}/f",{RIGHTS},"bytes":""}}\n')
+        lines.append(f'{{"start":"link","path":"/f","from":"/0{below}/f"}}\n')
+        rename = '{"op":"rename","from":"/%d","to":"/%d%s/%d"}\n'
+        lines += [rename % (number - 1, number, below, number - 1) for number in range(1, count)]
+        lines.append('{"op":"write","path":"/f","offset":0,"text":"x"}\n')
+        write = parse_trace(''.join(lines).encode()).operations[-1]
+        parents = ''.join(f'/{number}{below}' for number in reversed(range(count)))
+        self.assertEqual(write.path, f'{parents}/f')
 
     def test_a_path_that_ends_in_a_blank_is_listed_whole(self):
         write = '{"op":"write","path":"/a ","offset":0,"text":"x"}\n'

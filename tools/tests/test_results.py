@@ -53,7 +53,7 @@ class Data(unittest.TestCase):
     def test_each_session_has_its_scripts_and_each_row_its_session(self) -> None:
         for one in find_sessions([]):
             for name in ('record.sh', 'check.sh'):
-                self.assertTrue((one.path / name).exists(), one.key)
+                self.assertTrue((one.scripts_folder / name).exists(), one.key)
         self.assertLessEqual({one['key'] for one in ROWS}, set(session_keys()))
         self.assertEqual(len(session_keys()), len(set(session_keys())))
 

@@ -94,7 +94,8 @@ class ArchiveWriter:
 
     def write_item(self, name: str, item: Item) -> None:
         """Writes one file, directory or symbolic link, with its owner, group and mode; its time is
-        0. Slashes at the end of `name` are dropped: tarfile adds one for a directory."""
+        0. If is_sparse is set, a large file with many zeros is written as extents. Slashes at the
+        end of `name` are dropped: tarfile adds one for a directory."""
         info = tarfile.TarInfo(name.rstrip('/'))
         info.type = KINDS[item.kind]
         (info.uname, info.gname, mode), data = item.rights, item.data

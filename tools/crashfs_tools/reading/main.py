@@ -34,7 +34,7 @@ HELP = (
 
 def main(words: List[str]) -> int:
     """Runs a command, such as `list`, with its options, and returns the exit status that the
-    program has: 1 if the input has a fault, or if nobody reads standard output any more, which is
+    program has: 1 for a ReadingFault, or if nobody reads standard output any more, which is
     /dev/null then; 2 for wrong words. A fault or a wrong word is printed on standard error, before
     any output. Any other OSError of standard output is raised."""
     try:

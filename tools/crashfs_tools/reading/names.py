@@ -81,10 +81,11 @@ class NameTree:
     def path_of_entry(self, entry: Entry) -> str:
         """The path that an entry has in the tree as it is now, whether it holds something or not.
         Its directory must be there."""
-        directory, name = entry
-        is_root = directory == ROOT
-        directory_path = '' if is_root else self.path_of_entry(self.directories[directory])
-        return f'{directory_path}/{name}'
+        directory, path = entry[0], f'/{entry[1]}'
+        while directory != ROOT:
+            directory, name = self.directories[directory]
+            path = f'/{name}{path}'
+        return path
 
     def path_of_file(self, file_number: int) -> str:
         """The oldest of the paths of a file or symbolic link. IndexError if it has none any

@@ -57,9 +57,10 @@ class StateList:
             self.add_state({'kind': 'prefix', 'end': end}, (1 << end) - 1)
 
     def add_holes(self) -> None:
-        """Adds each prefix without one of its micro-operations and all that need this one. A set
-        that then lacks the prefix's last one isn't added: it is a shorter prefix or a hole of one.
-        ReadingFault if the plan is full; the states added before stay."""
+        """Adds, for each prefix and each of its micro-operations but the last, the prefix without
+        this one and all that need it. A set that then lacks the prefix's last micro-operation isn't
+        added: it is a shorter prefix or a hole of one. ReadingFault if the plan is full; the states
+        added before stay."""
         ends = range(self.order.count + 1)
         for lost, end in ((lost, end) for end in ends for lost in range(end - 1)):
             place_set = self.order.set_without((1 << end) - 1, 1 << lost)
@@ -88,8 +89,8 @@ def make_plan(
     reading: Reading, *, has_holes: bool = False, picks: Sequence[Sequence[int]] = ()
 ) -> StateList:
     """A plan of the prefixes, the holes if has_holes is set, and the picks, in this order; a set
-    may come several times. ReadingFault if there are too many states, or else if a pick isn't in
-    ascending order or isn't allowed."""
+    may come several times. ReadingFault if there are too many states, or else as
+    refuse_bad_pick()."""
     plan = StateList(reading)
     plan.add_prefixes()
     if has_holes:

@@ -31,8 +31,7 @@ class Item(NamedTuple):
 DataOrDigest = TypeVar('DataOrDigest', Data, bytes)
 # A tree in a form in which equal trees are equal, and others are not.
 Digest = Tuple[Tuple[str, str, Rights, Optional[bytes]], ...]
-# What is at each path of a state, in the order of the paths, and the rights of its directories by
-# their numbers.
+# What is at each path of a state, and the rights of its directories by their numbers.
 NodesAndRights = Tuple[Dict[str, Inode], Dict[int, Rights]]
 
 
