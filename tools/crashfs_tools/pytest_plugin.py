@@ -8,7 +8,7 @@ Each entry of the report is one failure. docs/how-to/testing.md explains it."""
 from __future__ import annotations
 
 from pathlib import Path
-from typing import Any, Callable, Iterator, List, Optional, Sequence, Union
+from typing import Any, Callable, Iterator, List, NoReturn, Optional, Sequence, Union
 
 import pytest
 
@@ -100,8 +100,8 @@ def failure_text(entry: Entry, trace: Path) -> str:
     return f'{entry}\n  state {entry.example} of {trace}'
 
 
-def fail(*lines: str) -> None:
-    """Fails the test with some lines; it never returns."""
+def fail(*lines: str) -> NoReturn:
+    """Fails the test with some lines, by an exception of pytest."""
     pytest.fail('\n'.join(lines), pytrace=False)
 
 

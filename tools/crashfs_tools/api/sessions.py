@@ -51,8 +51,8 @@ def load_module(path: str, name: str) -> object:
 
 def load_file(path: str) -> object:
     """Imports a file as a module without a package, which is in sys.modules under the file's name
-    without its ending, also after a failure. OSError if it can't be read; what it raises is passed
-    on."""
+    without its ending, also after a failure. OSError if the file can't be read; what its code
+    raises is passed on."""
     loader = importlib.machinery.SourceFileLoader(Path(path).stem, path)
     spec = importlib.util.spec_from_file_location(loader.name, path, loader=loader)
     assert spec is not None

@@ -13,6 +13,7 @@ from crashfs_tools.common.command import (
     Refused,
     parse_command_line,
     parse_number,
+    parse_positive_number,
     split_command,
     version_text,
     with_program_path,
@@ -76,11 +77,8 @@ def parse_seeds(text: str) -> Tuple[int, int]:
 def parse_time_limit(text: str) -> float:
     """A time limit: a number of seconds above 0, as `1.5`, or `inf` for no limit.
     ArgumentTypeError for any other text."""
-    try:
-        seconds = float(text)
-    except ValueError:
-        seconds = 0
-    if not seconds > 0:
+    seconds = parse_positive_number(text)
+    if seconds is None:
         raise argparse.ArgumentTypeError(f'{text} is no number of seconds above 0')
     return seconds
 
@@ -94,8 +92,8 @@ def parse_words(text: str) -> List[str]:
 
 
 def make_parser() -> argparse.ArgumentParser:
-    """The parser of the words before the first `--`: the options and RESULTS. It doesn't parse
-    SESSION and RECOVERY."""
+    """The parser of the words before the first `--`: the options and RESULTS. Each value that it
+    reads has the name of a field of CampaignOptions."""
     parser = argparse.ArgumentParser(
         prog=NAME,
         usage=f'{NAME} [OPTION].. RESULTS -- SESSION [ARG].. -- RECOVERY [ARG]..',
@@ -118,6 +116,13 @@ def make_parser() -> argparse.ArgumentParser:
         default=float('inf'),
         help='begin no session after S seconds',
     )
+    add_session_options(parser)
+    parser.add_argument('--html', metavar='FILE', help='write an index of what was found as a page')
+    return parser
+
+
+def add_session_options(parser: argparse.ArgumentParser) -> None:
+    """Adds the options that say how each session begins, is recorded and is checked."""
     parser.add_argument('--start', metavar='DIR', help='begin each session with a copy of DIR')
     parser.add_argument(
         '--record',
@@ -133,8 +138,6 @@ def make_parser() -> argparse.ArgumentParser:
         default=[],
         help='options of crashfs-check, in one argument',
     )
-    parser.add_argument('--html', metavar='FILE', help='write an index of what was found as a page')
-    return parser
 
 
 def read_options(arguments: List[str]) -> CampaignOptions:

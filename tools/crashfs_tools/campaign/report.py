@@ -23,10 +23,8 @@ MOST_FAULTS = 20
 def verdict_line(book: Book) -> str:
     """The first line of the report: how many sessions were tried, how many different failures they
     have, and how many have no verdict, if any."""
-    entries = len(book.entries)
-    verdict = 'none fails' if not entries else f'{entries} different failures'
-    if entries == 1:
-        verdict = '1 failure'
+    count = len(book.entries)
+    verdict = {0: 'none fails', 1: '1 failure'}.get(count, f'{count} different failures')
     faults = f'; {count_text(len(book.faults), "session")} without a verdict' if book.faults else ''
     return f'{count_text(book.sessions, "session")}: {verdict}{faults}'
 
@@ -35,11 +33,10 @@ def length_text(entry: KnownFailure) -> str:
     """How many of its session's acknowledged lines the kept trace has, or `the whole session`, and
     the seed of that session, unless the failure came with it first. In an older book kept_seed is
     0: then it is the first seed."""
-    text = f'{count_text(entry.shortest, "acknowledged line")} of {entry.says:,}'
-    if not entry.shortest:
-        text = 'the whole session'
+    lines = f'{count_text(entry.shortest, "acknowledged line")} of {entry.says:,}'
+    length = lines if entry.shortest else 'the whole session'
     is_first = entry.kept_seed in (0, entry.seed)
-    return text if is_first else f'{text} with seed {entry.kept_seed}'
+    return length if is_first else f'{length} with seed {entry.kept_seed}'
 
 
 def state_command(options: CampaignOptions, entry: KnownFailure) -> str:

@@ -141,9 +141,12 @@ def verdict_of(status: int, error_text: str, fields: Dict[str, Any]) -> SessionV
     failures = failures_in(fields, unanswered)
     if status == NONE_FAILS or status == SOME_FAIL and failures:
         return SessionVerdict(failures)
-    reason = f'no answer: {unanswered[0]}' if unanswered else error_text
     if status == SOME_FAIL:
         reason = NO_ENTRY
+    elif unanswered:
+        reason = f'no answer: {unanswered[0]}'
+    else:
+        reason = error_text
     return SessionVerdict(failures, fault_text('crashfs-check', status, reason))
 
 

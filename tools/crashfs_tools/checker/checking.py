@@ -177,8 +177,8 @@ class Check:
     def try_window(self, trials: Trials) -> bool:
         """Tries the states of a window, and returns whether each that was chosen has an outcome.
         Sets last_window, and adds the findings to the report, also after an exception of the
-        trials. Before the trials it is Refused if --resume has another window here; for the first
-        window other errors as in prepare_first_window()."""
+        trials, as in Trials.try_all(). Before the trials it is Refused if --resume has another
+        window here; for the first window other errors as in prepare_first_window()."""
         previous, planned = self.last_window, trials.planned
         numbers_before = known_states(previous.trials.plan, planned.plan) if previous else {}
         results = Results(planned.plan, numbers_before=numbers_before)

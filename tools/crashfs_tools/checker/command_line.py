@@ -5,7 +5,12 @@ from __future__ import annotations
 import argparse
 from typing import Dict, List, Optional, Tuple
 
-from crashfs_tools.common.command import parse_command_line, parse_number, version_text
+from crashfs_tools.common.command import (
+    parse_command_line,
+    parse_number,
+    parse_positive_number,
+    version_text,
+)
 
 from .address import Address
 from .options import MOST_JOBS, MOST_STATES, NAME, TIMEOUT, Options, Shard, processor_count
@@ -85,13 +90,10 @@ def parse_names(text: str) -> List[str]:
 
 def parse_seconds(text: str) -> float:
     """A duration in seconds, above 0 and below a billion. ArgumentTypeError for any other text."""
-    try:
-        value = float(text)
-    except ValueError:
-        value = 0
-    if not 0 < value < 1e9:
+    seconds = parse_positive_number(text)
+    if seconds is None or seconds >= 1e9:
         raise argparse.ArgumentTypeError(f'{text} is no number of seconds')
-    return value
+    return seconds
 
 
 def add_state_options(parser: argparse.ArgumentParser) -> None:

@@ -5,7 +5,7 @@ from __future__ import annotations
 import os
 import shlex
 import tempfile
-from typing import Tuple
+from typing import List, Tuple
 
 from crashfs_tools.checker.findings.nested import RecoveryRecorder
 from crashfs_tools.checker.report.report import NONE_FAILS, NOT_ALL_TRIED, SOME_FAIL
@@ -50,19 +50,24 @@ def try_and_show(trials: Trials, number: int) -> int:
     state = trials.plan.state(number)
     outcome = trials.try_state(state)
     directory, acknowledged = lay_out_for_user(trials, state)
-    command = shlex.join(trials.options.command)
     with flushed_output():
         print(
             f'state {number}, {trials.plan.state_text(state)}, says {state.says}: '
             f'{outcome.result}{": " if outcome.cause else ""}{outcome.cause}'
         )
-        print(
-            f'It is laid out in {directory}. To try it there:\n'
-            f'    cd {shlex.quote(directory)}\n'
-            f'    CRASHFS_STATE={number} CRASHFS_SAYS={state.says} '
-            f'{command} < {shlex.quote(acknowledged)}'
-        )
+        print(how_to_try_text(state, trials.options.command, directory, acknowledged))
     return STATUSES[outcome.result]
+
+
+def how_to_try_text(state: State, command: List[str], directory: str, acknowledged: str) -> str:
+    """The lines that say where a state is laid out, and how to run COMMAND there from a shell:
+    `acknowledged` is the path of a file with the state's acknowledged lines, its input."""
+    return (
+        f'It is laid out in {directory}. To try it there:\n'
+        f'    cd {shlex.quote(directory)}\n'
+        f'    CRASHFS_STATE={state.number} CRASHFS_SAYS={state.says} '
+        f'{shlex.join(command)} < {shlex.quote(acknowledged)}'
+    )
 
 
 def lay_out_for_user(trials: Trials, state: State) -> Tuple[str, str]:

@@ -39,6 +39,16 @@ def parse_number(text: str) -> Optional[int]:
         return None
 
 
+def parse_positive_number(text: str) -> Optional[float]:
+    """The number of a text, as float() reads it, if it is above 0; `inf` is too. None for any other
+    text."""
+    try:
+        number = float(text)
+    except ValueError:
+        return None
+    return number if number > 0 else None
+
+
 def split_command(words: List[str]) -> Tuple[List[str], List[str]]:
     """The words before the first `--`, and the words after it, which are COMMAND. Without `--` all
     words are before it, and COMMAND is empty."""

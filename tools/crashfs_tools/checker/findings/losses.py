@@ -202,7 +202,7 @@ def put_back_part(
     plan: Plan, kept_set: int, line_sets: List[int], part_count: int
 ) -> Generator[int, bool, Optional[int]]:
     """A part of loss_search: divides line_sets, what the kept set lacks of each line, into so many
-    parts, and puts back each part alone, with all that the part needs. Returns the first larger set
+    parts, and puts back one part at a time, with all that it needs. Returns the first larger set
     that has the same last place, still lacks something, and fails alike; None if there is none."""
     for part in unions_of_parts(line_sets, part_count):
         larger_set = kept_set | with_needed(plan, part)

@@ -31,9 +31,10 @@ def rerun_example(trials: Trials, example: State, next_numbers: List[int]) -> Ou
 
 def rerun_examples(trials: Trials, findings: Findings, seconds: float = float('inf')) -> None:
     """Runs the examples of the first ENTRIES groups again, one at a time, except those that were
-    run again before; begins none after so many seconds. Results and rerun_seconds are set at once,
-    the groups' outcomes and advice at the end: not after an exception of Trials.try_state(). If an
-    example is good now, the states of its group are dropped from the cache."""
+    run again before; begins none after so many seconds. The results get each outcome, and the group
+    its rerun_seconds, at once; the groups get the outcomes and their advice at the end: not after
+    an exception, as of Trials.try_state(). If an example is good now, the states of its group are
+    dropped from the cache."""
     deadline = time.monotonic() + seconds
     results, groups = findings.results, findings.groups[:ENTRIES]
     # One run of the program gives the trees of all examples, and those that are compared later.
