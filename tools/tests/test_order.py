@@ -18,6 +18,9 @@ LIST = '\2\0\0\0' + ''.join(
     f'{tag}\0{rights}' + 5 * '\0' for tag, rights in ('\1\6', '\4\0', ' \0')
 )
 
+# The file /f gets another name, by which it is open as 5.
+LINK = ['1 link("/d/f", "/d/h") = 0', '1 openat(AT_FDCWD</d>, "h", O_RDWR) = 5</d/h>']
+
 # (what is shown, the log behind the opens, the operations)
 CASES = [
     *[
@@ -90,6 +93,53 @@ CASES = [
             '1 <... fsync resumed>) = 0',
         ],
         ['fsync /f', 'chmod /f 600', 'chmod /g 600'],
+    ),
+    (
+        'a change by another name of the file while the sync runs is not covered',
+        [
+            *LINK,
+            '1 fsync(3</d/f> <unfinished ...>',
+            '2 pwrite64(5</d/h>, "a", 1, 0) = 1',
+            '1 <... fsync resumed>) = 0',
+        ],
+        ['link /f /h', 'fsync /f', 'write /f 0 a'],
+    ),
+    (
+        'a change by another name that was under way when the sync began is not covered',
+        [
+            *LINK,
+            '2 pwrite64(5</d/h>, "a", 1, 0 <unfinished ...>',
+            '1 pwrite64(3</d/f>, "b", 1, 1) = 1',
+            '1 fsync(3</d/f>) = 0',
+            '2 <... pwrite64 resumed>) = 1',
+        ],
+        ['link /f /h', 'write /f 1 b', 'fsync /f', 'write /f 0 a'],
+    ),
+    (
+        'a change by another name that ends before the sync comes after it all the same',
+        [
+            *LINK,
+            '1 fdatasync(3</d/f> <unfinished ...>',
+            '2 pwrite64(5</d/h>, "a", 1, 0 <unfinished ...>',
+            '2 <... pwrite64 resumed>) = 1',
+            '2 pwrite64(4</d/g>, "b", 1, 0) = 1',
+            '1 <... fdatasync resumed>) = 0',
+        ],
+        ['link /f /h', 'fdatasync /f', 'write /f 0 a', 'write /g 0 b'],
+    ),
+    (
+        'a name that the file has no more, or not yet, is that of another file',
+        [
+            *LINK,
+            '1 rename("/d/g", "/d/h") = 0',
+            '1 fsync(3</d/f> <unfinished ...>',
+            '2 pwrite64(4</d/h>, "a", 1, 0 <unfinished ...>',
+            '1 <... fsync resumed>) = 0',
+            '2 <... pwrite64 resumed>) = 1',
+            '1 unlink("/d/h") = 0',
+            '1 link("/d/f", "/d/h") = 0',
+        ],
+        ['link /f /h', 'rename /g /h', 'write /h 0 a', 'fsync /f', 'unlink /h', 'link /f /h'],
     ),
     (
         'an entry that comes while its directory is synced is not covered',

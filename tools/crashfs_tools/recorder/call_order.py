@@ -3,15 +3,16 @@
 A change, and an acknowledged line, is placed where it begins; a sync, and anything else, where it
 ends. So a sync covers no change that began after it. A change that overlaps a sync of the same file
 may not be covered: it is placed where it ends, after the sync. Files are the same if their paths
-are: another hard link of a file counts as another file here. A function that reads arguments raises
-LogError if one isn't as strace writes it.
+are, or if these are names of one file when the change would be placed. A function that reads
+arguments raises LogError if one isn't as strace writes it.
 """
 
 from __future__ import annotations
 
 import bisect
+import heapq
 import os.path
-from typing import Dict, List, Optional, Set, Tuple
+from typing import Callable, Dict, Iterator, List, Optional, Set, Tuple
 
 from . import arguments
 from .strace_log import Call
@@ -76,19 +77,104 @@ TARGET_INDEXES = {'copy_file_range': 2, 'splice': 2, 'tee': 1}
 
 # A line of the log, and 0 for what is before all other moments of that line, or 1.
 Moment = Tuple[int, int]
+# A call after its moment and the line at which it ends, which no other call has.
+PlacedCall = Tuple[Moment, int, Call]
+# Returns whether two absolute paths are names of one file now.
+IsOneFile = Callable[[str, str], bool]
 
 
-def calls_in_order(calls: List[Call]) -> List[Tuple[int, Call]]:
-    """The calls of a log, which are given in the order of their last lines, in the order of their
-    operations in the trace. Before each is the number of the log's line at which it is placed: its
-    first or its last. LogError if an argument isn't as strace writes it."""
-    moments: Dict[int, Moment] = {id(call): moment_of(call) for call in calls}
-    changes = ChangeIndex([call for call in calls if is_change(call)])
-    for sync in calls:
-        if sync.name in FILE_SYNCS or sync.name in WHOLE_SYNCS:
-            order_sync_and_changes(sync, changes.changes_during(sync), moments)
-    ordered_calls = sorted(calls, key=lambda call: moments[id(call)])
-    return [(moments[id(call)][0], call) for call in ordered_calls]
+def calls_in_order(
+    calls: List[Call], is_one_file: IsOneFile = lambda path, other: False
+) -> Iterator[Tuple[int, Call]]:
+    """Yields the calls of a log, which are given in the order of their last lines, in the order of
+    their operations in the trace. Before each is the number of the log's line at which it is
+    placed: its first or last one, or, for a sync, the last one of a change. When a change is next,
+    is_one_file is asked about its paths: the caller must have translated the calls before it.
+    Without is_one_file, two paths are of two files. LogError if an argument isn't as strace writes
+    it."""
+    return CallQueue(calls, is_one_file).calls_in_order()
+
+
+class CallQueue:
+    """The calls of a log on their way into the trace; to be used once. moments has the moment of
+    each call that isn't yielded yet, by the call's id. `queue` has the calls, the last one first,
+    and moved_calls, a heap, those that were moved since then, with their new moments.
+    unrelated_syncs has, by the id of a change, the syncs of other paths that ran at the same time:
+    such a path may be of the same file."""
+
+    def __init__(self, calls: List[Call], is_one_file: IsOneFile) -> None:
+        """The calls are in the order of their last lines; nothing is placed yet."""
+        self.calls, self.is_one_file = calls, is_one_file
+        self.moments: Dict[int, Moment] = {}
+        self.queue: List[PlacedCall] = []
+        self.moved_calls: List[PlacedCall] = []
+        self.unrelated_syncs: Dict[int, List[Call]] = {}
+
+    def calls_in_order(self) -> Iterator[Tuple[int, Call]]:
+        """What the function calls_in_order() yields."""
+        self.place_calls()
+        self.queue = sorted(map(self.placed_call, self.calls), reverse=True)
+        while self.queue or self.moved_calls:
+            moment, _, call = self.pop_first()
+            # A sync that was moved to an earlier place is still at its old one too.
+            if id(call) in self.moments and not self.move_by_links(call):
+                del self.moments[id(call)]
+                yield moment[0], call
+
+    def placed_call(self, call: Call) -> PlacedCall:
+        """A call after its moment and, for calls at one moment, the line at which it ends."""
+        return self.moments[id(call)], call.end, call
+
+    def pop_first(self) -> PlacedCall:
+        """Removes the first call of `queue` or of moved_calls, whichever is earlier, and returns
+        it. At least one of the two must have a call."""
+        if not self.moved_calls or self.queue and self.queue[-1] < self.moved_calls[0]:
+            return self.queue.pop()
+        return heapq.heappop(self.moved_calls)
+
+    def place_calls(self) -> None:
+        """Sets the moment of each call, and unrelated_syncs, by the paths of syncs and changes."""
+        self.moments.update((id(call), moment_of(call)) for call in self.calls)
+        changes = ChangeIndex([call for call in self.calls if is_change(call)])
+        for sync in self.calls:
+            if sync.name in FILE_SYNCS or sync.name in WHOLE_SYNCS:
+                self.place_sync(sync, changes.changes_during(sync))
+
+    def place_sync(self, sync: Call, changes: List[Call]) -> None:
+        """Places a sync and the changes that ran at the same time, as move_after_sync() does, if
+        the sync may cover them; adds it to unrelated_syncs of the others."""
+        for change in changes:
+            if may_cover(sync, change):
+                self.move_after_sync(sync, change)
+            else:
+                self.unrelated_syncs.setdefault(id(change), []).append(sync)
+
+    def move_after_sync(self, sync: Call, change: Call) -> None:
+        """Places a change where it ends, and a sync that ran at the same time directly before this
+        end, unless the sync is earlier already."""
+        self.moments[id(change)] = (change.end, 1)
+        self.moments[id(sync)] = min(self.moments[id(sync)], (change.end, 0))
+
+    def move_by_links(self, change: Call) -> bool:
+        """Moves a change that is next after those of its unrelated_syncs that aren't yielded yet,
+        if the paths are of one file now. Returns whether there are such syncs."""
+        syncs = [
+            sync
+            for sync in self.unrelated_syncs.get(id(change), [])
+            if id(sync) in self.moments and self.is_same_file(sync, change)
+        ]
+        for sync in syncs:
+            self.move_after_sync(sync, change)
+            heapq.heappush(self.moved_calls, self.placed_call(sync))
+        if syncs:
+            heapq.heappush(self.moved_calls, self.placed_call(change))
+        return bool(syncs)
+
+    def is_same_file(self, sync: Call, change: Call) -> bool:
+        """Whether is_one_file() is True for the path of a sync and one of a change. LogError if an
+        argument isn't as strace writes it."""
+        path, paths = synced_path(sync), changed_paths(change) or ()
+        return path is not None and any(self.is_one_file(path, other) for other in paths)
 
 
 def is_change(call: Call) -> bool:
@@ -116,33 +202,27 @@ class ChangeIndex:
         self.short_lines = [call.begin for call in self.short_changes]
 
     def changes_during(self, sync: Call) -> List[Call]:
-        """The changes that a sync may cover, though they ran at the same time, at least in part, in
-        other threads. LogError as in may_cover_concurrent_change()."""
+        """The changes of other threads that ran at the same time as a sync, at least in part."""
         begin = bisect.bisect_left(self.short_lines, sync.begin)
         end = bisect.bisect_right(self.short_lines, sync.end)
         changes = self.short_changes[begin:end] + self.long_changes
-        return [change for change in changes if may_cover_concurrent_change(sync, change)]
+        return [change for change in changes if is_concurrent(sync, change)]
 
 
-def may_cover_concurrent_change(sync: Call, change: Call) -> bool:
-    """Whether a sync ran at the same time as a change of another thread, and may cover the change.
-    A sync of everything, or of an unknown path, may cover each change of a file; each sync may
-    cover a change of unknown paths. LogError if an argument isn't as strace writes it."""
-    if sync.thread == change.thread or sync.end < change.begin or change.end < sync.begin:
-        return False
+def is_concurrent(sync: Call, change: Call) -> bool:
+    """Whether a sync and a change ran at the same time, at least in part, in two threads."""
+    is_at_once = change.begin <= sync.end and sync.begin <= change.end
+    return is_at_once and sync.thread != change.thread
+
+
+def may_cover(sync: Call, change: Call) -> bool:
+    """Whether a sync may cover a change, by their paths. A sync of everything, or of an unknown
+    path, may cover each change of a file; each sync may cover a change of unknown paths. LogError
+    if an argument isn't as strace writes it."""
     path, paths = synced_path(sync), changed_paths(change)
     if path is None or paths is None:
         return paths != set()
     return path in paths
-
-
-def order_sync_and_changes(sync: Call, changes: List[Call], moments: Dict[int, Moment]) -> None:
-    """Sets the moments, by the ids of the calls, of a sync and of the changes that ran at the same
-    time. Each change is placed where it ends. The sync is placed directly before the first of these
-    ends, but stays if it is earlier already, or if there are no changes."""
-    for change in changes:
-        moments[id(change)] = (change.end, 1)
-        moments[id(sync)] = min(moments[id(sync)], (change.end, 0))
 
 
 def synced_path(sync: Call) -> Optional[str]:

@@ -136,6 +136,13 @@ class LiveFiles:
             return None
         return self.resolver.resolve(os.path.join(base, path), follow_last_link=follow_last_link)
 
+    def is_one_file(self, path: str, other: str) -> bool:
+        """Whether two absolute paths lead to one file or directory of the live tree now, by hard or
+        symbolic links. False if nothing is known at one of them."""
+        node = self.tree.node_at(self.resolve_path(path, follow_last_link=True))
+        other_node = self.tree.node_at(self.resolve_path(other, follow_last_link=True))
+        return node is not None and node is other_node
+
     def path_argument(
         self, process: Process, call: Call, index: int, *, follow_last_link: bool = False
     ) -> Optional[str]:

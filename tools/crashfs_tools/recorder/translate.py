@@ -85,12 +85,13 @@ class Translator:
         has no line number."""
         if SOCKETS in self.recording.streams.acknowledging_descriptors:
             self.recording.streams.line_connections = connections_with_lines(self.log.calls)
-        ordered = call_order.calls_in_order(self.log.calls)
         if self.file_copies.copies:
+            calls_by_paths = [call for _, call in call_order.calls_in_order(self.log.calls)]
             self.call_copies = mapped_stores.copies_by_call(
-                self.log.calls, [call for _, call in ordered], self.file_copies
+                self.log.calls, calls_by_paths, self.file_copies
             )
-        for line, call in ordered:
+        is_one_file = self.files.is_one_file
+        for line, call in call_order.calls_in_order(self.log.calls, is_one_file):
             self.files.add_ended_syncs(line)
             self.recording.current_call = call
             self.translate_call(call)
