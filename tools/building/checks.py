@@ -2,13 +2,13 @@
 
 from __future__ import annotations
 
-import os
 import signal
 import subprocess
 from pathlib import Path
-from typing import List, NamedTuple, Tuple
+from typing import List, NamedTuple
 
 from .memory import GIGABYTE, memory_of_machine
+from .usage import wait_for_usage
 
 # `rt` ends with the status of the process that it ran, which the system has killed: as a signal, as
 # a shell has it, or as Python's number for it, cut to a byte.
@@ -42,17 +42,8 @@ def run_check(words: List[str], folder: Path) -> Check:
     ) as child:
         assert child.stdout is not None
         output = child.stdout.read()
-        child.returncode, memory = wait_for_child(child.pid)
-    return Check(child.returncode, output, memory)
-
-
-def wait_for_child(process: int) -> Tuple[int, int]:
-    """Waits without limit for the child of this number to end. Returns its status, negative for a
-    signal, and the largest memory, in bytes, of one process: the child, or a descendant that was
-    waited for. The caller must set `returncode` of the child's Popen, which can't wait any more.
-    ChildProcessError if the child was waited for before."""
-    _, status, usage = os.wait4(process, 0)
-    return os.waitstatus_to_exitcode(status), usage.ru_maxrss * 1024
+        usage = wait_for_usage(child)
+    return Check(child.returncode, output, usage.memory_bytes)
 
 
 def killed_text(name: str, check: Check, jobs: int, processors: int) -> str:

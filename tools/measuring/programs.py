@@ -8,7 +8,7 @@ import re
 import subprocess
 from dataclasses import dataclass, field
 from pathlib import Path
-from typing import Any, List, NamedTuple, Optional, Sequence
+from typing import List, Optional, Sequence
 
 from building.order import uses_by_crate
 
@@ -132,19 +132,3 @@ def start_program(
         text=True,
         preexec_fn=set_processors,
     )
-
-
-class Usage(NamedTuple):
-    """What a program and its children used: seconds of processor time, and the most bytes of memory
-    that one of them had."""
-
-    processor_seconds: float
-    memory_bytes: int
-
-
-def wait_for_usage(child: subprocess.Popen[Any]) -> Usage:
-    """Waits until a program ends, however long it takes, sets its returncode, and returns what it
-    used. ChildProcessError if somebody has waited for it before."""
-    _, status, usage = os.wait4(child.pid, 0)
-    child.returncode = os.waitstatus_to_exitcode(status)
-    return Usage(usage.ru_utime + usage.ru_stime, usage.ru_maxrss * 1024)

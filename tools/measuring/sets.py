@@ -10,7 +10,9 @@ import tempfile
 from pathlib import Path
 from typing import List, NamedTuple, Tuple
 
-from .programs import Programs, Tally, Usage, wait_for_usage
+from building.usage import Usage, wait_for_usage
+
+from .programs import Programs, Tally
 
 HEADER = '{"trace":3,"profile":"blocks","block":4096,"owner":"cat","group":"staff","mode":"775"}'
 SAY = '{"op":"say","text":"stored"}'

@@ -14,7 +14,9 @@ import time
 from pathlib import Path
 from typing import Dict, List, NamedTuple, Optional
 
-from .programs import Programs, Tally, wait_for_usage
+from building.usage import wait_for_usage
+
+from .programs import Programs, Tally
 
 SOURCE = Path(__file__).with_name('states.c')
 CHECK = Path(__file__).parents[1] / 'crashfs-check'

@@ -11,7 +11,7 @@ from dataclasses import dataclass, field
 from pathlib import Path
 from typing import Any, Dict, List, Optional, Sequence, Tuple
 
-from crashfs_tools.common.program import last_line
+from crashfs_tools.common.command import last_line
 from crashfs_tools.common.removal import remove_tree
 
 from .options import CampaignOptions

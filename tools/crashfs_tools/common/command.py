@@ -1,5 +1,5 @@
-"""What the commands share: the command line's two halves, --version, finding COMMAND, and the lines
-that a command prints of itself."""
+"""What the commands share: the command line's two halves, --version, finding COMMAND and saying how
+it ended, and the lines that a command prints of itself."""
 
 from __future__ import annotations
 
@@ -143,6 +143,13 @@ def ending_text(status: int) -> str:
         return f'was ended by {signal.Signals(-status).name}'
     except ValueError:
         return f'was ended by signal {-status}'
+
+
+def last_line(output: str) -> str:
+    """The last line of a program's output that isn't blank; an empty text if there is none. Blanks
+    at both ends of the output are left out."""
+    lines = output.strip().splitlines()
+    return lines[-1] if lines else ''
 
 
 def print_line(program: str, text: str) -> None:

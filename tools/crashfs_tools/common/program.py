@@ -362,9 +362,3 @@ def is_plan_too_large(fault: Exception) -> bool:
     one plan: the fault's text has one of TOO_LARGE."""
     message = fault.text if isinstance(fault, ProgramFault) else str(fault)
     return any(text in message for text in TOO_LARGE)
-
-
-def last_line(output: str) -> str:
-    """The last line of a program's output that isn't blank; an empty text if there is none."""
-    lines = output.strip().splitlines()
-    return lines[-1] if lines else ''
