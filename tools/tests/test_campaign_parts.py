@@ -57,7 +57,7 @@ class Cuts(InFolder):
         sessions = mock.Mock(trace=Path(self.path('session.trace')), folder=Path(self.folder))
         sessions.check.return_value = SessionVerdict()
         shrinking = Shrinking(sessions, 'none')
-        self.assertEqual(shrinking.says, list(range(1, len(lines))))
+        self.assertEqual(shrinking.say_places, list(range(1, len(lines))))
         for count in range(1, len(lines)):
             shrinking.find_failure(count)
             self.assertEqual(self.read('cut.trace').split('\n'), [*lines[: count + 1], ''])

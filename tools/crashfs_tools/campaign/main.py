@@ -109,7 +109,7 @@ class Campaign:
         shortest one of a failure: replaces the entry's trace and page, and notes the session in the
         entry. If a check of the cut session finds the failure, the entry describes it as found
         there. Raises what Shrinking.write_part() does."""
-        entry.kept_seed, entry.says, entry.shortest = seed, len(shrinking.says), line_count
+        entry.kept_seed, entry.says, entry.shortest = seed, len(shrinking.say_places), line_count
         cut_failure = shrinking.write_part(
             line_count, self.results / entry.trace, self.results / entry.page
         )

@@ -87,7 +87,7 @@ PAGE = (
 def page_text(options: CampaignOptions, book: Book, folder: str) -> str:
     """A page of all failures and all sessions without a verdict, with the present date. Each
     failure has a link to its own page, relative to `folder`, the directory of this page."""
-    body = ''.join(page_section(options, entry, folder) for entry in book.entries.values())
+    body = ''.join(failure_section(options, entry, folder) for entry in book.entries.values())
     faults = ''.join(f'<li>seed {seed}: {html_text(text)}</li>' for seed, text in book.faults)
     body += f'<h2>Without a verdict</h2><ul>{faults}</ul>\n' if faults else ''
     title = html_text(f'Campaign of {verdict_line(book)}')
@@ -103,9 +103,9 @@ def about_lines(options: CampaignOptions, book: Book) -> Iterator[str]:
     yield f'seeds up to {book.next_seed - 1:,}; {version_text(NAME)}; {present_time()}'
 
 
-def page_section(options: CampaignOptions, entry: KnownFailure, folder: str) -> str:
+def failure_section(options: CampaignOptions, entry: KnownFailure, folder: str) -> str:
     """The page's part for one failure: its cause, with a link from `folder` to the failure's own
-    page, its sentences, and the command that lays out its example."""
+    page, its sessions, its sentences, and the command that lays out its example."""
     link = os.path.relpath(os.path.join(options.results, entry.page), folder)
     text = '<br>'.join(html_text(line) for line in entry.failure.text)
     found = f'In {count_text(entry.sessions, "session")}, first with seed {entry.seed}'

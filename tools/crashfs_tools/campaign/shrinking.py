@@ -26,8 +26,8 @@ def is_say(fields: object) -> bool:
 
 class Shrinking:
     """Searches for the shortest part of a session that still has the failure with a key. A part is
-    the beginning of the session up to so many acknowledged lines: says has the places of these
-    among the trace's lines, and cut is the file that a part is written to."""
+    the beginning of the session up to so many acknowledged lines: say_places has the places of
+    these among the trace's lines, and cut is the file that a part is written to."""
 
     def __init__(self, sessions: Sessions, key: str) -> None:
         """Reads the session that was recorded last; a later recording changes nothing. OSError if
@@ -37,7 +37,7 @@ class Shrinking:
         text = sessions.trace.read_text('utf-8', 'surrogateescape')
         # Texts of a trace may have other characters that end a line for Python, such as U+2028.
         self.lines = [line + '\n' for line in text.split('\n') if line]
-        self.says = acknowledged_places(self.lines)
+        self.say_places = acknowledged_places(self.lines)
         self.cut = sessions.folder / 'cut.trace'
 
     def find_failure(self, count: int, page: Optional[Path] = None) -> Optional[Failure]:
@@ -45,7 +45,7 @@ class Shrinking:
         checks that part, as Sessions.check() does with this page. Returns the failure with the key;
         None if the check doesn't find it. Raises what Sessions.check() does, and OSError if `cut`
         can't be written."""
-        last_place = self.says[count - 1] if count else len(self.lines) - 1
+        last_place = self.say_places[count - 1] if count else len(self.lines) - 1
         text = ''.join(self.lines[: last_place + 1])
         self.cut.write_text(text, 'utf-8', 'surrogateescape')
         failures = self.sessions.check(self.cut, page).failures
@@ -57,7 +57,8 @@ class Shrinking:
         too. 0 if it doesn't come with the most lines that are looked at, `most` or all: it needs
         more lines, or what the session does after its last one. Raises what find_failure()
         does."""
-        low, high = 0, len(self.says) if most is None else min(most, len(self.says))
+        line_count = len(self.say_places)
+        low, high = 0, line_count if most is None else min(most, line_count)
         if not high or self.find_failure(high) is None:
             return 0
         while high - low > 1:

@@ -106,7 +106,8 @@ class Options:
     def most_seconds(self) -> float:
         """How many seconds all crash states of the trace, or of each window, may take at most; if
         they would take longer, only some are tried. Infinite with --every or --time-limit, and for
-        a shard, which has only a part of them. Families alone may take any time."""
+        a shard, which has only a part of them. If only families are asked for, they may take any
+        time."""
         has_no_limit = self.every is not None or self.time_limit is not None
         return float('inf') if has_no_limit or self.shard.parts > 1 else MOST_SECONDS
 

@@ -49,10 +49,10 @@ class AllSyncs(NamedTuple):
 
 @dataclass
 class AdviceResult:
-    """What an advice does, tried on a copy of the trace; all numbers count different states. The
-    group has group_states, of which a crash of the copy may still leave states_left. Of the copy's
-    other states other_failures fail, of which earlier_failures failed without the advice too.
-    before and after are how many fail in all, without the advice and with it."""
+    """What the advice on a group does, tried on a copy of the trace; all numbers count different
+    states. The group has group_states, of which a crash of the copy may still leave states_left. Of
+    the copy's other states other_failures fail, of which earlier_failures failed without the advice
+    too. before and after are how many fail in all, without the advice and with it."""
 
     states_left: int
     group_states: int
@@ -84,8 +84,8 @@ class AdviceResult:
         return self.failing_counts.is_lower
 
     def text(self, sync_count: int) -> str:
-        """A sentence on a helpful advice of so many syncs: how many of the group's states are left,
-        and how many other states fail."""
+        """A sentence on advice that helps: how many of the group's states are left, and how many
+        other states fail. sync_count is how many syncs are advised."""
         syncs = 'that sync' if sync_count == 1 else f'those {sync_count:,} syncs'
         line = f'tried: with {syncs} {self.states_left_text}'
         if self.states_left:
@@ -111,8 +111,8 @@ class AdviceResult:
         return f'{count_text(count, "other")}{still} {fail_verb(count)}'
 
     def not_enough_text(self, remedy: str) -> str:
-        """A sentence on an advice that isn't helpful: the remedy, and how many states fail with it
-        and without it, in all."""
+        """A sentence on advice that doesn't help: the remedy, and how many states fail with it and
+        without it, in all."""
         failing = f'{failing_states_text(self.after)} then, {self.before:,} before'
         return f'tried, and not enough alone: {remedy} ({failing})'
 

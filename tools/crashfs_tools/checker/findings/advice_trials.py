@@ -1,4 +1,4 @@
-"""Tries an advice: its syncs are put into a copy of the trace, and the new states are tried."""
+"""Tries advised syncs: they are put into a copy of the trace, and its new states are tried."""
 
 from __future__ import annotations
 
@@ -129,7 +129,7 @@ class AdviceTrials:
         return SyncedCopy(planned, self.listed_keys(planned.plan))
 
     def known_copy(self, copy_path: str) -> Optional[SyncedCopy]:
-        """The plan of a written copy by the second reading alone, and the keys of its states. None
+        """The plan of a written copy by the second reading only, and the keys of its states. None
         unless each of them is equal to a state of the trace that was tried, as with all crash
         states listed: syncs only take states away. Exceptions as in
         Planner.plan_different_states()."""

@@ -38,9 +38,9 @@ class Difference(NamedTuple):
 
 @dataclass
 class Group:
-    """Failing states whose causes agree but for numbers, and whose pairs are of lines of the same
-    kind. The example is the state that lacks the least: outcome, pair, kept_line and lost_line are
-    its, and so is all below that says so."""
+    """Failing states whose causes agree except for numbers, and whose pairs are of lines of the
+    same kind. The example is the state that lacks the least: outcome, pair, kept_line and lost_line
+    are those of the example, and so is all below that says so."""
 
     outcome: Outcome
     example: State
@@ -205,7 +205,7 @@ class Findings:
         self.losses: Dict[int, Loss] = {}
         self.all_syncs: Optional[AllSyncs] = None
         self.groups = self.make_groups()
-        self.set_reruns()
+        self.complete_groups()
 
     def own_states_with_outcome(self) -> List[State]:
         """The states that the window before doesn't have, and that have an outcome, which may be
@@ -216,8 +216,8 @@ class Findings:
 
     def make_groups(self) -> List[Group]:
         """The groups of the window's own states that fail or gave no answer, the largest first; the
-        example of each lacks the least. Second runs and advice are missing: set_reruns() adds
-        them."""
+        example of each lacks the least. Second runs and advice are missing: complete_groups()
+        adds them."""
         failing = [state for state in self.results.own_states if self.is_failure(state)]
         groups = merged_groups(map(self.group_of_state, sorted(failing, key=self.example_order)))
         for group in groups:
@@ -231,18 +231,18 @@ class Findings:
         return groups
 
     def add_losses(self, losses: Dict[int, Loss]) -> None:
-        """Adds the smallest losses of some states, by their numbers. Another state whose pair is a
-        guess gets the first of these losses for which has_same_loss() is true. The groups are made
-        again, without what was added to the old ones, such as differences."""
+        """Adds the smallest losses of some states, by their numbers. Each other state of a group
+        whose pair is a guess gets the first of these losses for which has_same_loss() is true. The
+        groups are made again, without what was added to the old ones, such as differences."""
         self.losses.update(losses)
         guessed = [state for group in self.groups if group.pair.is_guess for state in group.states]
         for state in guessed:
-            numbers = (number for number in losses if self.has_same_loss(state, number))
-            number = next(numbers, None)
+            same = (number for number in losses if self.has_same_loss(state, number))
+            number = next(same, None)
             if number is not None:
                 self.losses.setdefault(state.number, losses[number])
         self.groups = self.make_groups()
-        self.set_reruns()
+        self.complete_groups()
 
     def has_same_loss(self, state: State, number: int) -> bool:
         """Whether a failing state also has the smallest loss of the state of a number, which must
@@ -254,7 +254,7 @@ class Findings:
             outcomes[number], outcomes[state.number]
         )
 
-    def set_reruns(self) -> None:
+    def complete_groups(self) -> None:
         """Sets in all groups the outcome of the example's second run, None if there was none, and
         the advice. If the example was good then, the advice only says that the failure isn't
         reproducible."""
@@ -265,7 +265,7 @@ class Findings:
 
     def is_failure(self, state: State) -> bool:
         """Whether a state fails or gave no answer. False for a state without an outcome, and for
-        one whose cause is that of ignored_outcome, but for numbers."""
+        one whose cause is that of ignored_outcome, except for numbers."""
         outcome = self.outcomes_by_state.get(state.number, GOOD_OUTCOME)
         ignored = self.ignored_outcome
         is_ignored = (

@@ -121,11 +121,11 @@ class SecondCrashTrials:
             yield self.try_recovery(recovery, state, findings.outcomes_by_state[state.number])
 
     def try_recovery(self, trials: Trials, state: State, first_outcome: Outcome) -> Recovery:
-        """Tries the states of a recovery from a state, with the recovery's trials, and runs the
+        """Tries the states of the recovery of a state, with the recovery's trials, and runs the
         examples of their groups again. If the first state wasn't good, as first_outcome says,
-        failures with the same cause but for numbers are left out. Only tried states are counted:
-        not all are after a failure with --fail-fast, or if that would take too long. Exceptions as
-        in Trials.try_all()."""
+        failures with the same cause, except for numbers, are left out. Only tried states are
+        counted: not all states are tried after a failure with --fail-fast, or if that would take
+        too long. Exceptions as in Trials.try_all(); OSError also if the trace can't be read."""
         results = Results(trials.plan)
         trials.try_all(results)
         with open(trials.planned.trace, **TEXT) as file:

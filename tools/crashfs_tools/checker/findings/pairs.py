@@ -158,7 +158,7 @@ class Pairs:
     def shortest_failing_hole(self, lost: int, length: int, compare: Compare) -> int:
         """The length of the shortest hole that counts by rule 5, of those that lack the operation
         at the place `lost`; this length if no shorter one does. A shorter hole that wasn't tried,
-        or that the plan doesn't list, is passed over."""
+        or that the plan doesn't list, is skipped."""
         shortest = length
         for shorter in range(length - 1, lost + 1, -1):
             hole = self.holes.get((lost, shorter))

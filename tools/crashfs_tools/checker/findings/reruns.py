@@ -48,4 +48,4 @@ def rerun_examples(trials: Trials, findings: Findings, seconds: float = float('i
             group.rerun_seconds = time.monotonic() - begin
             if results.reruns[number].result == GOOD:
                 trials.drop_from_cache(state.number for state in group.states)
-    findings.set_reruns()
+    findings.complete_groups()

@@ -144,7 +144,7 @@ def keep_first_crashes(crashes: Dict[str, Crash], more: Dict[str, Crash]) -> Non
 def sighting_text(names: Sequence[str], crashes: Dict[str, Crash]) -> str:
     """On which file systems of these names a state or a tree was seen, after which crash, and on
     which not. `crashes` has the crash for each file system on which it was seen; file systems that
-    aren't in `names` are passed over."""
+    aren't in `names` are left out."""
     seen = [f'{name} ({crash_text(crashes[name])})' for name in names if name in crashes]
     unseen = [name for name in names if name not in crashes]
     if not seen:

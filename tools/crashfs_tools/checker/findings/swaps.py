@@ -106,10 +106,10 @@ class Swap:
     def try_copy(
         self, planned: PlannedTrace, session_outcomes: Dict[int, Outcome]
     ) -> Dict[int, Outcome]:
-        """Tries the states of the planned copy, and returns the outcomes of its sets. A set with
-        the same micro-operations as one of session_outcomes, which has those of the session's sets,
-        gets its outcome, and isn't tried. Sets that --fail-fast left untried have none. Exceptions
-        as in Trials.try_states()."""
+        """Tries the states of the planned copy, and returns the outcomes of its sets.
+        session_outcomes has those of the session's sets: a set of the copy with the same
+        micro-operations as one of these gets its outcome, and isn't tried. Sets that --fail-fast
+        left untried have none. Exceptions as in Trials.try_states()."""
         plan = planned.plan
         session_places = matching_places(plan, self.findings.plan)
         results = Results(plan)

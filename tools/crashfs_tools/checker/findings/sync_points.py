@@ -55,7 +55,7 @@ def sync_interval(lost: int, kept: int, lines: Dict[int, TraceLine]) -> Interval
 
 def end_of_path(path: str, numbers: range, lines: Dict[int, TraceLine]) -> Optional[TraceLine]:
     """The first of the lines of these numbers after which a path doesn't name what it named before;
-    None if there is none. Numbers that `lines` doesn't have are passed over."""
+    None if there is none. Numbers that `lines` doesn't have are skipped."""
     operations = (lines[number] for number in numbers if number in lines)
     return next((line for line in operations if line.may_change_path(path)), None)
 
@@ -68,9 +68,10 @@ def is_synced(path: str, lines: Dict[int, TraceLine]) -> bool:
 
 
 def never_synced_directory(syncs: Dict[int, str], lines: Dict[int, TraceLine]) -> str:
-    """The path of the directory that all syncs of an advice are of, if the session never syncs that
-    directory. `syncs` has the path to sync after each line. An empty text if the session syncs it,
-    if the syncs are of a file or of several paths, or if there are none."""
+    """The path of the directory that all advised syncs are of, if the session never syncs that
+    directory. `syncs` has the path of each, by the number of the line before it. An empty text if
+    the session syncs the directory, if the syncs are of a file or of several paths, or if there are
+    none."""
     paths = set(syncs.values())
     if len(paths) != 1:
         return ''

@@ -153,11 +153,11 @@ def partial_check_lines(counts: StateCounts) -> Iterator[str]:
     yield f'all are more than {most:,}{time_text(counts, most, "more than ")}: --every N'
 
 
-def time_text(counts: StateCounts, states: int, at_least: str = '') -> str:
-    """How long this number of states would take, after a comma, with the words at_least before the
-    time; an empty text if it isn't known how long a state takes."""
+def time_text(counts: StateCounts, states: int, bound: str = '') -> str:
+    """How long this number of states would take, after a comma; `bound` comes before the time, such
+    as `more than `. An empty text if it isn't known how long a state takes."""
     seconds = counts.seconds_per_state * states
-    return f', and would take {at_least}about {duration_text(seconds)}' if seconds else ''
+    return f', and would take {bound}about {duration_text(seconds)}' if seconds else ''
 
 
 def drawn_text(counts: StateCounts) -> str:
