@@ -14,8 +14,8 @@ RERROR = 107
 READ_WRITE = 2
 
 
-class Refused(Exception):
-    """The server answered with an Rerror: its text."""
+class ServerRefused(Exception):
+    """Why the server didn't do what was asked: the text of its Rerror, or another such text."""
 
 
 def text_field(text: str) -> bytes:
@@ -34,12 +34,12 @@ def message(kind: int, fields: bytes, tag: int = 1) -> bytes:
 class Client:
     """A connection to a server. All requests but the first have one tag, so each call waits for the
     replies to all that it sends. After an OSError the connection can't be used any more; after
-    Refused it can. The caller must call close()."""
+    ServerRefused it can. The caller must call close()."""
 
     def __init__(self, address: str) -> None:
         """Connects to HOST:PORT, and agrees on VERSION with the server. OSError if nobody listens
-        there, or if the connection ends; Refused if the server answers with another version or an
-        Rerror. After an error the connection is closed."""
+        there, or if the connection ends; ServerRefused if the server answers with another version
+        or an Rerror. After an error the connection is closed."""
         host, port = address.rsplit(':', 1)
         self.stream = socket.create_connection((host, int(port)))
         self.replies = self.stream.makefile('rb')
@@ -47,18 +47,19 @@ class Client:
             fields = struct.pack('<I', 65_536) + text_field(VERSION)
             version_field = self.ask(message(TVERSION, fields, NO_TAG))[4:]
             if version_field != text_field(VERSION):
-                raise Refused(f'the server speaks {version_field[2:]!r}, not {VERSION}')
+                raise ServerRefused(f'the server speaks {version_field[2:]!r}, not {VERSION}')
         except BaseException:
             self.close()
             raise
 
     def wait_for_reply(self) -> bytes:
-        """Waits for the next reply, and returns its fields, whatever its kind and tag are. Refused
-        if it is an Rerror, OSError if the connection ends before the whole reply has come."""
+        """Waits for the next reply, and returns its fields, whatever its kind and tag are.
+        ServerRefused if it is an Rerror, OSError if the connection ends before the whole reply has
+        come."""
         size, kind, _ = struct.unpack('<IBH', self.read_whole(7))
         fields = self.read_whole(size - 7)
         if kind == RERROR:
-            raise Refused(fields[2:].decode(errors='replace'))
+            raise ServerRefused(fields[2:].decode(errors='replace'))
         return fields
 
     def read_whole(self, count: int) -> bytes:
@@ -70,8 +71,8 @@ class Client:
         return data
 
     def ask(self, request: bytes) -> bytes:
-        """Sends a request, waits for its reply, and returns the reply's fields. Refused if the
-        reply is an Rerror, OSError if the connection ends."""
+        """Sends a request, waits for its reply, and returns the reply's fields. ServerRefused if
+        the reply is an Rerror, OSError if the connection ends."""
         self.stream.sendall(request)
         return self.wait_for_reply()
 
@@ -85,21 +86,21 @@ class Client:
             try:
                 self.wait_for_reply()
                 granted_count += 1
-            except Refused:
+            except ServerRefused:
                 pass
         return granted_count
 
     def attach(self, fid: int, run: str) -> None:
         """Attaches the user `ann` to a run, given as STATE/RUN; the fid is the run's root directory
-        then. Refused if the server refuses it, as for a fid that is in use; OSError if the
+        then. ServerRefused if the server refuses it, as for a fid that is in use; OSError if the
         connection ends."""
         fields = struct.pack('<II', fid, NO_FID) + text_field('ann') + text_field(run)
         self.ask(message(TATTACH, fields))
 
     def open(self, fid: int, newfid: int, name: str) -> None:
         """Opens the file of this name in the directory of `fid`, for reading and writing, as
-        `newfid`. Refused if the server refuses the walk or the open; after a refused open `newfid`
-        is the file, but isn't open. OSError if the connection ends."""
+        `newfid`. ServerRefused if the server refuses the walk or the open; after a refused open
+        `newfid` is the file, but isn't open. OSError if the connection ends."""
         self.ask(message(TWALK, struct.pack('<IIH', fid, newfid, 1) + text_field(name)))
         self.ask(message(TOPEN, struct.pack('<IB', newfid, READ_WRITE)))
 

@@ -4,13 +4,13 @@ from __future__ import annotations
 
 import re
 from dataclasses import asdict, dataclass, field, replace
-from typing import Dict, Iterator, List, Set, Tuple
+from typing import Dict, Iterator, List, Set
 
-from crashfs_tools.checker.findings.read_trees import entries_of
+from crashfs_tools.checker.findings.read_trees import TreeAndCount, tree_and_count
 from crashfs_tools.checker.states.steps import trace_text
 from crashfs_tools.common.trace import Trace
 from crashfs_tools.disks.crashing import CrashMaker
-from crashfs_tools.disks.disk import Disk, digest_of, different_disks
+from crashfs_tools.disks.disk import Disk, different_disks
 from crashfs_tools.disks.filesystems import FileSystem
 from crashfs_tools.disks.flushes import FlushKind
 from crashfs_tools.reading import Reading, parse_trace
@@ -28,8 +28,6 @@ PROFILE_OF = {'ext4': 'journal', 'xfs': 'journal', 'btrfs': 'blocks'}
 OPERATIONS = 7
 # Equal bytes that follow each other.
 RUN = re.compile(rb'(.)\1*', re.DOTALL)
-# A tree, by its digest, with how many lines are acknowledged when a crash leaves it.
-TreeAndCount = Tuple[str, int]
 
 
 @dataclass
@@ -60,11 +58,8 @@ def allowed_trees(reading: Reading, profile: str) -> Set[TreeAndCount]:
     """Each tree that a profile allows a crash to leave, by its digest, with how many lines are
     acknowledged then. All different states are computed, so the session must be short. ReadingFault
     if the trace's version doesn't have the profile."""
-    states, trees = States(reading), set()
-    for place_set in SetClasses(reading, order_under(reading, profile)).different_sets():
-        tree = entries_of(states.tree(place_set))
-        trees.add((digest_of(tree), states.count_says(place_set)))
-    return trees
+    states, classes = States(reading), SetClasses(reading, order_under(reading, profile))
+    return {tree_and_count(states, place_set) for place_set in classes.different_sets()}
 
 
 def session_result(filesystem: str, seed: int, trace: Trace, disks: List[Disk]) -> SessionResult:

@@ -10,7 +10,7 @@ import subprocess
 from contextlib import ExitStack, closing
 from typing import Callable, List, Tuple
 
-from .client import Client, Refused, write_request
+from .client import Client, ServerRefused, write_request
 from .programs import Programs, Tally
 from .servers import free_address, resident_bytes, running_server, serve_words
 
@@ -33,8 +33,8 @@ def open_clients(address: str, count: int, opened: ExitStack) -> List[Client]:
 
 def fill_with_connections(address: str, connections: int, opened: ExitStack) -> int:
     """Opens so many connections, which `opened` closes, attaches all of them to the same run, and
-    leaves them idle. Returns how many there are. Refused if the server refuses a connection or an
-    attach, OSError if a connection can't be made or ends."""
+    leaves them idle. Returns how many there are. ServerRefused if the server refuses a connection
+    or an attach, OSError if a connection can't be made or ends."""
     for client in open_clients(address, connections, opened):
         client.attach(0, '0/x')
     return connections
@@ -52,8 +52,8 @@ def fill_with_runs(address: str, runs: int, connections: int, opened: ExitStack)
 def fill_with_writes(address: str, writes: int, opened: ExitStack) -> int:
     """Writes blocks to a file of a run, by a connection that `opened` closes, until the server
     refuses a write, since the run's journal is full, or has granted so many writes. Returns how
-    many it granted: up to BATCH - 1 more, since they are sent in batches. Refused if no write is
-    granted; other errors as fill_with_connections()."""
+    many it granted: up to BATCH - 1 more, since they are sent in batches. ServerRefused if no write
+    is granted; other errors as fill_with_connections()."""
     (client,) = open_clients(address, 1, opened)
     client.attach(0, '0/x')
     client.open(0, 1, 'f')
@@ -65,7 +65,7 @@ def fill_with_writes(address: str, writes: int, opened: ExitStack) -> int:
         if granted_of_batch < len(requests):
             break
     if not granted_count:
-        raise Refused('no write was granted')
+        raise ServerRefused('no write was granted')
     return granted_count
 
 
@@ -96,7 +96,8 @@ def measure_growth(
 
 def add_connection_rows(programs: Programs, tally: Tally) -> None:
     """Measures and prints the rows of idle connections: the memory of all together, and that of
-    each, which has a bound. Refused or OSError if the server fails; no row is printed then."""
+    each, which has a bound. ServerRefused or OSError if the server fails; no row is printed
+    then."""
     growth, count = measure_new_server(
         programs,
         lambda address, opened: fill_with_connections(address, CONNECTIONS, opened),
@@ -108,7 +109,7 @@ def add_connection_rows(programs: Programs, tally: Tally) -> None:
 
 def add_run_rows(programs: Programs, tally: Tally) -> None:
     """Measures and prints the rows of as many runs as a server allows: the memory of all together,
-    and that of each. They have no bound. Refused or OSError as add_connection_rows()."""
+    and that of each. They have no bound. ServerRefused or OSError as add_connection_rows()."""
     growth, count = measure_new_server(
         programs,
         lambda address, opened: fill_with_runs(address, RUNS, CONNECTIONS, opened),
@@ -121,7 +122,8 @@ def add_run_rows(programs: Programs, tally: Tally) -> None:
 
 def add_journal_rows(programs: Programs, tally: Tally) -> None:
     """Measures and prints the rows of a full journal: its memory, and that of each write without
-    the bytes that it writes. They have no bound. Refused or OSError as add_connection_rows()."""
+    the bytes that it writes. They have no bound. ServerRefused or OSError as
+    add_connection_rows()."""
     growth, count = measure_new_server(
         programs, lambda address, opened: fill_with_writes(address, WRITES, opened), 1
     )
@@ -135,5 +137,5 @@ def add_memory_rows(programs: Programs, tally: Tally) -> None:
     for add_rows in (add_connection_rows, add_run_rows, add_journal_rows):
         try:
             add_rows(programs, tally)
-        except (OSError, Refused) as error:
+        except (OSError, ServerRefused) as error:
             tally.add_failure(str(error))

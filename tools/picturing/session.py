@@ -5,7 +5,7 @@ from __future__ import annotations
 
 from dataclasses import dataclass
 from pathlib import Path
-from typing import List, NamedTuple, Optional, Set, Tuple
+from typing import List, NamedTuple, Optional, Set
 
 from crashfs_tools.checker.states.place_sets import places_of
 from crashfs_tools.common.trace_lines import SYNCS, TraceLine
@@ -51,17 +51,13 @@ class ModelledSession:
 
     def find_failing_sets(self, checked: CheckedExample) -> Set[int]:
         """The sets that leave a state in which the check's command failed or gave no answer: also
-        those that the check didn't try, since it tries only the first set that leaves a state.
-        States with equal digests and as many acknowledged lines are equal."""
+        those that the check didn't try, since it tries only the first set that leaves a state."""
         plan, states = checked.findings.plan, States(self.reading)
-
-        def tree_and_says(kept_set: int) -> Tuple[object, int]:
-            """The tree that a set leaves, as its digest, and how many acknowledged lines it has."""
-            return states.digest(kept_set), states.count_says(kept_set)
-
         numbers = (state.number for group in checked.report.groups() for state in group.states)
-        failing_states = {tree_and_says(plan.kept[number]) for number in numbers}
-        return {kept_set for kept_set in self.sets if tree_and_says(kept_set) in failing_states}
+        failing_states = {states.digest_and_says(plan.kept[number]) for number in numbers}
+        return {
+            kept_set for kept_set in self.sets if states.digest_and_says(kept_set) in failing_states
+        }
 
     def rows_of_line(self, line: TraceLine) -> List[Row]:
         """The rows of a line: one without a place if the line syncs, else one for each of its

@@ -16,7 +16,7 @@ from pathlib import Path
 from typing import List
 from unittest import mock
 
-from measuring.client import Client, Refused, message, text_field
+from measuring.client import Client, ServerRefused, message, text_field
 from measuring.memory import (
     add_memory_rows,
     fill_with_connections,
@@ -214,7 +214,7 @@ class Memory(InFolder):
     def test_a_server_of_another_version_is_refused(self) -> None:
         address = free_address()
         with running_server([FAKE, address, '9', 'unknown']):
-            with self.assertRaisesRegex(Refused, "the server speaks b'unknown', not 9P2000"):
+            with self.assertRaisesRegex(ServerRefused, "the server speaks b'unknown', not 9P2000"):
                 fill_with_connections(address, 1, ExitStack())
 
     def test_a_reply_without_its_end_is_a_fault(self) -> None:
@@ -247,7 +247,7 @@ class Memory(InFolder):
     def test_a_journal_that_takes_no_write_is_a_fault(self) -> None:
         address = free_address()
         with running_server([FAKE, address, '9', 'full']), ExitStack() as opened:
-            with self.assertRaisesRegex(Refused, 'no write was granted'):
+            with self.assertRaisesRegex(ServerRefused, 'no write was granted'):
                 fill_with_writes(address, 8, opened)
 
     def test_connections_are_closed_after_a_fault(self) -> None:

@@ -72,9 +72,9 @@ class ArchiveWriter:
         first_tree is that of state 0."""
         paths = [path for path in paths_in_order(first_tree) if path not in tree]
         names = ''.join(missing_name(path, first_tree[path]) + '\0' for path in paths).encode()
-        info = tarfile.TarInfo(f'{number}.missing')
-        info.size = len(names)
-        self.archive.addfile(info, BytesIO(names))
+        member = tarfile.TarInfo(f'{number}.missing')
+        member.size = len(names)
+        self.archive.addfile(member, BytesIO(names))
 
     def write_differing(
         self, number: int, first_tree: Dict[str, Item], tree: Dict[str, Item]
@@ -96,39 +96,39 @@ class ArchiveWriter:
         """Writes one file, directory or symbolic link, with its owner, group and mode; its time is
         0. If is_sparse is set, a large file with many zeros is written as extents. Slashes at the
         end of `name` are dropped: tarfile adds one for a directory."""
-        info = tarfile.TarInfo(name.rstrip('/'))
-        info.type = KINDS[item.kind]
-        (info.uname, info.gname, mode), data = item.rights, item.data
-        info.mode = int(mode, 8)
+        member = tarfile.TarInfo(name.rstrip('/'))
+        member.type = KINDS[item.kind]
+        (member.uname, member.gname, mode), data = item.rights, item.data
+        member.mode = int(mode, 8)
         if data is None:
-            self.archive.addfile(info)
+            self.archive.addfile(member)
         elif item.kind == 'symlink':
-            info.linkname = data.all_bytes().decode('utf-8')
-            self.archive.addfile(info)
+            member.linkname = data.all_bytes().decode('utf-8')
+            self.archive.addfile(member)
         elif self.is_sparse and has_many_zeros(data):
-            self.write_sparse(info, data)
+            self.write_sparse(member, data)
         else:
-            info.size = data.length
-            self.archive.addfile(info, ExtentReader(data, [(0, data.length)]))
+            member.size = data.length
+            self.archive.addfile(member, ExtentReader(data, [(0, data.length)]))
 
-    def write_sparse(self, info: tarfile.TarInfo, data: Data) -> None:
+    def write_sparse(self, member: tarfile.TarInfo, data: Data) -> None:
         """Writes a file as extents, in GNU tar's format 1.0 for sparse files: a map of the extents,
-        then their bytes. `info` has the file's own name; its size isn't used."""
+        then their bytes. `member` has the file's own name; its size isn't used."""
         extents = data_extents(data)
         map_bytes = extent_map(extents, data.length)
-        directory, slash, name = info.name.rpartition('/')
-        sparse_info = copy(info)
-        sparse_info.name = f'{directory}{slash}GNUSparseFile.0/{name}'
-        sparse_info.size = len(map_bytes) + sum(end - begin for begin, end in extents)
-        sparse_info.pax_headers = {
+        directory, slash, name = member.name.rpartition('/')
+        sparse_member = copy(member)
+        sparse_member.name = f'{directory}{slash}GNUSparseFile.0/{name}'
+        sparse_member.size = len(map_bytes) + sum(end - begin for begin, end in extents)
+        sparse_member.pax_headers = {
             # It comes first: to Python's tarfile the last of two names counts.
-            'path': sparse_info.name,
+            'path': sparse_member.name,
             'GNU.sparse.major': '1',
             'GNU.sparse.minor': '0',
-            'GNU.sparse.name': info.name,
+            'GNU.sparse.name': member.name,
             'GNU.sparse.realsize': str(data.length),
         }
-        self.archive.addfile(sparse_info, ExtentReader(data, extents, map_bytes))
+        self.archive.addfile(sparse_member, ExtentReader(data, extents, map_bytes))
 
 
 class ExtentReader(BytesIO):

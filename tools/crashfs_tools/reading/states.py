@@ -87,6 +87,11 @@ class States:
         that are computed for it are kept in memory."""
         return tuple(self.walk_tree(place_set, self.rights_and_digest))
 
+    def digest_and_says(self, place_set: int) -> Tuple[Digest, int]:
+        """What an allowed set leaves: the digest of its tree, and how many acknowledged lines it
+        has. Equal for two sets exactly if they leave the same."""
+        return self.digest(place_set), self.count_says(place_set)
+
     def walk_tree(
         self, place_set: int, read_file: Callable[[int, int], Tuple[Rights, DataOrDigest]]
     ) -> Iterator[Tuple[str, str, Rights, Optional[DataOrDigest]]]:

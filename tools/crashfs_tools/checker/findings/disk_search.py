@@ -29,7 +29,7 @@ from crashfs_tools.reading.classes import SetClasses
 from crashfs_tools.reading.order import Order
 from crashfs_tools.reading.states import States
 
-from .read_trees import entries_of
+from .read_trees import TreeAndCount, tree_and_count
 from .sightings import (
     OUTSIDE,
     UNKNOWN,
@@ -45,9 +45,6 @@ MEMORY = '/dev/shm'
 DISKS_AT_ONCE = 3
 # So many different crash states are looked through for a disk's tree, and for so long.
 MOST_STATES, MOST_SECONDS = 20_000, 20
-
-# A tree by its digest, and how many lines are acknowledged with it.
-TreeAndCount = Tuple[str, int]
 
 
 @dataclass
@@ -251,8 +248,7 @@ def search_trees(trace_bytes: bytes, wanted: Set[TreeAndCount]) -> SearchResult:
         if searched_states >= MOST_STATES or time.monotonic() > deadline:
             return SearchResult(found, searched_states, is_whole=False)
         searched_states += 1
-        tree = entries_of(states.tree(kept_set))
-        found |= {(digest_of(tree), states.count_says(kept_set))} & wanted
+        found |= {tree_and_count(states, kept_set)} & wanted
         if found == wanted:
             break
     return SearchResult(found, searched_states, is_whole=True)

@@ -2,14 +2,25 @@
 
 from __future__ import annotations
 
-from typing import Dict
+from typing import Dict, Tuple
 
 from crashfs_tools.common.entry import Entries, Entry
 from crashfs_tools.common.sparse import SparseBytes
-from crashfs_tools.reading.states import Item
+from crashfs_tools.disks.disk import digest_of
+from crashfs_tools.reading.states import Item, States
 
 # Files of more bytes are kept without their zeros.
 WHOLE_BYTES = 1 << 20
+
+# A tree by its digest, and how many lines are acknowledged with it.
+TreeAndCount = Tuple[str, int]
+
+
+def tree_and_count(states: States, kept_set: int) -> TreeAndCount:
+    """The tree that an allowed set leaves, by its digest as disks have it, and how many lines are
+    acknowledged then."""
+    tree = entries_of(states.tree(kept_set))
+    return digest_of(tree), states.count_says(kept_set)
 
 
 def entries_of(tree: Dict[str, Item]) -> Entries:

@@ -43,8 +43,7 @@ class EqualSets:
         """What a set leaves: a tree, as its digest, and how many lines are acknowledged. This is
         computed once for each set, and kept."""
         if kept_set not in self.left_by_sets:
-            tree = self.trees.digest(kept_set)
-            self.left_by_sets[kept_set] = tree, self.trees.count_says(kept_set)
+            self.left_by_sets[kept_set] = self.trees.digest_and_says(kept_set)
         return self.left_by_sets[kept_set]
 
 
