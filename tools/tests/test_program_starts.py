@@ -52,7 +52,7 @@ class Starts(Listing):
                         'picks --every --different',
                         'list --holes --picks',
                         'picks --every --count',
-                        'tar --holes --picks',
+                        'tar --holes --states',
                     ],
                 )
 
@@ -67,8 +67,8 @@ class Starts(Listing):
         starts = self.starts(programs()[0], SQLITE, '--', command)
         names = [line.split(' ')[0] for line in starts]
         self.assertEqual(names, ['picks', 'list', 'picks', *4 * ['tar']])
-        shown = [line.partition(' --states ')[2] for line in (starts[3], starts[-1])]
-        self.assertEqual(shown, ['0,87', '4,99'])
+        options = [line.split(' ')[3:] for line in (starts[3], starts[-1])]
+        self.assertEqual(options, [['--holes', '--states', states] for states in ('0,87', '4,99')])
 
 
 class Archived(Listing):

@@ -23,19 +23,28 @@ class MountTable:
         """Opens the table, and reads it. OSError if it can be opened but not read."""
         self.poll = select.poll()
         self.points: Dict[int, str] = {}
+        # All points as one text: only if a path is in it, any point can be below the path.
+        self.points_text = ''
         try:
             self.file = os.open(TABLE, os.O_RDONLY | os.O_CLOEXEC)
         except OSError:
             return
         self.poll.register(self.file, select.POLLPRI)
+        self.read_table()
+
+    def read_table(self) -> None:
+        """Reads the table again. OSError if it can't be read."""
         self.points = read_mount_points()
+        self.points_text = '\n'.join(self.points.values())
 
     def points_below(self, directory: str) -> Dict[int, str]:
         """The mount points at a directory and below it, by the numbers of the mounts, in the order
         in which they were mounted. The path must be absolute and without links. OSError if the
         table has changed and can't be read."""
         if self.poll.poll(0):
-            self.points = read_mount_points()
+            self.read_table()
+        if directory not in self.points_text:
+            return {}
         folder_prefix = os.path.join(directory, '')
         return {
             number: point

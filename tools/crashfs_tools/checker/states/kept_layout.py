@@ -26,7 +26,7 @@ class KeptLayout(Archive):
     ) -> None:
         """Asks the program for the start tree; ProgramFault if it fails."""
         super().__init__(program, planned, folder, environment, kept={})
-        words = [*planned.parts[0].options, '--state', '0']
+        words = [*planned.parts[0].options_without_picks, '--state', '0']
         with program.open_archive(words, environment) as members:
             self.start: Entries = dict(members)
         self.kept_tree: Optional[KeptTree] = None

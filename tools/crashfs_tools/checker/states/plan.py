@@ -281,6 +281,13 @@ class Part(NamedTuple):
     end: int
     first_in_program: int
 
+    @property
+    def options_without_picks(self) -> List[str]:
+        """The options without the file of picks: by these the program gives the prefixes and holes
+        of the part the same numbers, but needn't read the picks."""
+        end = self.options.index('--picks') if '--picks' in self.options else None
+        return self.options[:end]
+
 
 class Request(NamedTuple):
     """States that one command of the program gives: options name them. A state's number in the plan
@@ -320,14 +327,17 @@ class PlannedTrace:
 
     def requests(self, numbers: Iterable[int]) -> Iterator[Request]:
         """Yields a request for each part that has some of the states of these numbers, in the order
-        of the parts. Numbers that the plan doesn't have are ignored."""
+        of the parts. Numbers that the plan doesn't have are ignored. If none of them is that of a
+        pick, the request has no picks."""
         wanted = set(numbers)
         for part in self.parts:
             numbers_of_part = {number for number in wanted if part.first <= number < part.end}
             if numbers_of_part:
+                has_picks = any(self.plan.state(one).family == 'pick' for one in numbers_of_part)
+                options = part.options if has_picks else part.options_without_picks
                 number_offset = part.first - part.first_in_program
                 ranges = ranges_text(number - number_offset for number in numbers_of_part)
-                yield Request([*part.options, '--states', ranges], number_offset)
+                yield Request([*options, '--states', ranges], number_offset)
 
 
 def ranges_text(numbers: Iterable[int]) -> str:
