@@ -37,7 +37,7 @@ def table_of_tests(columns: Tuple[str, str], tests: List[DescribedTest]) -> List
 
 def lines_of_crate_tests(crate: str) -> List[str]:
     """The lines that list a crate's tests: a heading, and for each file that has tests its comment
-    and a table. Empty if the crate has none. StopIteration as tests_in()."""
+    and a table. Empty if the crate has none. Errors as tests_in()."""
     lines: List[str] = []
     for path in crate_files(crate, 'src', '.rt'):
         tests = tests_in(path)

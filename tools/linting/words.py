@@ -147,7 +147,7 @@ def names_of_tools() -> Iterator[Line]:
     )
 
 
-def is_allowed(line: Line) -> bool:
+def may_have_retired_words(line: Line) -> bool:
     """Whether a line may have retired words: ALLOWED has the line's file with a text that is in the
     line."""
     return any(line.file == file and text in line.text for file, text in ALLOWED)
@@ -186,9 +186,9 @@ def unused_allowance_faults() -> List[str]:
 
 def retired_word_faults() -> List[str]:
     """A sentence for each retired word in the pages, in what is printed, and in documentation and
-    names of Python, except in lines that is_allowed() accepts; and for each entry of ALLOWED that
-    nothing needs. Errors as all_lines()."""
-    lines = [line for line in all_lines() if not is_allowed(line)]
+    names of Python, except in lines that may_have_retired_words() accepts; and for each entry of
+    ALLOWED that nothing needs. Errors as all_lines()."""
+    lines = [line for line in all_lines() if not may_have_retired_words(line)]
     faults = [fault for line in lines for fault in word_faults(line)]
     faults += [fault for line in names_of_tools() for fault in name_faults(line)]
     return [*dict.fromkeys(faults), *unused_allowance_faults()]

@@ -156,8 +156,8 @@ def outside_texts(results: List[SessionResult]) -> Iterator[str]:
 def main(words: List[str]) -> int:
     """Runs `measure disks` with these words, and returns its status: 1 if a disk is outside its
     file system's profile; 2 if the sessions can't be made here, and no table is printed then. The
-    file systems must be usable even if the file has all results. Errors of Measurement are raised,
-    except Refused."""
+    file systems must be usable even if the file has all results. Errors of Guard and Measurement
+    are raised, except Refused."""
     measurement = Measurement(parse_words(words))
     refusal = refusal_text(measurement.filesystems)
     if refusal is not None:

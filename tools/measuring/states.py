@@ -154,7 +154,8 @@ def add_state_rows(programs: Programs, tally: Tally) -> None:
 
 
 def add_rate_lines(times: AllTimes, tally: Tally) -> None:
-    """Prints how many states both checks and the C program tried in a second."""
+    """Prints how long the check by all processors and that by one job took, and how many states
+    they and the C program tried in a second."""
     tally.add_line(rate_line(times.check, len(os.sched_getaffinity(0))))
     tally.add_line(rate_line(times.one_job_check, 1))
     c_program_rate = times.c_program.tried_count / times.c_program.wall_seconds

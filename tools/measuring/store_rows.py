@@ -6,9 +6,10 @@ import json
 import re
 from collections import Counter
 from pathlib import Path
-from typing import Any, Dict, Iterator, List, Optional
+from typing import Any, Dict, Iterator, List
 from typing import Counter as Counts
 
+from crashfs_tools.checker.report.counts import set_count_of_windows
 from crashfs_tools.checker.running.read_results import read_json
 from crashfs_tools.checker.running.results import Results
 from crashfs_tools.checker.running.runner import BAD
@@ -53,13 +54,14 @@ class ResultsFile:
 
 
 def read_stores() -> List[Dict[str, Any]]:
-    """The objects of stores.json, one for each store. OSError if there is no such file."""
+    """The objects of stores.json, one for each store. OSError if it can't be read, ValueError if it
+    is no JSON."""
     stores: List[Dict[str, Any]] = json.loads((STORES / 'stores.json').read_text('utf-8'))
     return stores
 
 
 def session_keys() -> List[str]:
-    """The keys FOLDER/SESSION of all sessions of stores.json, in its order. OSError as
+    """The keys FOLDER/SESSION of all sessions of stores.json, in its order. Errors as
     read_stores()."""
     return [f'{store["folder"]}/{name}' for store in read_stores() for name in store['sessions']]
 
@@ -79,7 +81,7 @@ def row_of_check(store: Dict[str, Any], key: str, json_path: str, report: str) -
         'version': '',
         'session': store['sessions'][key.partition('/')[2]],
         'micro_operations': sum(len(window.plan.operations) for window in windows),
-        'sets': set_count(windows),
+        'sets': set_count_of_windows([window.plan.all_states for window in windows]),
         'is_whole': ALL_STATES.search(first_line) is not None,
         'tried': len(outcomes),
         'failing': len(failing),
@@ -88,14 +90,6 @@ def row_of_check(store: Dict[str, Any], key: str, json_path: str, report: str) -
         'disks': disk_counts(json.loads(Path(json_path).read_text('utf-8'))),
         'report': [first_line, *(first_entry_lines(lines) if failing else [])][:REPORT_LINES],
     }
-
-
-def set_count(windows: List[Results]) -> Optional[int]:
-    """How many sets the rules allow, from the results of all windows of a check. None if the sets
-    were not counted, or were too many to count, or if there are several windows: the counts of
-    windows can't be added."""
-    all_states = windows[0].plan.all_states if len(windows) == 1 else None
-    return all_states.sets if all_states else None
 
 
 def failing_by_profile(windows: List[Results]) -> Dict[str, int]:

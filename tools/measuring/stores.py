@@ -66,7 +66,7 @@ class Session(NamedTuple):
 def parse_words(words: List[str]) -> argparse.Namespace:
     """The options that the words after `measure stores` give. Wrong ones, and a name that no
     session and no folder has, end the program with status 2. The values of --disks and --time-limit
-    are only passed to checks, which may refuse them. OSError if there is no stores.json."""
+    are only passed to checks, which may refuse them. Errors as read_stores()."""
     parser = argparse.ArgumentParser(
         prog='measure stores',
         description=__doc__,
@@ -86,7 +86,7 @@ def parse_words(words: List[str]) -> argparse.Namespace:
 
 def find_sessions(names: List[str]) -> List[Session]:
     """The sessions of stores.json whose folder or key is among the names, in the order of the file;
-    all sessions if there are no names. A name that no session has is ignored. OSError as
+    all sessions if there are no names. A name that no session has is ignored. Errors as
     read_stores()."""
     sessions = [
         Session(store['folder'], name, store)
@@ -180,10 +180,11 @@ class SessionCheck:
         return ['--disks', self.options.disks] if may_try_disks else []
 
     def has_few_operations(self) -> bool:
-        """Whether the trace has MOST_OPERATIONS operations at most; acknowledged lines count as
-        operations. OSError if make_trace() hasn't made the trace."""
-        text = self.trace_path.read_bytes()
-        return text.count(b'\n{"op":') <= MOST_OPERATIONS
+        """Whether the trace, which must be as crashfs-record writes it, has MOST_OPERATIONS
+        operations at most; acknowledged lines count as operations. OSError if make_trace() hasn't
+        made the trace."""
+        trace_bytes = self.trace_path.read_bytes()
+        return trace_bytes.count(b'\n{"op":') <= MOST_OPERATIONS
 
 
 def run_command(words: List[str]) -> str:

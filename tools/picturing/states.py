@@ -74,8 +74,8 @@ def acknowledged_columns(checked: CheckedExample) -> Dict[int, str]:
 
 
 def draw_holes(picture: Picture, checked: CheckedExample, drawing: Drawing) -> None:
-    """Adds the prefixes and the states with one hole below what is there, and above the first
-    column of each acknowledged line its text and a rule."""
+    """Adds the prefixes and the states with one hole below what is there. The text of each
+    acknowledged line is above its first column, at the left side of which a rule goes down."""
     rows = rows_of_holes(drawing)
     picture.y += LINE
     for column, words in acknowledged_columns(checked).items():

@@ -93,8 +93,8 @@ class Contents:
         return tuple(sorted(ids_after.items()))
 
     def shown_content_id(self, content_id: int) -> int:
-        """The id of a content without the bytes past its size, which no reader sees. It is computed
-        only once."""
+        """The id that a content, given by its own id, has without the bytes past its size, which no
+        reader sees. It is computed only once."""
         if content_id not in self._shown_ids:
             content = self.contents.values[content_id]
             blocks = self.blocks_up_to(content.blocks, content.size)

@@ -83,8 +83,8 @@ def count_text(count: int) -> str:
 
 def picked_sets(reading: Reading, options: Options) -> Iterator[List[int]]:
     """The places of each set that the options ask for, in the order in which they are printed; a
-    set of both families comes twice. ReadingFault as sets_of_every() and, only when the first set
-    is asked for, as drawn_sets()."""
+    set of both families comes twice. The options must be some that refuse_options() accepts.
+    ReadingFault as sets_of_every() and, only when the first set is asked for, as drawn_sets()."""
     if '--every' in options:
         return sets_of_every(reading, options)
     if '--sample' in options:
@@ -97,9 +97,9 @@ def picked_sets(reading: Reading, options: Options) -> Iterator[List[int]]:
 
 
 def sets_of_every(reading: Reading, options: Options) -> Iterator[List[int]]:
-    """The places of each set that --every asks for. All sets are found before the first one is
-    returned: ReadingFault if there are more than --most, or if traces of this version can't have
-    the profile."""
+    """The places of each set that --every asks for, with the options that go with it. All sets are
+    found before the first one is returned: ReadingFault if there are more than --most, or if traces
+    of this version can't have the profile."""
     profile = options.get('--profile')
     order = Order(reading) if profile is None else order_under(reading, str(profile))
     has_different = '--different' in options

@@ -293,12 +293,12 @@ def page_end(length: int) -> int:
     return -(-length // PAGE_BYTES) * PAGE_BYTES
 
 
-def parse_trace(data: bytes) -> Reading:
+def parse_trace(trace_bytes: bytes) -> Reading:
     """The trace whose file has these bytes. ReadingFault with its first fault: no UTF-8, a fault of
     a line, no line but empty ones, or, after all lines are read, more than MICRO_OPERATIONS
     micro-operations. Empty lines, also those of blanks, are skipped, but counted."""
     try:
-        text = data.decode('utf-8')
+        text = trace_bytes.decode('utf-8')
     except UnicodeDecodeError as error:
         raise ReadingFault('trace: NotText') from error
     reading, line_reader = Reading(), LineReader()

@@ -27,6 +27,15 @@ class AcceptedStates(NamedTuple):
 NO_ACCEPTED = AcceptedStates(0, Counter())
 
 
+def set_count_of_windows(all_states: List[Optional[AllStates]]) -> Optional[int]:
+    """How many sets the rules allow in a session, from what the plan of each window knows of all
+    its crash states. None if these are too many to count, if only families were asked for, and for
+    any other number of windows than one: counts of windows can't be added."""
+    if len(all_states) != 1 or all_states[0] is None:
+        return None
+    return all_states[0].sets
+
+
 @dataclass
 class StateCounts:
     """What a check counts, over all windows. results and cause_kinds count different states, which
@@ -114,11 +123,8 @@ class StateCounts:
 
     @property
     def set_count(self) -> Optional[int]:
-        """How many sets the rules allow. None if these are too many to count, if only families were
-        asked for, for a session in several windows, and if nothing was tried."""
-        if len(self.all_states) != 1 or self.all_states[0] is None:
-            return None
-        return self.all_states[0].sets
+        """How many sets the rules allow; None as set_count_of_windows()."""
+        return set_count_of_windows(self.all_states)
 
     @property
     def tried_text(self) -> str:
