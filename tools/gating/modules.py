@@ -28,11 +28,11 @@ class ModuleResult:
     output: str = ''
 
 
-def result_of(name: str, ran: unittest.TestResult) -> ModuleResult:
-    """The result, without the output, of a module that ran. An unexpected success counts as
+def result_of(name: str, tests: unittest.TestResult) -> ModuleResult:
+    """The result, without the output, of a module whose tests ran. An unexpected success counts as
     failed."""
-    failed = len(ran.failures) + len(ran.errors) + len(ran.unexpectedSuccesses)
-    return ModuleResult(name, ran.testsRun, failed, [reason for _, reason in ran.skipped])
+    failed = len(tests.failures) + len(tests.errors) + len(tests.unexpectedSuccesses)
+    return ModuleResult(name, tests.testsRun, failed, [reason for _, reason in tests.skipped])
 
 
 def run_here(name: str, result_path: Path) -> int:
@@ -50,7 +50,7 @@ def run_module(name: str) -> ModuleResult:
     with tempfile.TemporaryDirectory() as folder:
         path = Path(folder) / 'result'
         words = ['--module', name, '--result', str(path)]
-        ran = subprocess.run(
+        completed = subprocess.run(
             [sys.executable, '-m', 'gating.suite', *words],
             cwd=TOOLS,
             stdin=subprocess.DEVNULL,
@@ -63,5 +63,5 @@ def run_module(name: str) -> ModuleResult:
             result = ModuleResult(**json.loads(path.read_text('utf-8')))
         except (OSError, ValueError):
             result = ModuleResult(name, failed=1)
-    result.output = ran.stdout
+    result.output = completed.stdout
     return result

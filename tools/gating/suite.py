@@ -97,10 +97,10 @@ def summary_line(results: Sequence[ModuleResult], *, needs_program: bool) -> str
     if skips:
         reasons = Counter(skips).most_common()
         line += f' ({"; ".join(f"{count}: {reason}" for reason, count in reasons)})'
-    wrongly_skipped = count_skipped_for_program(skips) if needs_program else 0
+    wrong_skips = count_skipped_for_program(skips) if needs_program else 0
     return (
-        f'{line}; {wrongly_skipped} must not be skipped, as crashfs is built'
-        if wrongly_skipped
+        f'{line}; {wrong_skips} must not be skipped, as crashfs is built'
+        if wrong_skips
         else line
     )
 

@@ -67,10 +67,10 @@ def member_header(path: str, kind: bytes, mode: int, seconds: int) -> tarfile.Ta
     """The header of a tar member that belongs to root. `kind` is a type of tarfile, such as
     DIRTYPE; `seconds` is the member's time, in seconds since 1970. The caller sets the size of a
     file and the target of a link."""
-    info = tarfile.TarInfo(path)
-    info.type, info.mode, info.mtime = kind, mode, seconds
-    info.uname = info.gname = 'root'
-    return info
+    header = tarfile.TarInfo(path)
+    header.type, header.mode, header.mtime = kind, mode, seconds
+    header.uname = header.gname = 'root'
+    return header
 
 
 def add_item(archive: tarfile.TarFile, path: str, item: Item, seconds: int) -> None:

@@ -136,12 +136,12 @@ def end_children(
     it is a reaper, the orphans that become its children then, until none remains. Waits for them:
     their statuses are lost. Returns those that still run after `seconds`, each with the name of its
     program; empty if none does. A cleaner has CLEANING_SECONDS to end by itself."""
-    started = time.monotonic()
+    start_time = time.monotonic()
     while True:
         remaining = child_processes() - spared
         if not remaining:
             return {}
-        elapsed = time.monotonic() - started
+        elapsed = time.monotonic() - start_time
         kill_unless_cleaning(remaining, elapsed, kill_with_group)
         running = [child for child in remaining if not reap_if_ended(child)]
         if elapsed > seconds:

@@ -237,11 +237,11 @@ def end_processes_with_token(token: str) -> None:
     """Kills all processes with a token, again and again until none is found, since one may have
     just forked. It doesn't wait for their ends. After ENDING_SECONDS it returns, even if some are
     left. A cleaner has CLEANING_SECONDS to end by itself. OSError without /proc."""
-    started = time.monotonic()
-    while time.monotonic() < started + descendants.ENDING_SECONDS:
+    start_time = time.monotonic()
+    while time.monotonic() < start_time + descendants.ENDING_SECONDS:
         processes = processes_with_token(token)
         if not processes:
             return
-        elapsed = time.monotonic() - started
+        elapsed = time.monotonic() - start_time
         descendants.kill_unless_cleaning(processes, elapsed, descendants.kill_process)
         time.sleep(0.01)

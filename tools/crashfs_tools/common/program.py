@@ -220,7 +220,7 @@ class Crashfs:
 
     def count_states(self, trace: str, *, with_holes: bool = True) -> int:
         """How many states a trace has: its prefixes, and, if with_holes, also the holes; equal
-        states count too. ProgramFault if the program refuses the trace, or prints no list."""
+        states count too. Errors as output_of(); ProgramFault also if the program prints no list."""
         listing = self.output_of(['list', '--trace', trace, *(['--holes'] if with_holes else [])])
         words = listing.rstrip('\n').rpartition('\n')[2].split(' ')
         # The states are numbered from 0, and the last line is that of the last state.
@@ -229,8 +229,8 @@ class Crashfs:
         return int(words[1]) + 1
 
     def tree_of_state(self, trace: str, state: int) -> Entries:
-        """The tree of the state with this number, without the root. ProgramFault if there is no
-        such state, or if the program refuses the trace."""
+        """The tree of the state with this number, without the root. Errors as tree_with_root():
+        ProgramFault if there is no such state, or if the program refuses the trace."""
         tree = self.tree_with_root(['--trace', trace, '--state', str(state)])
         tree.pop('/', None)
         return tree

@@ -11,7 +11,7 @@ ZEROS = bytes(PAGE_BYTES)
 GAP_BYTES = 16
 GAP = re.compile(b'\0{%d,}' % GAP_BYTES)
 # Text that is long enough to be a part of its own: it takes half the room in a trace.
-TEXT = re.compile(rb'[ -~\n]{48,}')
+LONG_TEXT = re.compile(rb'[ -~\n]{48,}')
 # A part has no more bytes, so that no line is made from one huge text.
 PART_BYTES = 1 << 20
 # Smaller files are kept whole.
@@ -45,9 +45,9 @@ class SparseBytes:
 
     def copy(self) -> SparseBytes:
         """A copy: a change of one doesn't change the other."""
-        copied = SparseBytes(self.length)
-        copied.pages = {number: page.copy() for number, page in self.pages.items()}
-        return copied
+        new = SparseBytes(self.length)
+        new.pages = {number: page.copy() for number, page in self.pages.items()}
+        return new
 
     def __len__(self) -> int:
         return self.length
@@ -141,8 +141,8 @@ class SparseBytes:
         self.length = length
 
     def parts(self) -> List[Part]:
-        """What isn't zero, as pieces after their offsets, ascending. A long text (TEXT) is a part
-        by itself. Any other part has fewer than GAP_BYTES zeros in a row, and zeros at an edge only
+        """What isn't zero, as pieces after their offsets, ascending. Each LONG_TEXT is a part by
+        itself. Any other part has fewer than GAP_BYTES zeros in a row, and zeros at an edge only
         next to a long text."""
         return [part for begin, run in self.page_runs() for part in split_parts(begin, run)]
 
@@ -174,12 +174,12 @@ def split_parts(begin: int, data: bytes) -> Iterator[Part]:
 
 
 def split_texts(begin: int, data: bytes) -> Iterator[Part]:
-    """The bytes at an offset of a file, without the zeros at their edges, split so that each long
-    text (TEXT) is a part by itself. Each part comes after its offset; there is none if all bytes
-    are zeros."""
+    """The bytes at an offset of a file, without the zeros at their edges, split so that each
+    LONG_TEXT is a part by itself. Each part comes after its offset; there is none if all bytes are
+    zeros."""
     begin += len(data) - len(data.lstrip(b'\0'))
     stripped, end = data.strip(b'\0'), 0
-    for text in TEXT.finditer(stripped):
+    for text in LONG_TEXT.finditer(stripped):
         if text.start() > end:
             yield begin + end, stripped[end : text.start()]
         yield begin + text.start(), text[0]

@@ -240,7 +240,7 @@ SINCE: Dict[Type[Any], int] = {
 }
 # Smaller files of the start tree are written whole; a part takes room for so many bytes more.
 LEAST_BYTES_IN_PARTS, PART_OVERHEAD = 1_024, 16
-KIND_OF = {made: kind for kind, made in KINDS.items()}
+KIND_OF = {line_class: kind for kind, line_class in KINDS.items()}
 # The keys of a directory in the start tree, which has no bytes.
 DIRECTORY_KEYS = ('path', 'owner', 'group', 'mode')
 # The keys of a line that have another name in Python.

@@ -79,14 +79,15 @@ class DiskWorkers(Generic[Task, Result]):
                 busy_pipes.remove(pipe)
 
     def start_processes(self, count: int) -> None:
-        """Starts so many processes. OSError as start_process(): the ones that it started before run
-        on."""
+        """Starts so many processes. OSError as start_process(): the ones that were started before
+        run on, until the end of the `with`."""
         for _ in range(count):
             self.start_process()
 
     def start_process(self) -> None:
         """Starts a process, and adds it to `processes`. Signals wait meanwhile: the new process
-        must not handle a signal as this process does. OSError if the system can't fork."""
+        must not handle a signal as this process does. OSError if the system can't fork, or has no
+        more pipes."""
         own_end, worker_end = Pipe()
         with stop_signals_blocked() as blocked_before:
             process = os.fork()
