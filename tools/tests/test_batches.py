@@ -142,10 +142,10 @@ class Paces(unittest.TestCase):
 
     def test_shares_are_rounded_up(self) -> None:
         for share, text in [
-            (1 - 0.05 ** (1 / 10_000), '0.030%'),
-            (1 - 0.05 ** (1 / 1_000), '0.30%'),
-            (0.0301, '3.1%'),
-            (0.31, '31%'),
+            (1 - 0.05 ** (1 / 10_000), '0.030 %'),
+            (1 - 0.05 ** (1 / 1_000), '0.30 %'),
+            (0.0301, '3.1 %'),
+            (0.31, '31 %'),
         ]:
             self.assertEqual(share_text(share), text)
 

@@ -35,9 +35,9 @@ def main(arguments: List[str]) -> None:
 
 def load_module(path: str, name: str) -> object:
     """Imports the module of a file: by its name, if that finds this file; else by load_file(), as
-    for a script that ran as `__main__`. What the import raises is passed on; only after a
-    ModuleNotFoundError by the name the file is tried. If the name finds another file, that has run
-    too."""
+    for a script that ran as `__main__`. If the name finds another file, that has run too. What the
+    import raises is passed on, except a ModuleNotFoundError of the import by name: then the file is
+    tried."""
     try:
         module = importlib.import_module(name)
         # The `__main__` of this Python has no file.

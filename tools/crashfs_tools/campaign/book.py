@@ -7,7 +7,7 @@ import json
 import re
 from dataclasses import asdict, dataclass, field
 from pathlib import Path
-from typing import Dict, Iterable, List, Tuple
+from typing import Any, Dict, Iterable, List, Tuple
 
 from crashfs_tools.common.command import Refused
 from crashfs_tools.common.whole_files import write_whole_file
@@ -85,23 +85,28 @@ def read_book(path: Path, identity: List[object], first_seed: int) -> Book:
     there is no file. The next seed is the one after the last that was tried, or first_seed if that
     is later. Refused if the file is no book of this VERSION, or of a campaign with another
     identity; OSError if it can't be read."""
-    book = Book(path, identity, first_seed)
     if not path.exists():
-        return book
+        return Book(path, identity, first_seed)
     try:
         fields = json.loads(path.read_text('utf-8', 'surrogateescape'))
         is_same = fields['crashfs-campaign'] == VERSION and fields['identity'] == identity
         if is_same:
-            book.next_seed = max(first_seed, fields['next_seed'])
-            book.sessions = fields['sessions']
-            book.faults = [(seed, text) for seed, text in fields['faults']]
-            for entry_fields in fields['entries']:
-                key, failure = entry_fields.pop('key'), Failure(**entry_fields.pop('failure'))
-                book.entries[key] = KnownFailure(failure, **entry_fields)
+            return book_of_fields(path, fields, first_seed)
     except (ValueError, KeyError, TypeError, AttributeError) as error:
         raise Refused(f'{path} is no file of crashfs-campaign') from error
-    if not is_same:
-        raise Refused(f'{path} is of other commands: name another directory')
+    raise Refused(f'{path} is of other commands: name another directory')
+
+
+def book_of_fields(path: Path, fields: Dict[str, Any], first_seed: int) -> Book:
+    """The book whose save() wrote these fields; its next seed is at least first_seed. ValueError,
+    KeyError, TypeError or AttributeError if the fields are of no book. The fields of the entries
+    are changed."""
+    next_seed = max(first_seed, fields['next_seed'])
+    book = Book(path, fields['identity'], next_seed, fields['sessions'])
+    book.faults = [(seed, text) for seed, text in fields['faults']]
+    for entry_fields in fields['entries']:
+        key, failure = entry_fields.pop('key'), Failure(**entry_fields.pop('failure'))
+        book.entries[key] = KnownFailure(failure, **entry_fields)
     return book
 
 

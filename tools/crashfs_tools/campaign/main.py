@@ -58,22 +58,27 @@ class Campaign:
             remove_tree(str(self.work))
 
     def try_seed(self, seed: int) -> None:
-        """Records and checks the session of a seed, adds what is found to the book, and saves the
-        book. A session that can't be recorded, or whose check gives no whole verdict, is among the
-        book's faults and counts as tried; failures that an incomplete check found count too. Raises
-        what Sessions does, and OSError if RESULTS can't be written: then the book's file doesn't
-        have the seed."""
-        fault = self.sessions.record(seed)
-        checked = SessionVerdict(fault=fault) if fault else self.sessions.check(self.sessions.trace)
-        if checked.fault:
-            self.book.faults.append((seed, checked.fault))
-        for key, failure in failures_by_key(checked.failures).items():
+        """Tries the session of a seed, adds what is found to the book, and saves the book. A
+        session without a whole verdict is among the book's faults and counts as tried; failures
+        that an incomplete check found count too. If nothing was printed for EVERY_SECONDS, prints a
+        line. Raises what Sessions does, and OSError if RESULTS can't be written: then the book's
+        file doesn't have the seed."""
+        verdict = self.verdict_of_seed(seed)
+        if verdict.fault:
+            self.book.faults.append((seed, verdict.fault))
+        for key, failure in failures_by_key(verdict.failures).items():
             self.add_failure(seed, key, failure)
         self.book.sessions += 1
         self.book.next_seed = seed + 1
         self.book.save()
         if time.monotonic() - self.print_time >= EVERY_SECONDS:
             self.print_progress(f'seed {seed}: {verdict_line(self.book)}')
+
+    def verdict_of_seed(self, seed: int) -> SessionVerdict:
+        """Records and checks the session of a seed. If it can't be recorded, the verdict is only
+        that fault. Raises what Sessions does."""
+        fault = self.sessions.record(seed)
+        return SessionVerdict(fault=fault) if fault else self.sessions.check(self.sessions.trace)
 
     def print_progress(self, line: str) -> None:
         """Prints a line on standard error, after the command's name and with its control characters
@@ -130,10 +135,10 @@ def open_book(options: CampaignOptions) -> Book:
 
 
 def run_campaign(arguments: List[str]) -> int:
-    """Runs a campaign, prints its report, and returns the status, also after a stop: once the
-    campaign has begun, the first signal that stops a command does that, and later ones are ignored.
-    Refused input gives a line and the status BAD_INPUT. A wrong word, --help and --version end the
-    program (SystemExit). Any other error is raised, without a report: what was saved stays."""
+    """Runs a campaign, prints its report, and returns the status. Once the campaign has begun, the
+    first signal of a stop ends it, with a report, and later ones are ignored. Refused input gives a
+    line and the status BAD_INPUT. A wrong word, --help and --version end the program (SystemExit).
+    Any other error is raised, without a report: what was saved stays."""
     try:
         options = read_options(arguments)
         campaign = Campaign(options, open_book(options))

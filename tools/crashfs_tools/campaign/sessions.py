@@ -62,8 +62,8 @@ class Sessions:
     def record(self, seed: int) -> str:
         """Records SESSION with a seed, in a new store: empty, or a copy of --start. Returns why
         there is no trace that can be checked; an empty text if there is one. An incomplete trace
-        can't be checked. OSError if the last store can't be removed, or if --start can't be
-        copied."""
+        can't be checked. OSError if the last store can't be removed, if --start can't be copied, or
+        as run_tool()."""
         store = self.folder / 'store'
         remove_tree(str(store))
         if self.options.start is None:

@@ -27,9 +27,10 @@ STATUSES = {GOOD: NONE_FAILS, BAD: SOME_FAIL, NO_ANSWER: NOT_ALL_TRIED}
 
 def show_state(options: Options, guard: Guard) -> int:
     """Tries and shows the state that --state, which must be given, names; for N/M it records the
-    recovery of state N, and shows state M of that recovery. Returns the exit status. Refused as
-    open_trace(), if there is no such state, or if the recovery can't be recorded. Options for a
-    whole check, such as --fail-fast or --cache, are ignored."""
+    recovery of state N, and shows state M of that recovery. Returns the exit status. Refused if
+    there is no such state; other exceptions as in open_trace(), CheckedTrace.all_planned(),
+    record_recovery() and try_and_show(). Options for a whole check, such as --fail-fast or --cache,
+    are ignored."""
     with open_trace(options, guard, Progress()) as trace:
         assert options.state is not None
         number, recovery_number = options.state

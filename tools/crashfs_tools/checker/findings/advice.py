@@ -12,6 +12,8 @@ from .sync_points import LinePairs, end_of_path, is_synced, sync_points
 from .wording import fail_verb, failing_states_text
 
 ATOMIC = 'write a new file, sync it, rename it, sync the directory'
+TORN_WRITE = f'a record that recovery may drop needs a checksum; for all else, {ATOMIC}'
+TORN_RENAME = 'a rename within one directory is one change'
 ONE_CHANGE = f'no sync helps: make these lines one change ({ATOMIC})'
 NOT_REPRODUCIBLE = (
     'not reproducible: another run passed',
@@ -180,9 +182,7 @@ def kept_text(kept: TraceLine) -> str:
 def torn_advice(line: TraceLine, kept_part: str) -> Advice:
     """The advice for a line of which a crash kept only a part. kept_part says in words what the
     crash kept and what it lost. There are no syncs, since none helps."""
-    remedy = f'a record that recovery may drop needs a checksum; for all else, {ATOMIC}'
-    if line.word == 'rename':
-        remedy = 'a rename within one directory is one change'
+    remedy = TORN_RENAME if line.word == 'rename' else TORN_WRITE
     return Advice(
         [f'line {line.number} ({line.text}) was torn: a crash kept {kept_part}'],
         f'no sync helps: {remedy}',

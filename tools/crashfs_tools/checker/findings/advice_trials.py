@@ -130,9 +130,9 @@ class AdviceTrials:
 
     def known_copy(self, copy_path: str) -> Optional[SyncedCopy]:
         """The plan of a written copy by the second reading only, and the keys of its states. None
-        unless each of them is equal to a state of the trace that was tried, as with all crash
-        states listed: syncs only take states away. Exceptions as in
-        Planner.plan_different_states()."""
+        if the copy has too many states, if one isn't equal to a tried state of the trace, or if not
+        all crash states of the trace are listed. If all were tried, the copy has no others: syncs
+        only take states away. Exceptions as in Planner.plan_different_states()."""
         if self.listed_sets is None:
             return None
         planned = self.planner.plan_different_states(copy_path, self.findings.plan)

@@ -45,8 +45,7 @@ def find_losses(trials: Trials, planner: Planner, findings: Findings) -> None:
     """Finds the smallest losses of examples whose pair is a guess: of at most SEARCHED examples, or
     SEARCHED_OF_ALL if all crash states are listed. Adds them to the findings, which make their
     groups again; after an exception those that were added stay. The planner makes plans of the sets
-    to try: Refused if the program refuses one. Other exceptions as in find_equal_sets() and
-    Trials.try_states()."""
+    to try. Exceptions as in find_equal_sets(), Planner.plan_sets() and Trials.try_states()."""
     equal_sets = find_equal_sets(trials.planned, findings)
     left_count = SEARCHED_OF_ALL if findings.plan.has_all_states else SEARCHED
     while left_count > 0:
@@ -147,8 +146,8 @@ class LossSearches:
     def try_sets(self, sets: List[int]) -> None:
         """Tries sets that the order allows, and adds each outcome to `outcomes` as it comes; some
         are missing if an exception or --fail-fast ends the trial. Of a set that is a prefix too,
-        the prefix is tried. Refused if the program refuses the sets; other exceptions as in
-        Trials.try_states(). A later call replaces the file of the sets."""
+        the prefix is tried. Exceptions as in Planner.plan_sets() and Trials.try_states(). A later
+        call replaces the file of the sets."""
         planned = self.planner.plan_sets(self.trials.planned, sets)
         kept_sets, states = planned.plan.kept, reversed(planned.plan.states)
         numbers = {kept_sets[state.number]: state.number for state in states}

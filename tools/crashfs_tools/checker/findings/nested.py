@@ -70,8 +70,8 @@ class RecoveryRecorder:
         """Records COMMAND, by a process of the recorder, in a directory that has a state's tree,
         and writes the trace to a file, with what header_options() takes from the session's trace.
         COMMAND may fail; what it prints is dropped. The recorder may take SLOWER times as long as
-        COMMAND. Refused if it takes longer, and is killed, or if it writes no trace; OSError if it
-        can't be started, or the session's trace can't be read."""
+        --timeout gives COMMAND. Refused if it takes longer, and is killed, or if it writes no
+        trace; OSError if it can't be started, or the session's trace can't be read."""
         checker = self.trials.new_checker()
         options = ['--no-say', *header_options(self.trials.planned.trace)]
         recorder_words = [sys.executable, '-S', '-c', RECORD, *options, directory, trace, '--']

@@ -9,7 +9,7 @@ from crashfs_tools.checker.running.runner import BAD, GOOD, NO_ANSWER
 from crashfs_tools.checker.states.plan import State
 from crashfs_tools.checker.states.place_sets import size_of
 
-# The results of states as the page's triangle has them; '-' is a state that wasn't tried.
+# The results of states as the page draws them; '-' is a state that wasn't tried.
 SIGNS = {GOOD: 'g', BAD: 'b', NO_ANSWER: 'n'}
 
 Drawing = Dict[str, Any]

@@ -52,8 +52,8 @@ class Summary:
     @property
     def states_text(self) -> str:
         """How many crash states there are, with `all` only if each was tried, and no loss was cut
-        off by a window's end. If only a part of the states is tried, how many of how many; if not
-        all crash states were asked for, how many states of some families there are."""
+        off by a window's end. If only a part of the states is tried, how many of all were tried; if
+        not all crash states were asked for, how many states of some families there are."""
         counts = self.counts
         under = f' under {counts.profile}' if counts.profile else ''
         if counts.is_part:
@@ -174,13 +174,13 @@ def drawn_text(counts: StateCounts) -> str:
     sets = f'{counts.set_count:,} sets' if counts.set_count is not None else 'sets'
     share = share_text(1 - (1 - CONFIDENCE) ** (1 / drawn))
     return (
-        f'{drawn:,} drawn at random, none fails: with {CONFIDENCE:.0%} confidence fewer than '
-        f'{share} of the {sets} do'
-    ).replace('%', ' %')
+        f'{drawn:,} drawn at random, none fails: with {CONFIDENCE * 100:.0f} % confidence fewer '
+        f'than {share} of the {sets} do'
+    )
 
 
 def share_text(share: float) -> str:
-    """A share, above 0 and up to 1, as a percentage with two significant digits, rounded up, and
-    without a blank before the sign."""
+    """A share, above 0 and up to 1, as a percentage with two significant digits, rounded up, such
+    as `0.30 %`."""
     digits = 1 - math.floor(math.log10(share * 100))
-    return f'{math.ceil(share * 100 * 10**digits) / 10**digits:.{max(0, digits)}f}%'
+    return f'{math.ceil(share * 100 * 10**digits) / 10**digits:.{max(0, digits)}f} %'

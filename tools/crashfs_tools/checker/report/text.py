@@ -317,9 +317,9 @@ def profiles_text(group: Group, *, are_all: bool) -> str:
     those that allow none; counts_by_profile() must not be empty. are_all says whether all sets that
     leave the states were looked at; if not, the text says so."""
     counts = counts_by_profile(group)
-    has_no_part = all(count in (0, group.count) for count in counts.values())
+    has_parts = any(0 < count < group.count for count in counts.values())
     allowing = [
-        profile_text(name) if has_no_part else f'{profile_text(name)}: {count:,}'
+        f'{profile_text(name)}: {count:,}' if has_parts else profile_text(name)
         for name, count in counts.items()
         if count
     ]
