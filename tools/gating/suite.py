@@ -98,11 +98,9 @@ def summary_line(results: Sequence[ModuleResult], *, needs_program: bool) -> str
         reasons = Counter(skips).most_common()
         line += f' ({"; ".join(f"{count}: {reason}" for reason, count in reasons)})'
     wrong_skips = count_skipped_for_program(skips) if needs_program else 0
-    return (
-        f'{line}; {wrong_skips} must not be skipped, as crashfs is built'
-        if wrong_skips
-        else line
-    )
+    if wrong_skips:
+        line += f'; {wrong_skips} must not be skipped, as crashfs is built'
+    return line
 
 
 def has_passed(results: Sequence[ModuleResult], *, needs_program: bool) -> bool:
