@@ -18,6 +18,12 @@ TARGET_BYTES = 4_095
 USER_BYTES = 64
 
 
+def round_up_to_pages(length: int) -> int:
+    """The smallest multiple of PAGE_BYTES that is at least a length: the end of the last page of a
+    file of this length."""
+    return -(-length // PAGE_BYTES) * PAGE_BYTES
+
+
 def most_file_bytes(version: int) -> int:
     """The largest length that a file may have in a trace of this version."""
     return LARGE_FILE_BYTES if version >= 4 else FILE_BYTES

@@ -312,7 +312,7 @@ class Tree:
         entry, length = self.entries[operation.path], operation.length
         old_size = len(entry.data or b'')
         entry.resize(length)
-        zeros_end = min(page_end(length), old_size)
+        zeros_end = min(limits.round_up_to_pages(length), old_size)
         if length < zeros_end:
             self.micro_operations_of_version_4 += self.count_blocks(length, zeros_end)
         return int(old_size != length)
@@ -339,16 +339,10 @@ def symlink_entry(line: Union[Symlink, StartSymlink]) -> Entry:
     return Entry(line.owner, line.group, 0o777, None, line.link)
 
 
-def page_end(length: int) -> int:
-    """The end of the last page of a file of this length; the length itself if it is whole pages, as
-    0 is."""
-    return -(-length // limits.PAGE_BYTES) * limits.PAGE_BYTES
-
-
 def is_growth_past_page(old_size: int, end: int) -> bool:
     """Whether a write up to `end` gives a file two new sizes in version 4: first the end of its
     last page, if that isn't full, and then its own end."""
-    return old_size < page_end(old_size) < end
+    return old_size < limits.round_up_to_pages(old_size) < end
 
 
 def start_lines(entries: Entries, files: Dict[str, int]) -> Tuple[Header, List[StartLine]]:

@@ -1,5 +1,5 @@
-"""Parses the access control list of a file, as its extended attribute has it: it sets the mode,
-too."""
+"""Parses access control lists, as the extended attribute NAME has them. A list that is set also
+sets the file's mode."""
 
 from __future__ import annotations
 

@@ -88,8 +88,8 @@ def escape_text(data: bytes) -> str:
 
 def pack_word(word: str) -> str:
     """A string argument, or a vector of strings, in a quarter of its size: PACKED, then a character
-    for each byte. Returns the word unchanged if it has no string, if strace doesn't show all its
-    bytes, or if they aren't in hexadecimal digits."""
+    for each byte. Returns the word unchanged if it has no string, if strace cut a string or printed
+    its address, or if the bytes aren't in hexadecimal digits."""
     if '"' not in word:
         return word
     try:

@@ -4,6 +4,7 @@ from __future__ import annotations
 
 import fnmatch
 
+from crashfs_tools.common.command import parse_number
 from crashfs_tools.common.trace import Say
 from crashfs_tools.common.tree import start_lines
 
@@ -16,16 +17,17 @@ class LateStart:
     recording's on_acknowledged."""
 
     def __init__(self, recording: Recording, number_or_pattern: str) -> None:
-        """Makes count_line() the recording's on_acknowledged. A text of digits only is a number;
-        any other is a pattern of fnmatch."""
-        self.recording, self.number_or_pattern = recording, number_or_pattern
+        """Makes count_line() the recording's on_acknowledged. What parse_number() takes is a
+        number; any other text is a pattern of fnmatch."""
+        self.recording, self.pattern = recording, number_or_pattern
+        self.number = parse_number(number_or_pattern)
         self.line_count = 0
         self.has_begun = False
         recording.on_acknowledged = self.count_line
 
     def count_line(self, line: Say) -> None:
         """Counts an acknowledged line. If this is the first wanted line, the trace begins again;
-        later lines that the pattern matches change nothing."""
+        later lines are only counted."""
         self.line_count += 1
         if not self.has_begun and self.is_wanted(line.text):
             self.has_begun = True
@@ -34,9 +36,9 @@ class LateStart:
     def is_wanted(self, text: str) -> bool:
         """Whether the line that was counted last, which has this text, has the wanted number, or
         matches the pattern, in which upper and lower case differ."""
-        if self.number_or_pattern.isdecimal():
-            return self.line_count == int(self.number_or_pattern)
-        return fnmatch.fnmatchcase(text, self.number_or_pattern)
+        if self.number is not None:
+            return self.line_count == self.number
+        return fnmatch.fnmatchcase(text, self.pattern)
 
 
 def restart_trace(recording: Recording) -> None:

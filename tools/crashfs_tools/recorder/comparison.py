@@ -37,8 +37,8 @@ class ReplayReader(LastStateReader):
 
     def read_entries(self) -> Entries:
         """The entries at the end of the replay, without the root; to be called once, as it reads
-        the lines. ValueError or TraceError for a trace that `crashfs` would refuse; any error that
-        the lines raise, as an OSError of lines_of_file()."""
+        the lines. TraceError, ValueError or KeyError for a trace that `crashfs` would refuse, as in
+        tree_at_end(); any error that the lines raise, as an OSError of lines_of_file()."""
         tree = tree_at_end(self.lines)
         del tree.entries['/']
         return tree.entries

@@ -64,7 +64,13 @@ def scan_directory(top: str, is_ignored: IsIgnored, version: int = NEWEST) -> Sc
     """What traces of a version can have of the directory `top`, and what they can't. Ignored paths,
     and what is below them, are left out. OSError if the directory isn't there, or if an entry can't
     be read or is removed meanwhile."""
-    return Scanner(top, is_ignored, version).scan_all()
+    return Scanner(top, is_ignored, version, read_header(top)).scan_all()
+
+
+def read_header(top: str) -> Header:
+    """The owner, group and mode of a directory; OSError if it isn't there."""
+    status = os.stat(top)
+    return Header(user_name(status.st_uid), group_name(status.st_gid), permission_bits(status))
 
 
 class Scanner:
@@ -72,14 +78,11 @@ class Scanner:
     first_paths has the path that was found first, and unseen_names how many of its names were not
     found yet."""
 
-    def __init__(self, top: str, is_ignored: IsIgnored, version: int) -> None:
-        """Reads the owner, group and mode of the directory itself; scan_all() reads its entries.
-        OSError if the directory isn't there."""
+    def __init__(self, top: str, is_ignored: IsIgnored, version: int, header: Header) -> None:
+        """Reads nothing yet. The header is that of the directory `top`, as read_header() returns
+        it."""
         self.top, self.is_ignored, self.version = top, is_ignored, version
-        status = os.stat(top)
-        self.scan = Scan(
-            Header(user_name(status.st_uid), group_name(status.st_gid), permission_bits(status))
-        )
+        self.scan = Scan(header)
         self.first_paths: Dict[Tuple[int, int], str] = {}
         self.unseen_names: Dict[Tuple[int, int], int] = {}
 

@@ -88,8 +88,8 @@ def translate_piece(pattern: str, position: int) -> Tuple[str, int]:
 def translate_stars(pattern: str, position: int) -> Tuple[str, int]:
     """All stars from a position of a pattern on, in the form of translate_piece(). Two or more
     stars that are a whole name of the pattern match any number of names, each with the slash after
-    it, and at the pattern's end all that is left. Other stars match what one star does: any
-    characters but a slash."""
+    it, or, at the pattern's end and before an escaped slash, any characters. Other stars match what
+    one star does: any characters but a slash."""
     after_stars = pattern[position:].lstrip('*')
     end = len(pattern) - len(after_stars)
     is_after_slash = pattern[:position][-1:] in ('', '/')
@@ -144,27 +144,28 @@ class IgnoreRules:
         self.answers: Dict[str, bool] = {}
 
     def __call__(self, path: str) -> bool:
-        """Whether a path, which begins with `/`, or a directory above it is left out. The first
+        """Whether a path, which begins with `/`, or a directory above it is ignored. The first
         answer for a path is kept, even if the file becomes a directory later."""
         if not self.rules:
             return False
         if path not in self.answers:
             parent = path.rpartition('/')[0]
-            is_parent_left_out = parent != '' and self(parent)
-            self.answers[path] = is_parent_left_out or self.is_left_out(path)
+            is_parent_ignored = parent != '' and self(parent)
+            self.answers[path] = is_parent_ignored or self.is_ignored_itself(path)
         return self.answers[path]
 
-    def is_left_out(self, path: str) -> bool:
-        """Whether the last pattern that matches a path leaves it out; directories above it don't
-        count. Patterns of directories look at the disk. False for the root."""
-        relative_path, is_left_out = path.strip('/'), False
+    def is_ignored_itself(self, path: str) -> bool:
+        """Whether the last pattern that matches a path doesn't begin with `!`; False if none does,
+        and for the root. Directories above the path don't count. A pattern of directories looks at
+        the disk."""
+        relative_path, is_ignored = path.strip('/'), False
         if not relative_path:
             return False
         for rule in self.rules:
             may_match = not rule.is_of_directories or not self.is_file(path)
             if may_match and rule.regex.fullmatch(relative_path):
-                is_left_out = not rule.is_negated
-        return is_left_out
+                is_ignored = not rule.is_negated
+        return is_ignored
 
     def is_file(self, path: str) -> bool:
         """Whether a path is a plain file on the disk now, or a link to one. False if nothing is

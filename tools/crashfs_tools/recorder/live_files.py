@@ -58,8 +58,8 @@ class StartConditions:
 
 
 class LateSync(NamedTuple):
-    """A sync that a write makes at its end (O_SYNC), while its line in the log hasn't ended yet:
-    the write, the file, and the range of its bytes."""
+    """A sync that a write makes at its end (O_SYNC), if that is on a later line of the log than its
+    beginning: the write, the file, and the range of its bytes."""
 
     call: Call
     node: Node
@@ -173,8 +173,8 @@ class LiveFiles:
     ) -> Optional[Node]:
         """The file or directory at the path in the argument with this index. A symbolic link at its
         end is followed, unless follow_last_link is False: then it is returned itself. A path such
-        as /proc/self/fd/3 means that descriptor's file. None if nothing is known there, or if
-        path_argument() returns None."""
+        as /proc/self/fd/3 means that descriptor's file. None if nothing is known there, for a
+        stream, or if path_argument() returns None."""
         file = self.open_file_of_path(process, call.argument(index))
         if file is not None:
             return file.node
@@ -225,9 +225,9 @@ class LiveFiles:
     def find_output_stream(
         self, process: Process, call: Call, index: int = 0
     ) -> Optional[OutputStream]:
-        """The output stream of the descriptor in the argument with this index. A stream that isn't
-        known is made if --say-fd names the descriptor; None for a file, and for any other stream.
-        If it is standard output, what strace shows for the descriptor is added to the streams."""
+        """The output stream of the descriptor in the argument with this index; None for a file. If
+        the descriptor isn't followed, it is what OutputStreams.find_stream() finds or makes. If it
+        is standard output, what strace shows for the descriptor is added to the streams."""
         descriptor = call.descriptor(index)
         streams = self.recording.streams
         file = process.descriptors.files.get(descriptor.number)

@@ -149,9 +149,9 @@ class LogStream:
 
     def copy_and_continue(self, mapped_files: MappedFiles, thread: int, lines: PipeLines) -> None:
         """Waits until all threads of a stopped thread's process are stopped, as in
-        wait_until_stopped(), adds a copy of the mapped files, and continues the process; then does
-        the same for other processes that were stopped meanwhile. Nothing for a process that has
-        ended or runs again."""
+        wait_until_stopped(), reads the lines that report this, adds a copy of the mapped files, and
+        continues the process; then does the same for other processes that these lines report as
+        stopped. Nothing for a process that has ended or runs again."""
         process = stopped_processes.read_process_of_thread(thread)
         if process is None:
             return

@@ -59,7 +59,7 @@ class RecordedRun:
 
 def run_under_strace(options: RecordOptions, guard: Guard) -> RecordedRun:
     """Runs COMMAND under strace to its end, without a time limit, and ends the processes that it
-    leaves, also after an error. Refused if there is no strace, or no log of a whole run; LogError
+    leaves, also after an error. Refused as in find_strace() and refuse_incomplete_log(); LogError
     if the log isn't strace's; OSError if a file for the log can't be made or opened, strace can't
     be started, standard output can't be written, or a mapped file can't be read."""
     strace = strace_run.find_strace()

@@ -7,7 +7,7 @@ import bisect
 from typing import Dict, Iterator, List, Optional, Tuple
 
 from crashfs_tools.common.file_bytes import Bytes
-from crashfs_tools.common.sparse import PAGE_BYTES, SparseBytes
+from crashfs_tools.common.sparse import PAGE_BYTES, SparseBytes, pages_to_compare
 
 from .live_tree import Node
 from .mapped_files import STOPPING_CALLS, FileCopies, FileCopy
@@ -57,9 +57,9 @@ def call_after_stores(
     copy: FileCopy, last_call: Call, calls_since_copy: List[Call], indexes: Dict[int, int]
 ) -> Call:
     """The call before which the stores that a copy shows were made. It is last_call, the stopped
-    thread's last one. But if other threads ran, it is that of the STOPPING_CALLS since the earlier
-    copy which is first in the trace, if there is any. `indexes` has the place of each call in the
-    trace, by the call's id."""
+    thread's last one. But if other threads ran, it is the first in the trace of the STOPPING_CALLS
+    since the earlier copy, if there is any. `indexes` has the place of each call in the trace, by
+    the call's id."""
     stopping_calls = [call for call in calls_since_copy if call.name in STOPPING_CALLS]
     if copy.is_alone or not stopping_calls:
         return last_call
@@ -78,7 +78,7 @@ def add_stores(files: LiveFiles, node: Node, data: Bytes, *, has_one_writer: boo
             'a copy of the mapped file has another size than is known', node.name
         )
         return
-    for page in page_offsets(node.data, SparseBytes.copy_of(data)):
+    for page in pages_to_compare(node.data, SparseBytes.copy_of(data), node.size):
         page_end = page + PAGE_BYTES
         start, end = differing_range(node.data[page:page_end], data[page:page_end])
         if start == end:
@@ -88,12 +88,6 @@ def add_stores(files: LiveFiles, node: Node, data: Bytes, *, has_one_writer: boo
         files.write_bytes(node, page + start, data[page + start : page + end])
         if node.data is None:
             return
-
-
-def page_offsets(old: SparseBytes, new: SparseBytes) -> List[int]:
-    """The offsets, ascending, of the pages that at least one of two contents has: no other pages
-    differ."""
-    return [page * PAGE_BYTES for page in sorted(old.pages.keys() | new.pages.keys())]
 
 
 def differing_range(old: bytes, new: bytes) -> Tuple[int, int]:

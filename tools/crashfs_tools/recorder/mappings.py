@@ -5,6 +5,8 @@ from __future__ import annotations
 from dataclasses import dataclass, field, replace
 from typing import Iterator, List
 
+from crashfs_tools.common.limits import round_up_to_pages
+
 from .live_tree import Node
 
 
@@ -76,8 +78,3 @@ class Memory:
     def copy(self) -> Memory:
         """The address space of a forked process: the same mappings, in a list of its own."""
         return Memory(list(self.mappings))
-
-
-def round_up_to_pages(length: int) -> int:
-    """The smallest multiple of a page, of 4,096 bytes, that is at least a length."""
-    return -(-length // 4_096) * 4_096

@@ -131,7 +131,7 @@ def add_acknowledgement_options(parser: argparse.ArgumentParser) -> None:
         action='append',
         default=[],
         dest='acknowledging_descriptors',
-        type=parse_descriptor,
+        type=parse_say_fd,
         help="take the acknowledged lines from COMMAND's descriptor N, not from "
         f"standard output; `{SOCKETS}`: from each connection that it accepts "
         '(may be repeated)',
@@ -219,7 +219,7 @@ def check_pattern(text: str) -> str:
     return text
 
 
-def parse_descriptor(word: str) -> str:
+def parse_say_fd(word: str) -> str:
     """A value of --say-fd as descriptors are compared with it: SOCKETS, or the digits of a number
     without zeros before them. ArgumentTypeError for any other text, and for a number above
     LARGEST_DESCRIPTOR."""

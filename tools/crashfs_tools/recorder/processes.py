@@ -63,7 +63,7 @@ class Descriptors:
             self.closed_by_exec.add(number)
 
     def close(self, number: int) -> None:
-        """Closes a descriptor; nothing if it isn't followed."""
+        """Forgets a descriptor that was closed, which need not be followed."""
         self.files.pop(number, None)
         self.closed_by_exec.discard(number)
 

@@ -33,6 +33,16 @@ HANDLERS: Dict[str, Handler] = {
 SOCKET_HANDLERS: Dict[str, Handler] = dict(data_calls.SOCKET_HANDLERS)
 
 
+def forks_by_result(calls: Iterable[Call]) -> Dict[int, List[Call]]:
+    """The forks among these calls that succeeded, in their order, by the numbers of the processes
+    and threads that they made."""
+    forks: Dict[int, List[Call]] = {}
+    for call in calls:
+        if call.name in FORKS and call.result > 0:
+            forks.setdefault(call.result, []).append(call)
+    return forks
+
+
 class Translator:
     """Translates the calls of a log one by one, once. A method that reads a call's argument raises
     LogError if it isn't as strace writes it.
@@ -47,8 +57,8 @@ class Translator:
     def __init__(
         self, files: LiveFiles, log: Log, file_copies: Optional[FileCopies] = None
     ) -> None:
-        """Notes the forks of the log, and sets has_copies of the files; translates nothing yet.
-        file_copies is None without --mapped."""
+        """Sets has_copies of the files; translates nothing yet. file_copies is None without
+        --mapped."""
         self.files = files
         self.recording = files.recording
         self.log = log
@@ -59,10 +69,7 @@ class Translator:
         self.early_bytes: Dict[int, Bytes] = {}
         self.newest_copies: Dict[int, FileCopy] = {}
         self.copy_indexes = {id(copy): index for index, copy in enumerate(self.file_copies.copies)}
-        self.forks: Dict[int, List[Call]] = {}
-        for call in log.calls:
-            if call.name in FORKS and call.result > 0:
-                self.forks.setdefault(call.result, []).append(call)
+        self.forks = forks_by_result(log.calls)
 
     def translate_log(self) -> None:
         """Translates the whole log, and ends the recording, whose current_call is None then.
@@ -307,9 +314,11 @@ class Translator:
     def report_untraced_names(self) -> None:
         """Reports each name that a file has at the end and that the trace lacks, if the trace has
         the file by another name."""
-        for node in dict.fromkeys(self.files.tree.nodes.values()):
-            if not node.traced_paths:
-                continue
-            for name in sorted(node.names - node.traced_paths):
-                what = f'stays another name of {node.traced_path}, by a link'
-                self.recording.report(what, name)
+        traced_nodes = [node for node in self.files.tree.nodes.values() if node.traced_paths]
+        untraced_names = [
+            (node.traced_path, name)
+            for node in dict.fromkeys(traced_nodes)
+            for name in sorted(node.names - node.traced_paths)
+        ]
+        for traced_path, name in untraced_names:
+            self.recording.report(f'stays another name of {traced_path}, by a link', name)

@@ -8,9 +8,10 @@ from typing import Iterator, List, Tuple
 
 from crashfs_tools.common.command import Refused
 from crashfs_tools.common.entry import Entries
+from crashfs_tools.common.limits import round_up_to_pages
 from crashfs_tools.common.trace import Operation, Say, Trace, Truncate, Write
 from crashfs_tools.common.trace_read import read_trace_with_numbers, tree_without_start
-from crashfs_tools.common.tree import Tree, is_growth_past_page, page_end, start_lines
+from crashfs_tools.common.tree import Tree, is_growth_past_page, start_lines
 
 # A longer write is several steps, so that a window can end in it.
 PIECE_BLOCKS = 64
@@ -105,7 +106,7 @@ def lengths_before_write(tree: Tree, path: str, end: int) -> Iterator[int]:
     tree."""
     size = len(tree.entries[path].data or b'')
     if tree.version >= 4 and is_growth_past_page(size, end):
-        yield page_end(size)
+        yield round_up_to_pages(size)
     if end > size:
         yield end
 

@@ -147,7 +147,7 @@ def write_to_file(
 ) -> None:
     """Writes bytes to an open file, which must not be a stream: at the offset, or at the file's own
     one (None), which then moves. With O_APPEND or RWF_APPEND they go to the file's end instead. If
-    the file or the call's flags ask for a sync, one of these bytes only is added."""
+    the file or the call's flags ask for a sync, a sync of only these bytes is added."""
     node = file.node
     assert node is not None
     offset_source: object = file if offset is None else None

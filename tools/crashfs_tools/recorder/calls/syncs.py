@@ -4,9 +4,10 @@ LogError if an argument isn't as strace writes it."""
 
 from __future__ import annotations
 
+from crashfs_tools.common.limits import round_up_to_pages
 from crashfs_tools.common.trace import Sync
 from crashfs_tools.recorder.arguments import parse_integer
-from crashfs_tools.recorder.mappings import Mapping, round_up_to_pages
+from crashfs_tools.recorder.mappings import Mapping
 from crashfs_tools.recorder.processes import Process, node_of
 from crashfs_tools.recorder.live_files import LiveFiles
 from crashfs_tools.recorder.strace_log import Call
@@ -100,8 +101,8 @@ def on_mprotect(files: LiveFiles, process: Process, call: Call) -> None:
 
 
 def report_mapped(files: LiveFiles, process: Process, address: int, length: int) -> None:
-    """Reports each file of the trace that is mapped in a range of addresses, to which the caller
-    found that the process may store. Nothing if copies show what is stored there."""
+    """Reports each file of the trace that is mapped in a range of addresses, to which the process
+    may store from now on. Nothing if copies show what is stored there."""
     if files.has_copies:
         return
     for part in process.memory.parts_in(address, length):
