@@ -50,15 +50,19 @@ def without_made_parts(page: str) -> str:
     return MADE_PART.sub(lambda part: '\n' * part[0].count('\n'), page)
 
 
-def lines_of_pages() -> Iterator[Line]:
-    """The lines of all pages, of the manual pages, and of the examples that print something or were
-    printed, but not of made parts. OSError if README, CHANGELOG or SECURITY isn't there,
-    UnicodeDecodeError if a file isn't UTF-8."""
+def pages_to_read() -> List[Path]:
+    """The pages whose words are checked: all pages, the manual pages, and the examples that print
+    something or were printed."""
     pages = [TOP / name for name in ('README.md', 'CHANGELOG.md', 'SECURITY.md')]
     pages += sorted((TOP / 'docs').rglob('*.md')) + sorted((TOP / 'docs' / 'man').iterdir())
     pages += sorted((TOP / 'helpers').glob('*/README.md'))
-    pages += sorted(path for path in EXAMPLES.rglob('*') if path.suffix in EXAMPLES_PRINT)
-    for page in pages:
+    return [*pages, *sorted(path for path in EXAMPLES.rglob('*') if path.suffix in EXAMPLES_PRINT)]
+
+
+def lines_of_pages() -> Iterator[Line]:
+    """The lines of pages_to_read(), but not of made parts. OSError if README, CHANGELOG or SECURITY
+    isn't there, UnicodeDecodeError if a file isn't UTF-8."""
+    for page in pages_to_read():
         yield from numbered_lines(page, without_made_parts(page.read_text('utf-8')))
 
 

@@ -145,6 +145,16 @@ def refusal_text(filesystems: List[str]) -> Optional[str]:
     return missing_requirement(filesystems_by_names(filesystems))
 
 
+def make_missing_sessions(measurement: Measurement) -> None:
+    """Makes the sessions of tasks_left(), if there are any, with images in a folder that is removed
+    at the end, in memory if there is /dev/shm. Errors of Guard, tasks_left() and make_sessions()
+    are raised."""
+    tasks = measurement.tasks_left()
+    if tasks:
+        with Guard('measure-disks', MEMORY if os.path.isdir(MEMORY) else None) as guard:
+            measurement.make_sessions(tasks, guard.directory)
+
+
 def outside_texts(results: List[SessionResult]) -> Iterator[str]:
     """A text for each disk that its file system's profile doesn't allow, after an empty line."""
     for result in results:
@@ -156,21 +166,18 @@ def outside_texts(results: List[SessionResult]) -> Iterator[str]:
 def main(words: List[str]) -> int:
     """Runs `measure disks` with these words, and returns its status: 1 if a disk is outside its
     file system's profile; 2 if the sessions can't be made here, and no table is printed then. The
-    file systems must be usable even if the file has all results. Errors of Guard and Measurement
-    are raised, except Refused."""
+    file systems must be usable even if the file has all results. Errors as
+    make_missing_sessions(), except Refused."""
     measurement = Measurement(parse_words(words))
     refusal = refusal_text(measurement.filesystems)
     if refusal is not None:
         print(f'measure disks: {refusal}', file=sys.stderr)
         return 2
-    tasks = measurement.tasks_left()
-    if tasks:
-        with Guard('measure-disks', MEMORY if os.path.isdir(MEMORY) else None) as guard:
-            try:
-                measurement.make_sessions(tasks, guard.directory)
-            except Refused as refused:
-                print(f'measure disks: {refused}', file=sys.stderr)
-                return 2
+    try:
+        make_missing_sessions(measurement)
+    except Refused as refused:
+        print(f'measure disks: {refused}', file=sys.stderr)
+        return 2
     results = measurement.read_results()
     operation_count = measurement.options.operations
     print(f'Kernel {platform.release()}, {operation_count} operations a session\n')

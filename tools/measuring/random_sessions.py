@@ -155,6 +155,11 @@ class DrawnSession:
         assert data is not None and not isinstance(data, SparseBytes)
         return len(data)
 
+    def draw_bytes(self) -> bytes:
+        """Draws 2 to 5000 equal bytes to write."""
+        letter = self.random.choice(b'ABCDEFG')
+        return bytes([letter]) * self.random.choice([2, 3, 4096, 5000])
+
     # A method for each kind, which draws an operation; None if the tree has nothing for it
 
     def draw_creat(self) -> Operation:
@@ -169,18 +174,18 @@ class DrawnSession:
             self.draw_new_path(NAMES), *ROOT, self.random.choice(['a', '../b', 'd/none'])
         )
 
-    def draw_write(self, *, is_append: bool = False) -> Optional[Operation]:
-        """Draws a write to a file: at 0, 2 or 4096, which may be past its end, or with is_append at
-        its end. None if there is no file."""
+    def draw_write(self) -> Optional[Operation]:
+        """Draws a write to a file at 0, 2 or 4096, which may be past its end; None if there is no
+        file."""
         path = self.draw_path('file')
         if path is None:
             return None
-        offset = self.file_size(path) if is_append else self.random.choice([0, 0, 2, 4096])
-        letter = self.random.choice(b'ABCDEFG')
-        return Write(path, offset, bytes([letter]) * self.random.choice([2, 3, 4096, 5000]))
+        offset = self.random.choice([0, 0, 2, 4096])
+        return Write(path, offset, self.draw_bytes())
 
     def draw_append(self) -> Optional[Operation]:
-        return self.draw_write(is_append=True)
+        path = self.draw_path('file')
+        return Write(path, self.file_size(path), self.draw_bytes()) if path else None
 
     def draw_truncate(self) -> Optional[Operation]:
         """Draws a truncate of a file to 0, 1, 2, 4096 or 6000 bytes, whatever length it has; None

@@ -110,17 +110,24 @@ def measure_usage(words: List[str], lines: int, output_path: Path) -> Usage:
     return usage
 
 
+def measure_row(program: str, row: Row, folder: Path) -> Usage:
+    """Runs the command of a row on its trace, by this program, and returns what it used. The trace
+    and what is printed are files in the folder, in which they replace those of an earlier row.
+    OSError as measure_usage(), or if the trace can't be written."""
+    trace_path = folder / 'sets.trace'
+    trace_path.write_text(independent_files_trace(row.says, row.files))
+    words = [program, 'picks', '--trace', str(trace_path), *row.options]
+    return measure_usage(words, row.lines, folder / 'printed')
+
+
 def add_set_rows(programs: Programs, tally: Tally, rows: Tuple[Row, ...] = ROWS) -> None:
     """Measures and prints the rows of sets. If a command of `picks` fails, that is a failure of the
     tally, and its row isn't printed. The program `crashfs` must be built."""
     program = str(programs.path_if_built('crashfs'))
     with tempfile.TemporaryDirectory() as folder:
-        trace = Path(folder) / 'sets.trace'
         for row in rows:
-            trace.write_text(independent_files_trace(row.says, row.files))
-            words = [program, 'picks', '--trace', str(trace), *row.options]
             try:
-                usage = measure_usage(words, row.lines, trace.with_name('printed'))
+                usage = measure_row(program, row, Path(folder))
             except OSError as error:
                 tally.add_failure(str(error))
             else:

@@ -8,7 +8,7 @@ from typing import Dict
 from .arrows import arrows_picture
 from .border import border_picture
 from .checked import check_example
-from .session import ModelledSession
+from .session import model_session
 from .sets import sets_picture
 from .states import states_picture
 from .timeline import timeline_picture
@@ -37,7 +37,7 @@ def pictures() -> Dict[Path, str]:
     sqlite_check = check_example(str(sqlite / 'full.trace'), [str(sqlite / 'recover.sh')])
     recovery = [str(tutorial / 'check.py'), str(tutorial / 'kv.py'), *PUTS]
     tutorial_check = check_example(str(tutorial / 'first.trace'), recovery)
-    session = ModelledSession(tutorial_check, tutorial / 'first.trace')
+    session = model_session(tutorial_check, tutorial / 'first.trace')
     return {
         IMAGES / 'sqlite-full.svg': states_picture(sqlite_check),
         IMAGES / 'failing-state.svg': timeline_picture(tutorial_check, COMPACTION, VERDICT),

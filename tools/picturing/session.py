@@ -5,14 +5,15 @@ from __future__ import annotations
 
 from dataclasses import dataclass
 from pathlib import Path
-from typing import List, NamedTuple, Optional, Set
+from typing import Dict, List, NamedTuple, Optional, Set
 
 from crashfs_tools.checker.states.place_sets import places_of
+from crashfs_tools.checker.states.plan import PlannedMicroOperation
 from crashfs_tools.common.trace_lines import SYNCS, TraceLine
 from crashfs_tools.reading.every import every_set
 from crashfs_tools.reading.order import Order, changed_marks
 from crashfs_tools.reading.states import States
-from crashfs_tools.reading.trace import parse_trace
+from crashfs_tools.reading.trace import Reading, parse_trace
 
 from .checked import CheckedExample
 
@@ -35,29 +36,19 @@ class Need(NamedTuple):
     rule: str
 
 
+@dataclass(frozen=True)
 class ModelledSession:
-    """The session of a checked trace, with the order of its micro-operations and all sets that a
-    crash may leave of them, by the second reading. A set is an int with a bit for each place."""
+    """The session of a checked trace: its lines by their numbers, its micro-operations with their
+    order, and all sets that a crash may leave of them, in the order of every_set(). `reading` is
+    the trace by the second reading; failing_sets is as find_failing_sets() returns it. A set is an
+    int with a bit for each place."""
 
-    def __init__(self, checked: CheckedExample, trace: Path) -> None:
-        """Reads the trace, which must be that of the check, and short, since all its sets are
-        listed: `sets` has them in the order of every_set(). OSError if the trace can't be read."""
-        self.reading = parse_trace(trace.read_bytes())
-        self.order = Order(self.reading)
-        self.operations = checked.findings.plan.operations
-        self.lines = checked.report.head.lines
-        self.sets = list(every_set(self.order))
-        self.failing_sets = self.find_failing_sets(checked)
-
-    def find_failing_sets(self, checked: CheckedExample) -> Set[int]:
-        """The sets that leave a state in which the check's command failed or gave no answer: also
-        those that the check didn't try, since it tries only the first set that leaves a state."""
-        plan, states = checked.findings.plan, States(self.reading)
-        numbers = (state.number for group in checked.report.groups() for state in group.states)
-        failing_states = {states.digest_and_says(plan.kept[number]) for number in numbers}
-        return {
-            kept_set for kept_set in self.sets if states.digest_and_says(kept_set) in failing_states
-        }
+    lines: Dict[int, TraceLine]
+    operations: List[PlannedMicroOperation]
+    reading: Reading
+    order: Order
+    sets: List[int]
+    failing_sets: Set[int]
 
     def rows_of_line(self, line: TraceLine) -> List[Row]:
         """The rows of a line: one without a place if the line syncs, else one for each of its
@@ -110,6 +101,32 @@ class ModelledSession:
             return 'P3'
         thing = str(next(iter(shared_marks))[0])
         return {'entry': 'P2', 'directory': 'P2', 'rights': 'P7'}.get(thing, 'P1')
+
+
+def model_session(checked: CheckedExample, trace_path: Path) -> ModelledSession:
+    """Reads the trace of a check, which must be short, since all its sets are listed. OSError if
+    the trace can't be read."""
+    reading = parse_trace(trace_path.read_bytes())
+    order = Order(reading)
+    sets = list(every_set(order))
+    return ModelledSession(
+        checked.report.head.lines,
+        checked.findings.plan.operations,
+        reading,
+        order,
+        sets,
+        find_failing_sets(checked, reading, sets),
+    )
+
+
+def find_failing_sets(checked: CheckedExample, reading: Reading, sets: List[int]) -> Set[int]:
+    """Those of some allowed sets that leave a state in which the check's command failed or gave no
+    answer: also sets that the check didn't try, since it tries only the first set that leaves a
+    state. `reading` must be the check's trace."""
+    plan, states = checked.findings.plan, States(reading)
+    numbers = (state.number for group in checked.report.groups() for state in group.states)
+    failing_states = {states.digest_and_says(plan.kept[number]) for number in numbers}
+    return {kept_set for kept_set in sets if states.digest_and_says(kept_set) in failing_states}
 
 
 def row_words(kind: str, line: TraceLine) -> str:

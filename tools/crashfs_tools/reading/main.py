@@ -57,28 +57,34 @@ def main(words: List[str]) -> int:
 
 
 def read_options(words: List[str]) -> Options:
-    """The options in the words of a command line, of which the first is the command: each with its
-    value, or True if it takes none. If the last option lacks its value, that is an empty text; if
-    an option is given twice, the last value counts. UsageFault if there is no command, or for an
-    unknown command or option; without --help also if --trace is missing, and for `picks` as
-    refuse_options()."""
+    """The options in the words of a command line, of which the first is the command, as
+    parse_options(). UsageFault if there is no command, or for an unknown command or option; without
+    --help also if --trace is missing, and for `picks` as refuse_options()."""
     if not words or words[0] not in FLAGS:
         raise UsageFault(f"unrecognized subcommand '{words[0] if words else ''}'")
-    options: Options = {}
-    words_left = iter(words[1:])
-    for word in words_left:
-        if word in FLAGS[words[0]]:
-            options[word] = True
-        elif word in VALUED[words[0]]:
-            options[word] = next(words_left, '')
-        else:
-            raise UsageFault(f"unexpected argument '{word}' found")
+    options = parse_options(words[0], words[1:])
     if '--help' in options:
         return options
     if '--trace' not in options:
         raise UsageFault('the following required arguments were not provided: --trace <FILE>')
     if words[0] == 'picks':
         refuse_options(options)
+    return options
+
+
+def parse_options(command: str, words: List[str]) -> Options:
+    """The options in the words after a command: each with its value, or True if it takes none. If
+    the last option lacks its value, that is an empty text; if an option is given twice, the last
+    value counts. UsageFault for an option that the command doesn't have."""
+    options: Options = {}
+    words_left = iter(words)
+    for word in words_left:
+        if word in FLAGS[command]:
+            options[word] = True
+        elif word in VALUED[command]:
+            options[word] = next(words_left, '')
+        else:
+            raise UsageFault(f"unexpected argument '{word}' found")
     return options
 
 
