@@ -6,9 +6,12 @@ from typing import Dict
 
 from crashfs_tools.common.trace import BLOCKS, Creat, Header, Link, Mkdir, Operation, Start
 from crashfs_tools.common.tree import Tree
-from crashfs_tools.recorder.comparison import lines_on_attributes_and_notes, lines_on_links
+from crashfs_tools.recorder.comparison import (
+    lines_on_changed_attributes,
+    lines_on_links,
+    lines_on_new_notes,
+)
 from crashfs_tools.recorder.directory import Scan, scan_directory
-from crashfs_tools.recorder.troubles import Trouble
 
 from .support import InFolder
 
@@ -50,7 +53,7 @@ class Links(InFolder):
 
 
 class Attributes(unittest.TestCase):
-    def test_only_the_very_path_of_a_trouble_is_left_out(self) -> None:
+    def test_only_the_very_path_that_is_known_is_left_out(self) -> None:
         changed: Dict[str, Dict[str, bytes]] = {path: {'user.a': b'1'} for path in ('/a', '/a:b')}
         now = Scan(
             HEADER,
@@ -64,8 +67,10 @@ class Attributes(unittest.TestCase):
             '/a:b: it has another name at the end',
         ]
         for path in changed:
+            start = Scan(HEADER)
             self.assertEqual(
-                lines_on_attributes_and_notes(Scan(HEADER), now, [Trouble('a change', path)]),
+                lines_on_changed_attributes(start, now, {path})
+                + lines_on_new_notes(start, now, {path}),
                 [
                     f'not in the trace: {line}'
                     for line in wanted

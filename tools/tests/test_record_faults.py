@@ -164,7 +164,7 @@ class Copies(InFolder):
                 f'{os.getpid()} mmap(NULL, 9, PROT_READ, MAP_SHARED, {shown}, 0) = 0x7'
             )
             mapped = MappedFiles(self.folder, lambda path: False)
-            mapped.note_mapping(line, 1)
+            mapped.open_mapped_file(line, 1)
             mapped.make_last_copy(2)
         self.assertEqual(mapped.file_copies.copies[0].bytes_by_number, {0: b'old'})
 

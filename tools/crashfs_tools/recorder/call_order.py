@@ -96,9 +96,9 @@ def calls_in_order(
 
 
 class CallQueue:
-    """The calls of a log on their way into the trace; to be used once. moments has the moment of
-    each call that isn't yielded yet, by the call's id. `queue` has the calls, the last one first,
-    and moved_calls, a heap, those that were moved since then, with their new moments.
+    """Puts the calls of a log in their order in the trace; to be used once. moments has the moment
+    of each call that isn't yielded yet, by the call's id. `queue` has the calls, the last one
+    first, and moved_calls, a heap, those that were moved since then, with their new moments.
     unrelated_syncs has, by the id of a change, the syncs of other paths that ran at the same time:
     such a path may be of the same file."""
 
@@ -133,7 +133,8 @@ class CallQueue:
         return heapq.heappop(self.moved_calls)
 
     def place_calls(self) -> None:
-        """Sets the moment of each call, and unrelated_syncs, by the paths of syncs and changes."""
+        """Sets the moment of each call, and unrelated_syncs, by the paths of syncs and changes.
+        LogError as in may_cover()."""
         self.moments.update((id(call), moment_of(call)) for call in self.calls)
         changes = ChangeIndex([call for call in self.calls if is_change(call)])
         for sync in self.calls:

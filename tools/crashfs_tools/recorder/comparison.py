@@ -13,7 +13,6 @@ from crashfs_tools.common.trace_read import tree_at_end
 from crashfs_tools.common.tree import Tree, symlink_entry
 
 from .directory import Scan, ScannedEntry
-from .troubles import Trouble
 
 
 class LastStateReader(ABC):
@@ -163,34 +162,26 @@ def scan_order(path: str) -> List[str]:
     return path.split('/')
 
 
-def lines_on_attributes_and_notes(
-    at_start: Scan, at_end: Scan, troubles: List[Trouble]
+def lines_on_changed_attributes(
+    at_start: Scan, at_end: Scan, known_paths: Collection[str]
 ) -> List[str]:
-    """A line for each path whose extended attributes changed during the session, and for each note
-    that only the scan at the end has. There is no line on a path that one of the troubles has, but
-    there are lines on what is below such a path."""
-    reported_paths = {trouble.where for trouble in troubles}
-    changes = [
-        (path, 'its extended attributes differ, which no trace has')
-        for path in paths_of_changed_attributes(at_start, at_end)
-    ]
-    changes += [
-        (path, f'it has {note} at the end')
-        for path, note in at_end.notes
-        if (path, note) not in at_start.notes
-    ]
+    """A line for each path, sorted, whose extended attributes aren't the same in two scans; a path
+    that a scan lacks has none there. There is no line on the known paths, but there are lines on
+    what is below them."""
     return [
-        f'not in the trace: {path}: {text}' for path, text in changes if path not in reported_paths
-    ]
-
-
-def paths_of_changed_attributes(at_start: Scan, at_end: Scan) -> List[str]:
-    """The paths, sorted, whose extended attributes aren't the same in two scans. A path that a scan
-    lacks has none there."""
-    return [
-        path
+        f'not in the trace: {path}: its extended attributes differ, which no trace has'
         for path in sorted(at_start.attributes.keys() | at_end.attributes.keys())
-        if at_start.attributes.get(path) != at_end.attributes.get(path)
+        if at_start.attributes.get(path) != at_end.attributes.get(path) and path not in known_paths
+    ]
+
+
+def lines_on_new_notes(at_start: Scan, at_end: Scan, known_paths: Collection[str]) -> List[str]:
+    """A line for each note that only the scan at the end has. There is no line on the known paths,
+    but there are lines on what is below them."""
+    return [
+        f'not in the trace: {path}: it has {note} at the end'
+        for path, note in at_end.notes
+        if (path, note) not in at_start.notes and path not in known_paths
     ]
 
 

@@ -14,7 +14,7 @@ from crashfs_tools.common.file_bytes import read_file_bytes
 from crashfs_tools.common.trace import Header, Start, StartSymlink
 from crashfs_tools.common.tree import path_fault
 
-# Returns whether a path of the directory is left out.
+# Returns whether a path of the directory is ignored.
 IsIgnored = Callable[[str], bool]
 ScannedEntry = Union[Start, StartSymlink]
 # The newest version of a trace.
@@ -122,7 +122,7 @@ class Scanner:
         if attributes:
             self.scan.attributes[path] = attributes
         if stat.S_ISREG(status.st_mode) and status.st_nlink > 1:
-            self.note_link(path, status)
+            self.count_path(path, status)
         self.scan.entries.append(read_entry(self.top, path, status))
         if stat.S_ISDIR(status.st_mode):
             self.scan_below(path)
@@ -140,7 +140,7 @@ class Scanner:
         most = limits.most_file_bytes(self.version)
         return f'a file of more than {most} bytes' if status.st_size > most else ''
 
-    def note_link(self, path: str, status: os.stat_result) -> None:
+    def count_path(self, path: str, status: os.stat_result) -> None:
         """Counts a path of a file that has several names; to be called once for each path, in the
         order of the scan. A path that isn't the file's first is added to the scan's links."""
         inode = status.st_dev, status.st_ino

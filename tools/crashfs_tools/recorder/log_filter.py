@@ -42,8 +42,8 @@ DESCRIPTOR_PATHS = tuple(map(escape_text, (b'/dev/fd', b'/dev/std', b'/proc/')))
 class LogFilter:
     """Finds needless lines by needed_descriptors: those that may be of files below a directory, or
     of streams, in any process. It learns them from the lines that are read: each line must be given
-    to is_needless(), in the log's order, and each whole call that isn't needless to note_result().
-    shown_top is the directory's path as strace shows it."""
+    to is_needless(), in the log's order, and each whole call that isn't needless to
+    learn_from_result(). shown_top is the directory's path as strace shows it."""
 
     def __init__(self, top: bytes, descriptors: Iterable[int] = ()) -> None:
         """`top` is the directory's path as the calls have it. These descriptors, and 0 to 2, are
@@ -72,8 +72,8 @@ class LogFilter:
             and self.shown_top not in text_to_search
         )
 
-    def note_result(self, name: str, line: str) -> None:
-        """Notes what a whole call made: a descriptor that is needed from now on, even after it is
+    def learn_from_result(self, name: str, line: str) -> None:
+        """Learns what a whole call made: a descriptor that is needed from now on, even after it is
         closed, or the mapping of a file of the directory. `name` is the call's, and `line` is its
         line, put together if the log has it in two."""
         if name in MAPPING_CALLS:

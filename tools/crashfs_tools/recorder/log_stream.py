@@ -127,14 +127,14 @@ class LogStream:
             line = lines.next_line()
 
     def add_line(self, line: str) -> Optional[int]:
-        """Adds a line, with its line feed, to the log and to the kept log, and notes the mapping
-        that the line shows, if any; faults set log_error or keep_fault. Returns the thread that the
-        line reports as stopped by SIGSTOP; None for any other line."""
+        """Adds a line, with its line feed, to the log and to the kept log, and opens the file that
+        it maps, as open_mapped_file() does; faults set log_error or keep_fault. Returns the thread
+        that the line reports as stopped by SIGSTOP; None for any other line."""
         self.line_number += 1
         self.keep_line(line)
         self.parse_line(line.rstrip('\n'))
         if self.mapped_files is not None:
-            self.mapped_files.note_mapping(line, self.line_number)
+            self.mapped_files.open_mapped_file(line, self.line_number)
         stop = STOPPED.match(line)
         return int(stop[1]) if stop else None
 
@@ -162,7 +162,7 @@ class LogStream:
         threads_of_others = self.add_lines_of_stop(thread, threads, lines)
         is_alone = stop is Stop.ALL_STOPPED and not self.had_running_threads and len(threads) == 1
         self.had_running_threads = stop is Stop.SOME_RUN
-        self.add_copy(mapped_files, thread, process, is_alone=is_alone)
+        self.add_copy(mapped_files, thread, threads, is_alone=is_alone)
         try:
             os.kill(process, signal.SIGCONT)
         except ProcessLookupError:
@@ -171,14 +171,15 @@ class LogStream:
             self.copy_and_continue(mapped_files, other_thread, lines)
 
     def add_copy(
-        self, mapped_files: MappedFiles, thread: int, process: int, *, is_alone: bool
+        self, mapped_files: MappedFiles, thread: int, threads: Set[int], *, is_alone: bool
     ) -> None:
-        """Adds a copy of the mapped files, while a thread of this process is stopped; is_alone is
-        that of FileCopy. If a file can't be read, log_error is set, unless it is set already."""
-        others = self.reader.threads - set(self.reader.log.ended_threads) - {process}
+        """Adds a copy of the mapped files, while a thread is stopped whose process has these
+        `threads`; is_alone is that of FileCopy. If a file can't be read, log_error is set, unless
+        it is set already."""
+        other_threads = self.reader.threads - set(self.reader.log.ended_threads) - threads
         try:
             mapped_files.copy_changed_files(
-                self.line_number, thread, is_alone=is_alone, others=others
+                self.line_number, thread, is_alone=is_alone, other_threads=other_threads
             )
         except OSError as error:
             self.log_error = self.log_error or error

@@ -42,11 +42,11 @@ LATE_START = 'it begins after an acknowledged line: what was not yet synced then
 
 @dataclass
 class RecordedRun:
-    """A run of COMMAND, or the log of an earlier run, of which all else isn't known and has the
-    value of a run without faults. file_copies is None without --mapped; status is COMMAND's, as
-    Popen has it. output_pipe is what strace shows for COMMAND's standard output, None if that isn't
-    known. unended_processes names the processes that could not be ended, and log_fault says why the
-    log was not kept whole: both are empty if all is well."""
+    """A run of COMMAND. Of an earlier run only the log is known: all else has the value of a run
+    without faults. file_copies is None without --mapped; status is COMMAND's, as Popen has it.
+    output_pipe is what strace shows for COMMAND's standard output, None if that isn't known.
+    unended_processes names the processes that could not be ended, and log_fault says why the log
+    was not kept whole: both are empty if all is well."""
 
     log: Log
     file_copies: Optional[FileCopies] = None

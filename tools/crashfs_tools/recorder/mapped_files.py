@@ -112,7 +112,7 @@ class MappedFiles:
         self.descriptors: List[int] = []
         self.newest_bytes: Dict[int, Bytes] = {}
 
-    def note_mapping(self, line: str, line_number: int) -> None:
+    def open_mapped_file(self, line: str, line_number: int) -> None:
         """Opens the file that a line of the log maps as shared, and holds it open. Nothing for
         other lines, for an ignored file, and for one outside the directory. An unlinked file is
         opened only by the descriptor of the process, which must not have closed it yet; others are
@@ -147,10 +147,10 @@ class MappedFiles:
         self.file_copies.numbers_by_line[line_number] = self.numbers[inode]
 
     def copy_changed_files(
-        self, line: int, thread: int, *, is_alone: bool, others: Iterable[int] = ()
+        self, line: int, thread: int, *, is_alone: bool, other_threads: Iterable[int] = ()
     ) -> None:
         """Adds a copy of the files that changed since the copy before, also if none did. `line`,
-        `thread` and is_alone are those of FileCopy; `others` are the processes that aren't stopped.
+        `thread` and is_alone are those of FileCopy; other_threads are those of other processes.
         OSError if a file can't be read: then no copy is added, and newest_bytes stays."""
         changed_bytes: Dict[int, Bytes] = {}
         for number, descriptor in enumerate(self.descriptors):
@@ -158,7 +158,7 @@ class MappedFiles:
             if self.newest_bytes.get(number) != data:
                 changed_bytes[number] = data
         self.newest_bytes.update(changed_bytes)
-        mapped_numbers = self.numbers_mapped_by(others) if changed_bytes else set()
+        mapped_numbers = self.numbers_mapped_by(other_threads) if changed_bytes else set()
         self.file_copies.copies.append(
             FileCopy(
                 line=line,
@@ -169,13 +169,13 @@ class MappedFiles:
             )
         )
 
-    def numbers_mapped_by(self, processes: Iterable[int]) -> Set[int]:
-        """The numbers of the files that these processes may have mapped. Some may be files that
-        they haven't mapped: a file counts by its inode, whatever its device, and all files count if
-        what a process has mapped can't be read."""
+    def numbers_mapped_by(self, threads: Iterable[int]) -> Set[int]:
+        """The numbers of the files that the processes of these threads may have mapped. Some may be
+        files that they haven't mapped: a file counts by its inode, whatever its device, and all
+        files count if what a process has mapped can't be read."""
         mapped_inodes: Set[str] = set()
-        for process in processes:
-            inodes = stopped_processes.read_mapped_inodes(process)
+        for thread in threads:
+            inodes = stopped_processes.read_mapped_inodes(thread)
             if inodes is None:
                 return set(self.numbers.values())
             mapped_inodes |= inodes

@@ -46,8 +46,8 @@ example: crashfs-record store.d store.trace -- sqlite3 test.db ".read session.sq
 @dataclass
 class RecordOptions:
     """The values of a command line, by the names that the parser gives them, and COMMAND, which is
-    empty with --from-log. is_ignored returns whether --ignore leaves out a path of the directory.
-    """
+    empty with --from-log. is_ignored, which prepare_options() sets, returns whether --ignore leaves
+    out a path of the directory."""
 
     directory: str
     out: str
@@ -69,10 +69,9 @@ class RecordOptions:
     is_ignored: IgnoreRules = field(init=False)
 
     def __post_init__(self) -> None:
-        """Sets what the parser can't: that standard output acknowledges something without --say-fd,
-        and is_ignored. ValueError if a pattern of --ignore never matches in git."""
+        """Sets what the parser can't: that standard output acknowledges something without
+        --say-fd."""
         self.acknowledging_descriptors = self.acknowledging_descriptors or [*DEFAULT_DESCRIPTORS]
-        self.is_ignored = IgnoreRules(self.ignore, self.directory)
 
     @property
     def version(self) -> Optional[int]:
@@ -259,8 +258,8 @@ def read_options(arguments: List[str]) -> RecordOptions:
 
 
 def prepare_options(options: RecordOptions) -> None:
-    """Replaces the directory in the options by its real path, also in is_ignored, and COMMAND's
-    program by its absolute path. Refused if there is no such directory or program, or if OUT or the
+    """Replaces the directory in the options by its real path, and COMMAND's program by its absolute
+    path, and sets is_ignored. Refused if there is no such directory or program, or if OUT or the
     file of --keep-log can't be made or would be in the directory: then some options may be replaced
     already."""
     if not os.path.isdir(options.directory):

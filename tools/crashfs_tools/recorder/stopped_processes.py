@@ -65,12 +65,12 @@ def wait_until_stopped(thread: int, process: int) -> Stop:
     return Stop.RESUMED
 
 
-def read_mapped_inodes(process: int) -> Optional[Set[str]]:
-    """The inode numbers of the files that a process has mapped, as /proc prints them, and `0` for
-    memory without a file. Empty if the process has ended. None if this process may not read them,
-    as of one that made itself undumpable."""
+def read_mapped_inodes(thread: int) -> Optional[Set[str]]:
+    """The inode numbers of the files that a thread's process has mapped, as /proc prints them, and
+    `0` for memory without a file. Empty if the thread has ended. None if this process may not read
+    them, as those of a process that made itself undumpable."""
     try:
-        with open(f'/proc/{process}/maps', encoding='utf-8', errors='replace') as lines:
+        with open(f'/proc/{thread}/maps', encoding='utf-8', errors='replace') as lines:
             return {line.split()[4] for line in lines}
     except PermissionError:
         return None

@@ -151,7 +151,7 @@ class LogReader:
         if match:
             self.add_call(match, begin, end)
             if self.filter is not None:
-                self.filter.note_result(match[2], line)
+                self.filter.learn_from_result(match[2], line)
         elif not line.startswith(FRAME):
             self.add_event(end, line)
         elif self.call_with_frames is not None:

@@ -115,7 +115,7 @@ class StraceRun:
         if strace can't be started, the log's pipe can't be opened, or standard output can't be
         written: strace and COMMAND may still run then."""
         old_handlers = {
-            number: signal.signal(number, self.note_signal) for number in stop_signals()
+            number: signal.signal(number, self.handle_signal) for number in stop_signals()
         }
         try:
             environment = self.guard.environment
@@ -165,14 +165,14 @@ class StraceRun:
         self, strace: subprocess.Popen[bytes], pipe: int, wakeup_pipe: int
     ) -> Optional[bytes]:
         """Waits a while for bytes of a pipe, or for a signal, at which Python writes to the wakeup
-        pipe, and sends the noted signal. Returns the bytes of the pipe, empty if there are none
+        pipe, and sends the pending signal. Returns the bytes of the pipe, empty if there are none
         yet. None at its end, or if strace has ended and there are none: a process that strace
         doesn't follow may keep the pipe open."""
         seconds = IDLE_SECONDS if self.signal_to_send is None else RESEND_SECONDS
         ready = {number for number, _ in poll_for_input(pipe, wakeup_pipe).poll(seconds * 1000)}
         if wakeup_pipe in ready:
             os.read(wakeup_pipe, 64)
-        self.send_noted_signal()
+        self.send_pending_signal()
         if pipe in ready:
             return os.read(pipe, 65_536) or None
         return None if not ready and strace.poll() is not None else b''
@@ -184,9 +184,9 @@ class StraceRun:
             try:
                 return strace.wait(0.2)
             except subprocess.TimeoutExpired:
-                self.send_noted_signal()
+                self.send_pending_signal()
 
-    def note_signal(self, number: int, _: object) -> None:
+    def handle_signal(self, number: int, _: object) -> None:
         """The handler of signals: adds one to `signals`, but none within SAME_SIGNAL_SECONDS after
         the first. Sets signal_to_send: to the first signal, unless it is a Ctrl-C that COMMAND gets
         from the terminal too, and to SIGKILL after a later one."""
@@ -200,7 +200,7 @@ class StraceRun:
         if number != signal.SIGINT or not is_on_terminal():
             self.signal_to_send = number
 
-    def send_noted_signal(self) -> None:
+    def send_pending_signal(self) -> None:
         """Sends signal_to_send, unless that is None, to COMMAND's processes, but not to strace, and
         sets it to None. It stays if no process got the signal, and if it is SIGKILL: then the next
         call sends it again, as a process may have begun meanwhile."""

@@ -20,10 +20,11 @@ from .comparison import (
     LastStateReader,
     ReplayReader,
     lines_of_file,
+    lines_on_changed_attributes,
     lines_on_differences,
-    lines_on_new_omissions,
     lines_on_links,
-    lines_on_attributes_and_notes,
+    lines_on_new_notes,
+    lines_on_new_omissions,
 )
 from .directory import NEWEST, Scan, scan_directory
 from .options import RecordOptions
@@ -173,7 +174,9 @@ def compare_directory(
         + lines_on_links(at_end, recording.tree, reported)
     )
     report.lines += differences
-    report.notes += lines_on_attributes_and_notes(at_start, at_end, list(recording.troubles))
+    known_paths = {trouble.where for trouble in recording.troubles}
+    report.notes += lines_on_changed_attributes(at_start, at_end, known_paths)
+    report.notes += lines_on_new_notes(at_start, at_end, known_paths)
     verdict = 'differs from' if differences else 'equals'
     exception = ', except for what is reported' if reported and not differences else ''
     return f'its last state {verdict} the directory{exception} (by {reader_name})'

@@ -218,12 +218,13 @@ class Translator:
         if handler is not None:
             handler(self.files, process, call)
         if call.begin in self.file_copies.numbers_by_line:
-            self.note_mapped_file(process, call, self.file_copies.numbers_by_line[call.begin])
+            self.add_mapped_node(process, call, self.file_copies.numbers_by_line[call.begin])
         self.add_stores(copies, lambda node: node is changed_file)
 
-    def note_mapped_file(self, process: Process, call: Call, number: int) -> None:
-        """Notes that a call mapped the file with this number; nothing if the file isn't followed.
-        The stores that earlier copies show of it are added now, after the mmap."""
+    def add_mapped_node(self, process: Process, call: Call, number: int) -> None:
+        """Adds the node of the file with this number, which a call mapped, to mapped_nodes; nothing
+        if the file isn't followed. The stores that earlier copies show of it are added now, after
+        the mmap."""
         node = node_of(process.open_file(call.descriptor(4)))
         if node is None:
             return
@@ -263,14 +264,14 @@ class Translator:
         early_bytes instead. Sets newest_copies."""
         for number, data in copy.bytes_by_number.items():
             node = self.mapped_nodes.get(number)
-            if not self.note_newest_copy(copy, number):
+            if not self.make_newest(copy, number):
                 continue
             if node is None:
                 self.early_bytes[number] = data
             else:
                 yield number, node
 
-    def note_newest_copy(self, copy: FileCopy, number: int) -> bool:
+    def make_newest(self, copy: FileCopy, number: int) -> bool:
         """Makes a copy the newest one of the file with this number, and returns True. Returns
         False, and changes nothing, if a copy that was made later is the newest already."""
         newest = self.newest_copies.setdefault(number, copy)

@@ -83,9 +83,10 @@ def open_path(
 def opened_path(
     files: LiveFiles, call: Call, *, word: str, path: Optional[str], flags: str
 ) -> Optional[str]:
-    """The path in the tree of the file that an open has opened: that of the path that strace shows
-    for the descriptor, or else, also if the file is unlinked, the given one. If strace cut this
-    one in the argument `word`, and the open may make or truncate a file, that is reported."""
+    """The path in the tree of the file that an open has opened, by the path that strace shows for
+    the descriptor; None if it shows another text, as for a pipe. If it shows nothing, or the file
+    is unlinked, it is the given path: if strace cut that in the argument `word`, and the open may
+    make or truncate a file, this is reported."""
     shown = call.result_descriptor
     if shown.text is not None and not shown.is_deleted:
         return files.resolve_path(shown.path) if shown.path else None
