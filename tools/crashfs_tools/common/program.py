@@ -5,6 +5,7 @@ from __future__ import annotations
 
 import io
 import os
+import re
 import shutil
 import subprocess
 import tempfile
@@ -35,6 +36,8 @@ NEW_VERSION, REFUSED = 4, 'Syntax'
 EMPTY_TRACE = (
     '{"trace":%d,"profile":"blocks","block":4096,"owner":"root","group":"root","mode":"755"}\n'
 )
+# How the line of a state begins in a list.
+STATE_LINE = re.compile('state ([0-9]+)(?: |$)')
 # A shell's status for a program that can't be started.
 NOT_STARTED = 126
 # What the program says of a trace that it would take in parts.
@@ -222,11 +225,11 @@ class Crashfs:
         """How many states a trace has: its prefixes, and, if with_holes, also the holes; equal
         states count too. Errors as output_of(); ProgramFault also if the program prints no list."""
         listing = self.output_of(['list', '--trace', trace, *(['--holes'] if with_holes else [])])
-        words = listing.rstrip('\n').rpartition('\n')[2].split(' ')
         # The states are numbered from 0, and the last line is that of the last state.
-        if words[0] != 'state' or not words[1:2] or not words[1].isdigit():
+        last_state = STATE_LINE.match(listing.rstrip('\n').rpartition('\n')[2])
+        if last_state is None:
             raise ProgramFault(0, b'crashfs: what it printed is no list')
-        return int(words[1]) + 1
+        return int(last_state[1]) + 1
 
     def tree_of_state(self, trace: str, state: int) -> Entries:
         """The tree of the state with this number, without the root. Errors as tree_with_root():

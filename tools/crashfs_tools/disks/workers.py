@@ -6,26 +6,16 @@ from __future__ import annotations
 import os
 import signal
 import traceback
+from functools import partial
 from multiprocessing.connection import Connection, Pipe, wait
-from typing import (
-    Any,
-    Callable,
-    Dict,
-    Generic,
-    Iterator,
-    List,
-    NoReturn,
-    Optional,
-    Set,
-    TypeVar,
-    Union,
-)
+from typing import Any, Callable, Dict, Generic, Iterator, List, NoReturn, Set, TypeVar, Union
 
 from crashfs_tools.common.command import Refused
 from crashfs_tools.common.signals import stop_signals_blocked
 
 Task = TypeVar('Task')
 Result = TypeVar('Result')
+Value = TypeVar('Value')
 
 # Python sees a signal that comes just as it begins to wait only after so long.
 TURN_SECONDS = 0.5
@@ -103,20 +93,13 @@ class DiskWorkers(Generic[Task, Result]):
         returned; those of `blocked_before` were blocked before the fork, and stay so. A result that
         can't be pickled ends the process: receive_result() then takes it as killed."""
         try:
-            fault = caught_fault(self.set_up)
+            fault = result_or_fault(self.set_up)
             signal.pthread_sigmask(signal.SIG_SETMASK, blocked_before)
             while True:
-                task = pipe.recv()
-                pipe.send(fault or self.result_of(task))
+                do_task = partial(self.do_task, pipe.recv())
+                pipe.send(result_or_fault(do_task) if fault is None else fault)
         finally:
             os._exit(0)
-
-    def result_of(self, task: Task) -> Union[Result, Exception]:
-        """In the new process: does a task, and returns its result, or, in the form of
-        caught_fault(), what it raised."""
-        results: List[Result] = []
-        fault = caught_fault(lambda: results.append(self.do_task(task)))
-        return fault or results[0]
 
 
 def ready_pipes(busy_pipes: List[Connection]) -> Iterator[Connection]:
@@ -130,18 +113,18 @@ def ready_pipes(busy_pipes: List[Connection]) -> Iterator[Connection]:
 def send_next_task(pipe: Connection, remaining_tasks: Iterator[Task]) -> bool:
     """Sends the next one of the remaining tasks to a process. Returns False, and sends nothing, if
     no task remains. Refused if the process was killed."""
-    for task in remaining_tasks:
-        try:
-            pipe.send(task)
-        except OSError as error:
-            raise Refused(GONE) from error
-        return True
-    return False
+    try:
+        pipe.send(next(remaining_tasks))
+    except StopIteration:
+        return False
+    except OSError as error:
+        raise Refused(GONE) from error
+    return True
 
 
 def receive_result(pipe: Connection) -> Any:
     """Waits without limit for the result of a process's task. Raises what the process has raised,
-    as caught_fault() returned it there, or Refused if the process was killed."""
+    as result_or_fault() returned it there, or Refused if the process was killed."""
     try:
         result = pipe.recv()
     except (EOFError, OSError) as error:
@@ -151,14 +134,13 @@ def receive_result(pipe: Connection) -> Any:
     return result
 
 
-def caught_fault(call: Callable[[], None]) -> Optional[Exception]:
-    """Calls a function, and returns what it raises, in a form that a pipe can send: Refused and
-    OSError as they are, any other Exception as a Fault. None if it raises nothing. Other
-    BaseExceptions, such as SystemExit, pass."""
+def result_or_fault(call: Callable[[], Value]) -> Union[Value, Exception]:
+    """Calls a function, and returns its result, or what it raises in a form that a pipe can send:
+    Refused and OSError as they are, any other Exception as a Fault. Other BaseExceptions, such as
+    SystemExit, are raised."""
     try:
-        call()
+        return call()
     except (Refused, OSError) as fault:
         return fault
     except Exception:
         return Fault(traceback.format_exc())
-    return None
