@@ -86,25 +86,27 @@ def states(
     refuse_unreadable(os.fspath(trace))
     program = Crashfs.find_or_second_reading(options.crashfs, is_unproved=unproved)
     with Guard(NAME, may_reap=False) as guard:
-        checked = CheckedTrace(options, program, guard)
+        checked_trace = CheckedTrace(options, program, guard)
         last_plan: Optional[Plan] = None
-        for planned in checked.all_planned():
+        for planned in checked_trace.all_planned():
             numbers_before = known_states(last_plan, planned.plan) if last_plan else {}
             yield from states_of_window(
-                checked, planned, Results(planned.plan, numbers_before=numbers_before)
+                checked_trace, planned, Results(planned.plan, numbers_before=numbers_before)
             )
             last_plan = planned.plan
 
 
 def states_of_window(
-    checked: CheckedTrace, planned: PlannedTrace, results: Results
+    checked_trace: CheckedTrace, planned: PlannedTrace, results: Results
 ) -> Iterator[CrashState]:
     """Yields the different states of one window, ascending, each with its files, but none that the
     window before has. The results must be of the same plan. ProgramFault if `crashfs` fails, after
     the states before that."""
-    texts, numbers = checked.lines.acknowledged, set(results.own_numbers.values())
-    environment = checked.guard.environment
-    for own_number, tree in read_trees(checked.program, planned, numbers, environment, full_tree):
+    texts, numbers = checked_trace.lines.acknowledged, set(results.own_numbers.values())
+    environment = checked_trace.guard.environment
+    for own_number, tree in read_trees(
+        checked_trace.program, planned, numbers, environment, full_tree
+    ):
         state = planned.plan.state(own_number)
         profiles = planned.plan.profile_names_of(state)
         yield CrashState(state.number, texts[: state.says], profiles, tree)

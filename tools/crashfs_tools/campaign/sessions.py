@@ -81,8 +81,8 @@ class Sessions:
         report = self.folder / 'report.json'
         if report.exists():
             report.unlink()
-        pages = [] if page is None else ['--html', str(page)]
-        words = ['--json', str(report), *pages, *self.options.check, str(trace), '--']
+        outputs = ['--json', str(report), *([] if page is None else ['--html', str(page)])]
+        words = [*outputs, *self.options.check, str(trace), '--']
         status, error_text = self.run_tool('crashfs-check', [*words, *self.options.recovery], {})
         fields = read_report(report) if report.exists() else {'windows': [], 'groups': []}
         return verdict_of(status, error_text, fields)

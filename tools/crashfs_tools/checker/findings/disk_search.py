@@ -57,6 +57,11 @@ class DiskTree:
     entries: Entries
     crashes: Dict[str, Crash]
 
+    @property
+    def tree_and_count(self) -> TreeAndCount:
+        """The tree by its digest, and the number of acknowledged lines."""
+        return self.digest, self.says
+
 
 def search_disks(trials: Trials, outcomes: Dict[int, Outcome]) -> Sightings:
     """Makes the session again on the file systems of --disks, and returns what was seen; outcomes
@@ -132,7 +137,7 @@ class DiskSearch:
         failing_trees: List[DiskTree] = []
         untried: List[Tuple[DiskTree, Outcome]] = []
         for tree in trees:
-            numbers = numbers_by_tree.get((tree.digest, tree.says), [])
+            numbers = numbers_by_tree.get(tree.tree_and_count, [])
             sightings.add_crashes(numbers, tree.crashes)
             known_outcome = self.known_outcome(numbers)
             outcome = known_outcome or self.run_in_tree(tree)
@@ -182,7 +187,7 @@ def different_trees(disks: Dict[str, List[Disk]]) -> List[DiskTree]:
     the first crash of each file system. disks has those of each file system by its name."""
     trees: Dict[TreeAndCount, DiskTree] = {}
     for tree in trees_after_crashes(disks):
-        first = trees.setdefault((tree.digest, tree.says), tree)
+        first = trees.setdefault(tree.tree_and_count, tree)
         keep_first_crashes(first.crashes, tree.crashes)
     return list(trees.values())
 
@@ -206,11 +211,11 @@ def explain_failures(
     each failure says why no tried state has its tree. Failures with the same tree, cause and reason
     are one, with all numbers of lines, the outcome of the first of these, and the first crash of
     each file system. ReadingFault as search_trees()."""
-    wanted = {(tree.digest, tree.says) for tree, _ in untried}
+    wanted = {tree.tree_and_count for tree, _ in untried}
     result = search_trees(trace_bytes, wanted) if wanted else SearchResult(set(), 0, True)
     failures: Dict[Tuple[str, str, str], DiskFailure] = {}
     for tree, outcome in untried:
-        explanation = result.explanation((tree.digest, tree.says))
+        explanation = result.explanation(tree.tree_and_count)
         key = (tree.digest, outcome.cause, explanation.reason)
         failure = failures.setdefault(key, DiskFailure(outcome, [], {}, tree.entries, explanation))
         failure.says.append(tree.says)

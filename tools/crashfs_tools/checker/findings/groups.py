@@ -237,8 +237,8 @@ class Findings:
         self.losses.update(losses)
         guessed = [state for group in self.groups if group.pair.is_guess for state in group.states]
         for state in guessed:
-            same = (number for number in losses if self.has_same_loss(state, number))
-            number = next(same, None)
+            with_same_loss = (number for number in losses if self.has_same_loss(state, number))
+            number = next(with_same_loss, None)
             if number is not None:
                 self.losses.setdefault(state.number, losses[number])
         self.groups = self.make_groups()

@@ -183,14 +183,14 @@ def loss_search(plan: Plan, state: State) -> Search:
     try:
         part_count = 2
         while True:
-            lines = sets_by_line(plan, missing_set(kept_set))
-            larger_set = yield from put_back_part(plan, kept_set, lines, part_count)
+            line_sets = sets_by_line(plan, missing_set(kept_set))
+            larger_set = yield from put_back_part(plan, kept_set, line_sets, part_count)
             if larger_set is not None:
                 kept_set, part_count = larger_set, max(2, part_count - 1)
-            elif part_count >= len(lines):
+            elif part_count >= len(line_sets):
                 break
             else:
-                part_count = min(2 * part_count, len(lines))
+                part_count = min(2 * part_count, len(line_sets))
         kept_set = yield from shortest_beginning(kept_set)
     except EndSearch:
         pass

@@ -24,7 +24,7 @@ class EqualSets:
         second reading refuses the trace, OSError if its file is gone."""
         self.plan = findings.plan
         with open(planned.trace, 'rb') as file:
-            self.trees = States(parse_trace(file.read()))
+            self.states = States(parse_trace(file.read()))
         # What each set leaves, if it was asked before; and the outcomes of what was tried.
         self.left_by_sets: Dict[int, Tuple[Digest, int]] = {}
         self.outcomes: Dict[Tuple[Digest, int], Outcome] = {}
@@ -43,7 +43,7 @@ class EqualSets:
         """What a set leaves: a tree, as its digest, and how many lines are acknowledged. This is
         computed once for each set, and kept."""
         if kept_set not in self.left_by_sets:
-            self.left_by_sets[kept_set] = self.trees.digest_and_says(kept_set)
+            self.left_by_sets[kept_set] = self.states.digest_and_says(kept_set)
         return self.left_by_sets[kept_set]
 
 

@@ -5,7 +5,7 @@ from __future__ import annotations
 from collections import Counter
 from dataclasses import dataclass, field
 from typing import Counter as Counts
-from typing import Dict, FrozenSet, Iterator, List, NamedTuple, Optional, Tuple
+from typing import Dict, Iterator, List, NamedTuple, Optional, Set, Tuple
 
 from crashfs_tools.checker.findings.groups import Findings, Group
 from crashfs_tools.checker.running.results import Head
@@ -181,8 +181,8 @@ def counts_by_profile(group: Group) -> Dict[str, int]:
 def count_accepted_states(groups: List[Group]) -> AcceptedStates:
     """Counts the different states that are only in accepted groups. A state of several accepted
     groups counts once, for the first of them; states that the window before tried don't count."""
-    none: FrozenSet[Tuple[int, ...]] = frozenset()
-    counted = none.union(*(group.tried_states for group in groups if group.accepted_entry is None))
+    counted: Set[Tuple[int, ...]] = set()
+    counted.update(*(group.tried_states for group in groups if group.accepted_entry is None))
     cause_kinds: Counts[str] = Counter()
     for group in groups:
         if group.accepted_entry is not None:

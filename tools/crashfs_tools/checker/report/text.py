@@ -94,8 +94,9 @@ class ReportText:
         """The folded lines of the failures in the file of --accept that no entry is. They are
         `gone` if all crash states of the whole check were tried, else `not seen`."""
         counts = self.counts
-        is_all = counts.are_all_listed and not counts.is_part and counts.has_tried_all(self.head)
-        words = 'accepted, and gone' if is_all else 'accepted, and not seen'
+        has_tried_all = counts.has_tried_all(self.head) and not counts.is_part
+        is_gone = has_tried_all and counts.are_all_listed
+        words = 'accepted, and gone' if is_gone else 'accepted, and not seen'
         missing = self.report.missing_accepted_failures()
         return folded_lines((f'{words}: {entry.name}' for entry in missing), '  ')
 
