@@ -3,9 +3,10 @@ fewest acknowledged lines."""
 
 from __future__ import annotations
 
-import json
 from pathlib import Path
 from typing import List, Optional
+
+from crashfs_tools.common.trace_fields import parse_line
 
 from .book import failure_key
 from .sessions import Failure, Sessions
@@ -13,15 +14,13 @@ from .sessions import Failure, Sessions
 
 def acknowledged_places(lines: List[str]) -> List[int]:
     """The places, from 0, of the acknowledged lines among the lines of a trace. Only lines that
-    contain `"say"` are parsed. ValueError if one of these is no JSON."""
+    contain `"say"` are parsed: TraceError if one of these isn't JSON, AttributeError if it isn't an
+    object."""
     return [
-        place for place, line in enumerate(lines) if '"say"' in line and is_say(json.loads(line))
+        place
+        for place, line in enumerate(lines)
+        if '"say"' in line and parse_line(place + 1, line).get('op') == 'say'
     ]
-
-
-def is_say(fields: object) -> bool:
-    """Whether the parsed JSON of a trace's line is an acknowledged line."""
-    return isinstance(fields, dict) and fields.get('op') == 'say'
 
 
 class Shrinking:
@@ -31,7 +30,7 @@ class Shrinking:
 
     def __init__(self, sessions: Sessions, key: str) -> None:
         """Reads the session that was recorded last; a later recording changes nothing. OSError if
-        its trace can't be read, ValueError as in acknowledged_places()."""
+        its trace can't be read, other exceptions as in acknowledged_places()."""
         self.sessions = sessions
         self.key = key
         text = sessions.trace.read_text('utf-8', 'surrogateescape')
