@@ -112,7 +112,7 @@ class CheckedTrace:
         )
 
     def trials_with_state(self, number: int) -> Trials:
-        """Plans window after window until one lists the state of this number, and returns the
+        """Plans window after window until one lists the state with this number, and returns the
         trials of that window, whose files stay. The state may be one that a check wouldn't try.
         Refused if no window lists the state; other errors as in all_planned()."""
         state_count = 0

@@ -42,7 +42,7 @@ def show_state(options: Options, guard: Guard) -> int:
 
 
 def try_and_show(trials: Trials, number: int) -> int:
-    """Tries the state of a number, lays it out again in a directory that stays, and prints the
+    """Tries the state with a number, lays it out again in a directory that stays, and prints the
     outcome and how to run COMMAND there. Returns the exit status for the outcome. Refused if the
     plan has no such state; other errors as in Trials.try_state() and lay_out_for_user(). The
     directory stays also if the printing raises an OSError."""

@@ -164,7 +164,7 @@ class DiskSearch:
         return numbers
 
     def known_outcome(self, numbers: Sequence[int]) -> Optional[Outcome]:
-        """The outcome of the first tried state among those of these numbers; None if none of them
+        """The outcome of the first tried state among those with these numbers; None if none of them
         was tried."""
         return next((self.outcomes[number] for number in numbers if number in self.outcomes), None)
 

@@ -30,7 +30,7 @@ from .torn import kept_part_text
 
 
 class Difference(NamedTuple):
-    """How the example of a group differs from the good state of a number: a line for each path."""
+    """How a group's example differs from the good state with a number: a line for each path."""
 
     good_state: int
     lines: List[str]
@@ -245,9 +245,9 @@ class Findings:
         self.complete_groups()
 
     def has_same_loss(self, state: State, number: int) -> bool:
-        """Whether a failing state also has the smallest loss of the state of a number, which must
-        be in `losses`: it lost all of that, has the operation that the pair kept, and fails as the
-        state of the number does."""
+        """Whether a failing state also has the smallest loss of another state, whose number must be
+        in `losses`: it lost all of that, has the operation that the pair kept, and fails as the
+        other state does."""
         kept_set, lacking = self.plan.kept[state.number], self.plan.set_lost_by(state)
         outcomes = self.outcomes_by_state
         return self.losses[number].may_explain(kept_set, lacking) and self.pairs.is_same_failure(

@@ -119,8 +119,8 @@ class LossSearches:
             self.answer_search(number)
 
     def answer_search(self, number: int) -> None:
-        """Answers the search for the state of a number by the outcomes that are known, until it
-        wants a set without one, or ends."""
+        """Answers the search for a state, given by its number, with the outcomes that are known,
+        until it wants a set without one, or ends."""
         failing = self.findings.outcomes_by_state[number]
         while number in self.wanted_sets:
             outcome = outcome_of_set(self.wanted_sets[number], self.outcomes, self.equal_sets)
@@ -129,14 +129,14 @@ class LossSearches:
             self.send_answer(number, self.findings.pairs.is_same_failure(failing, outcome))
 
     def send_answer(self, number: int, is_same: bool) -> None:
-        """Answers the search for the state of a number whether the set that the search wanted fails
+        """Sends the search for a state, given by its number, whether the set that it wanted fails
         alike, and continues the search as advance_search() does."""
         self.advance_search(number, lambda search: search.send(is_same))
 
     def advance_search(self, number: int, step: Callable[[Search], int]) -> None:
-        """Continues the search for the state of a number by a step, which returns the set that the
-        search wants next. Notes that set in wanted_sets or, if the search ends, its loss in
-        losses."""
+        """Continues the search for a state, given by its number, by a step, which returns the set
+        that the search wants next. Notes that set in wanted_sets or, if the search ends, its loss
+        in losses."""
         self.wanted_sets.pop(number, None)
         try:
             self.wanted_sets[number] = step(self.searches[number])

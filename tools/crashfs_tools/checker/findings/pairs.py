@@ -62,7 +62,7 @@ class Comparison(Enum):
     NOT_TRIED = 'was not tried'
 
 
-# Compares the state of a number with the one whose pair is looked for.
+# Compares a state, given by its number, with the one whose pair is looked for.
 Compare = Callable[[int], Comparison]
 
 
@@ -104,11 +104,11 @@ class Pairs:
         return self.pick_pair(state, compare)
 
     def comparison_with(self, outcome: Outcome) -> Compare:
-        """A function that compares the state of a number with a failing state that has this
+        """A function that compares a state, given by its number, with a failing state that has this
         outcome."""
 
         def compare(number: int) -> Comparison:
-            """Compares the outcome of the state of a number with `outcome`."""
+            """Compares the outcome of a state, given by its number, with `outcome`."""
             other = self.outcomes.get(number)
             if other is None:
                 return Comparison.NOT_TRIED
@@ -191,6 +191,6 @@ class Pairs:
 
 
 def is_failing_alike(number: Optional[int], compare: Compare) -> bool:
-    """Whether the state of a number was tried and fails alike. False for None, the number of no
-    state."""
+    """Whether a state, given by its number, was tried and fails alike. False for None, the number
+    of no state."""
     return number is not None and compare(number) is Comparison.FAILS_ALIKE

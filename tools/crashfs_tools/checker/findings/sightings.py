@@ -87,21 +87,21 @@ class Sightings:
     further_failures: List[DiskFailure] = field(default_factory=list)
 
     def crashes_of_states(self, numbers: Sequence[int]) -> Dict[str, Crash]:
-        """The first crash of each file system that left one of the states of these numbers; without
-        the file systems on which none of them was seen."""
+        """The first crash of each file system that left one of the states with these numbers;
+        without the file systems on which none of them was seen."""
         crashes: Dict[str, Crash] = {}
         for number in numbers:
             keep_first_crashes(crashes, self.crashes_by_state.get(number, {}))
         return crashes
 
     def add_crashes(self, numbers: Sequence[int], crashes: Dict[str, Crash]) -> None:
-        """Adds crashes that left the states of these numbers to crashes_by_state: one of each file
-        system, by its name."""
+        """Adds crashes that left the states with these numbers to crashes_by_state: one of each
+        file system, by its name."""
         for number in numbers:
             keep_first_crashes(self.crashes_by_state.setdefault(number, {}), crashes)
 
     def text_of_states(self, numbers: Sequence[int]) -> str:
-        """On which file systems a crash left one of the states of these numbers, and which crash;
+        """On which file systems a crash left one of the states with these numbers, and which crash;
         and on which file systems none did."""
         return sighting_text(self.names, self.crashes_of_states(numbers))
 

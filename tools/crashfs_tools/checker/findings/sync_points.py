@@ -39,7 +39,7 @@ def sync_points(pairs: LinePairs, lines: Dict[int, TraceLine]) -> Dict[int, str]
 
 
 def is_syncable(number: int, lines: Dict[int, TraceLine]) -> bool:
-    """Whether `lines` has the line of a number, and a sync would make that line durable."""
+    """Whether `lines` has a line with this number, and a sync would make that line durable."""
     return number in lines and lines[number].path_to_fsync is not None
 
 
@@ -54,8 +54,8 @@ def sync_interval(lost: int, kept: int, lines: Dict[int, TraceLine]) -> Interval
 
 
 def end_of_path(path: str, numbers: range, lines: Dict[int, TraceLine]) -> Optional[TraceLine]:
-    """The first of the lines of these numbers after which a path doesn't name what it named before;
-    None if there is none. Numbers that `lines` doesn't have are skipped."""
+    """The first of the lines with these numbers after which a path doesn't name what it named
+    before; None if there is none. Numbers that `lines` doesn't have are skipped."""
     operations = (lines[number] for number in numbers if number in lines)
     return next((line for line in operations if line.may_change_path(path)), None)
 
