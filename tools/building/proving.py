@@ -6,12 +6,13 @@ import shutil
 import sys
 import threading
 import time
-from contextlib import ExitStack
+from contextlib import ExitStack, suppress
 from pathlib import Path
 from typing import Tuple
 
 from crashfs_tools.common.command import shorten
 from crashfs_tools.common.printable import escape_unprintable
+from crashfs_tools.common.standard_streams import flushed_output
 
 from .checks import Check, killed_text, run_check
 from .order import PROGRAM, TOP, Work, crates_below, paths_of_texts
@@ -65,18 +66,25 @@ def report_failure(name: str, check: Check, jobs: int, processors: int) -> None:
 
 def prove_crates_in(copy: Path, work: Work, start_time: float) -> None:
     """Proves one crate after the other in a copy of the repository, until none is left, or one
-    isn't proved, here or in another thread. Prints a line for each, with the minutes since
-    `start_time` (of time.monotonic()), and what a failed check printed. OSError if a line can't be
-    printed: other threads go on."""
+    isn't proved, here or in another thread. Prints a line for each, by print_progress(), and what a
+    failed check printed. Errors as report_failure(): other threads go on."""
     for name, jobs in iter(work.begin_next_crate, None):
         used_copy, check = check_crate_in(copy, work, name, jobs)
         work.end_crate(name, used_copy if check.status == 0 else None)
         result = 'proved' if check.status == 0 else 'NOT PROVED'
-        minutes = (time.monotonic() - start_time) / 60
         count = f'{len(work.proved_in)} of {len(work.uses)}'
-        print(f'{minutes:5.1f} min: {name} {result} ({count})', flush=True)
+        print_progress(f'{name} {result} ({count})', start_time)
         if check.status:
             report_failure(name, check, jobs, work.processors)
+
+
+def print_progress(text: str, start_time: float) -> None:
+    """Prints a text at once as a line, after the minutes since `start_time` (of time.monotonic()).
+    If it can't be printed, because nobody reads it or the disk is full, it is dropped, as are later
+    lines."""
+    minutes = (time.monotonic() - start_time) / 60
+    with suppress(OSError), flushed_output():
+        print(f'{minutes:5.1f} min: {text}')
 
 
 def check_crate_in(copy: Path, work: Work, name: str, jobs: int) -> Tuple[Path, Check]:
@@ -125,6 +133,5 @@ def build_program(start_time: float) -> int:
         # It runs alone, with one job: fewer processors would be no help.
         report_failure(PROGRAM, check, jobs=1, processors=1)
         return 1
-    minutes = (time.monotonic() - start_time) / 60
-    print(f'{minutes:5.1f} min: crates/{PROGRAM}/out/{PROGRAM} is built', flush=True)
+    print_progress(f'crates/{PROGRAM}/out/{PROGRAM} is built', start_time)
     return 0

@@ -327,6 +327,15 @@ class Reports(unittest.TestCase):
         names = [line.split()[2] for line in out.splitlines()]
         self.assertEqual((names, err), (['a', 'b', 'e', 'c', 'd'], ''))
 
+    def test_all_crates_are_proved_if_nobody_reads_what_is_printed(self) -> None:
+        work = Work(BELOW, CHAINS, 4)
+        reader, writer = os.pipe()
+        os.close(reader)
+        with open(writer, 'w') as out, redirect_stdout(out):
+            with mock.patch.object(proving, 'run_check', return_value=Check(0, b'', 1)):
+                prove_crates_in(Path('/'), work, 0)
+        self.assertEqual(sorted(work.proved_in), list('abcde'))
+
     def test_the_program_s_check_is_reported_like_those_of_libraries(self) -> None:
         _, err = self.printed(Check(137, b'so far\n', 1))
         self.assertRegex(err, '^so far\ncrashfs: the system killed its check')
