@@ -38,35 +38,6 @@ class Calls(unittest.TestCase):
         recording = recording_of(log, [], lambda path: path.endswith('.tmp'))
         self.assertEqual((recording.trace.operations, list(recording.troubles)), ([], []))
 
-    def test_a_trace_of_version_2_has_what_it_can_say(self):
-        log = [
-            '1 link("f", "g") = 0',
-            '1 openat(AT_FDCWD</d>, "g", O_RDWR|O_DSYNC) = 3</d/g>',
-            '1 write(3</d/g>, "J", 1) = 1',
-            '1 unlink("f") = 0',
-            '1 link("g", "h") = 0',
-        ]
-        with mock.patch('crashfs_tools.recorder.recording.WRITTEN_VERSION', 2):
-            recording = recording_of(log, FILE)
-        self.assertEqual(
-            list(recording.trace.lines()),
-            [
-                '{"trace":2,"profile":"blocks","owner":"u","group":"u","mode":"755"}',
-                '{"start":"file","path":"/f","owner":"u","group":"u","mode":"644",'
-                '"bytes":"68656c6c6f"}',
-                '{"op":"write","path":"/f","offset":0,"bytes":"4a"}',
-                '{"op":"fsync","path":"/f"}',
-                '{"op":"rename","from":"/f","to":"/g"}',
-            ],
-        )
-        self.assertEqual(
-            [str(one) for one in list(recording.troubles)],
-            [
-                '/f: a sync of a part is written as one of the file (after line 3)',
-                '/h: stays another name of /g, by a link',
-            ],
-        )
-
     @needs_version_3
     def test_the_sync_of_a_write_counts_from_its_end(self):
         log = [

@@ -13,8 +13,7 @@ from .sparse import SparseBytes
 BLOCKS, ORDERED, JOURNAL = 'blocks', 'ordered', 'journal'
 PROFILES = (BLOCKS, ORDERED)
 BLOCK_SIZES = (512, 1_024, 2_048, 4_096)
-# The version that the recorder writes. Version 2 has no links, no syncs of a part and no notes:
-# what a session has of them is then reported.
+# The version that the recorder writes, unless the session needs a newer one.
 WRITTEN_VERSION = 3
 
 

@@ -236,13 +236,10 @@ class Tree:
 
     def size_fault(self, operation: Operation) -> Optional[str]:
         """Why a file can't have the size that a write or truncate gives it; None if it can, and for
-        other operations. A write of no bytes changes no size, whatever its offset."""
-        end, largest_size = 0, limits.most_file_bytes(self.version)
-        if isinstance(operation, Write):
-            end = operation.offset + len(operation.data) if operation.data else 0
-        elif isinstance(operation, Truncate):
-            end = operation.length
-        return f'a file of more than {largest_size} bytes' if end > largest_size else None
+        other operations."""
+        largest_size = limits.most_file_bytes(self.version)
+        is_too_large = least_file_size(operation) > largest_size
+        return f'a file of more than {largest_size} bytes' if is_too_large else None
 
     # What an operation does
 
@@ -337,6 +334,15 @@ class Tree:
 def symlink_entry(line: Union[Symlink, StartSymlink]) -> Entry:
     """The entry of a symbolic link; its mode is 777, as the system reports it."""
     return Entry(line.owner, line.group, 0o777, None, line.link)
+
+
+def least_file_size(operation: Operation) -> int:
+    """The size that a file has at least after an operation: the offset at which a write's bytes
+    end, or the length that a truncate sets. 0 for any other operation, and for a write of no bytes,
+    which changes no size."""
+    if isinstance(operation, Write):
+        return operation.offset + len(operation.data) if operation.data else 0
+    return operation.length if isinstance(operation, Truncate) else 0
 
 
 def is_growth_past_page(old_size: int, end: int) -> bool:

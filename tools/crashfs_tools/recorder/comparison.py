@@ -148,8 +148,8 @@ def lines_on_links(directory: Scan, last_tree: Tree, reported_paths: Collection[
 
 
 def first_paths_of_files(tree: Tree) -> Dict[str, str]:
-    """For each path of a tree the first of all paths of its file, in the order of a scan: the path
-    itself if the file has no other."""
+    """For each path of a tree the first, in the order of a scan, of all paths of its file: the path
+    itself if the file has no earlier one."""
     first_paths: Dict[int, str] = {}
     for path in sorted(tree.files, key=scan_order):
         first_paths.setdefault(tree.files[path], path)

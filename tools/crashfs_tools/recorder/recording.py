@@ -13,9 +13,6 @@ from crashfs_tools.common.trace import (
     WRITTEN_VERSION,
     Chmod,
     Creat,
-    Fdatasync,
-    Fsync,
-    FsyncRange,
     Header,
     Link,
     Mkdir,
@@ -28,10 +25,8 @@ from crashfs_tools.common.trace import (
     Symlink,
     Sync,
     Trace,
-    Truncate,
-    Write,
 )
-from crashfs_tools.common.tree import Tree
+from crashfs_tools.common.tree import Tree, least_file_size
 
 from .directory import NEWEST
 from .output_streams import OutputStream, OutputStreams, SayEach
@@ -71,14 +66,6 @@ def is_private(trace: Trace) -> bool:
         if isinstance(operation, (Creat, Mkdir, Chmod))
     ]
     return any(mode & 0o044 != 0o044 for mode in modes)
-
-
-def least_file_size(operation: Operation) -> int:
-    """The size, in bytes, that a file has at least after an operation: the offset at which a
-    write's bytes end, or the length that a truncate sets. 0 for any other operation."""
-    if isinstance(operation, Write):
-        return operation.offset + len(operation.data)
-    return operation.length if isinstance(operation, Truncate) else 0
 
 
 def symlink_reason(path: str) -> str:
@@ -197,15 +184,13 @@ class Recording:
 
     def add_operation(self, operation: Operation) -> bool:
         """Adds an operation, with its call's note, to the trace and its tree, and returns True. The
-        trace gets the newest version if the operation needs that. Returns False, and adds nothing,
-        if `crashfs` would refuse the operation, which is reported. Returns what
-        add_in_older_version() does if the trace's version has no line for the operation."""
+        trace gets the newest version if the operation needs that; a Symlink must not be added if
+        may_have_newest_version is False. If `crashfs` would refuse the operation, it is reported
+        and not added, and False is returned."""
         old_version, old_reason = self.trace.version, self.newest_version_reason
         reason = self.reason_for_newest_version(operation)
         if reason:
             self.use_newest_version(reason)
-        if not self.has_line_for(operation):
-            return self.add_in_older_version(operation)
         fault = self.tree.fault(operation)
         if fault:
             self.set_version(old_version, old_reason)
@@ -218,21 +203,6 @@ class Recording:
         self.trace.operations.append(operation)
         self.change_count += not isinstance(operation, Say)
         return True
-
-    def has_line_for(self, operation: Operation) -> bool:
-        """Whether the trace's version has a line for an operation. If it has an FsyncRange, it has
-        one for an Fdatasync: an FsyncRange of the whole file."""
-        kind = FsyncRange if isinstance(operation, Fdatasync) else type(operation)
-        return self.trace.has_kind(kind)
-
-    def add_in_older_version(self, operation: Operation) -> bool:
-        """Adds an Fsync for an operation for which the trace's version has no line, if that is an
-        FsyncRange or Fdatasync; reports that, and returns what add_operation() does. Returns False
-        for any other operation, which is neither added nor reported."""
-        if not isinstance(operation, (FsyncRange, Fdatasync)):
-            return False
-        self.report('a sync of a part is written as one of the file', operation.path)
-        return self.add_operation(Fsync(operation.path))
 
     def add_output(self, stream: OutputStream, data: bytes) -> None:
         """Adds bytes that COMMAND wrote to a stream: an acknowledgement for each text that they

@@ -182,7 +182,7 @@ class StraceRun:
         which is COMMAND's. Signals that come meanwhile are passed to COMMAND."""
         while True:
             try:
-                return strace.wait(0.2)
+                return strace.wait(RESEND_SECONDS)
             except subprocess.TimeoutExpired:
                 self.send_pending_signal()
 
