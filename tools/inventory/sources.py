@@ -205,7 +205,7 @@ def citations_in(path: Path, crate: str) -> List[Citation]:
 
 def citations() -> Dict[str, Dict[str, List[str]]]:
     """By crate and by its word, the calls of all crates whose contracts cite the word, each once,
-    as Citation has them. A word that a contract has behind a module's name isn't found. All sources
+    as Citation has them. A word that a contract has after a module's name isn't found. All sources
     are read: OSError if one can't be read."""
     files = [(path, crate) for crate in crate_names() for path in crate_files(crate, 'src', '.rt')]
     all_citations = dict.fromkeys(

@@ -41,7 +41,8 @@ def running_server(words: List[str]) -> Iterator[subprocess.Popen[str]]:
     """A server, given by its command line, which runs on the processors for servers until the
     `with` ends, and is killed then. The `with` begins when the server has printed the line
     `listening ..`, however long that takes. OSError if the server can't be started, or ends or
-    prints another line first. What it prints later isn't read: if the pipe is full, it waits."""
+    prints another line first. What it prints later isn't read: once the pipe is full, the server
+    waits."""
     server = start_program(words, processor_halves()[0])
     assert server.stdout is not None
     try:

@@ -49,7 +49,8 @@ def rename(old, new):
 def plan_text(text, picks=True):
     """The plan with all families, as `list` prints it."""
     plain = make_plan(reading := parse_trace(text.encode()))
-    families = (lost_sets(plain), file_sets(plain)) if picks else ()
+    order, trees = plain.order, plain.trees
+    families = (lost_sets(order), file_sets(order, trees)) if picks else ()
     sets = [one for family in families for one in different_places(family)]
     return ''.join(json_listing(make_plan(reading, has_holes=True, picks=sets)))
 

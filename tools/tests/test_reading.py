@@ -9,7 +9,9 @@ from pathlib import Path
 
 from crashfs_tools.reading import ReadingFault, make_plan, parse_trace
 from crashfs_tools.reading.listing import plain_listing
+from crashfs_tools.reading.order import Order
 from crashfs_tools.reading.plan import different_places, file_sets, read_picks
+from crashfs_tools.reading.states import States
 
 from .case_runs import Runner
 from .random_traces import RandomTrace
@@ -36,6 +38,12 @@ def listed(text, picks=(), **options):
     return ''.join(
         plain_listing(make_plan(parse_trace(text.encode()), has_holes=True, picks=picks), **options)
     )
+
+
+def files_family(text):
+    """The places of each set of --files, each set once."""
+    reading = parse_trace(text.encode())
+    return list(different_places(file_sets(Order(reading), States(reading))))
 
 
 def fault_of(text):
@@ -133,22 +141,18 @@ class Rows(unittest.TestCase):
         )
 
     def test_a_sync_of_a_range_takes_away_what_it_covers_from_the_files_family(self):
-        sets = list(
-            different_places(file_sets(make_plan(parse_trace(row('row45.trace').encode()))))
-        )
+        sets = files_family(row('row45.trace'))
         self.assertIn([0, 1, 3, 4, 5], sets)
         self.assertNotIn([0, 5], sets)
 
     def test_a_set_of_the_files_family_is_given_once(self):
         """The second write is synced and needs the first, so that both prefixes leave the same."""
-        sets = different_places(file_sets(make_plan(parse_trace(NEEDS_LOST.encode()))))
-        self.assertEqual(list(sets), [[0], [0, 1, 3]])
+        self.assertEqual(files_family(NEEDS_LOST), [[0], [0, 1, 3]])
 
     def test_a_sync_after_a_prefix_has_not_ended_in_it(self):
         text = HEADERS[3] + A + '{"op":"write","path":"/a","offset":0,"text":"row"}\n' + B
         text += '{"op":"fsync","path":"/a"}\n{"op":"say","text":"row"}\n'
-        sets = different_places(file_sets(make_plan(parse_trace(text.encode()))))
-        self.assertEqual(list(sets), [[0], [0, 3]])
+        self.assertEqual(files_family(text), [[0], [0, 3]])
 
 
 def contents_of(tree):

@@ -88,8 +88,9 @@ class Reader:
             raise ProgramFault(1, str(fault).encode()) from fault
         if words[0] == 'list':
             return ''.join(json_listing(plan))
-        family = lost_sets if '--lost' in options else file_sets
-        return ''.join(f'{places}\n' for places in different_places(family(plan)))
+        has_lost = '--lost' in options
+        sets = lost_sets(plan.order) if has_lost else file_sets(plan.order, plan.trees)
+        return ''.join(f'{places}\n' for places in different_places(sets))
 
     def tree_with_root(self, words, _environment=None):
         options = read_options(['tar', *words])

@@ -12,7 +12,8 @@ from .faults import ReadingFault
 from .lines import PROFILES
 from .order import Order, order_under
 from .place_sets import places_of
-from .plan import StateList, different_places, family_sets
+from .plan import different_places, family_sets
+from .states import States
 from .trace import Reading
 
 DEFAULT_MOST = 1_000_000
@@ -59,8 +60,8 @@ def option_number(options: Options, option: str) -> int:
 
 
 def is_number_text(text: str) -> bool:
-    """Whether a text is a number that eight bytes hold: digits only, at most 20 of them, also with
-    zeros in front."""
+    """Whether a text is a number that eight bytes hold: digits only, at most 20 of them. Zeros in
+    front are allowed, and count as digits."""
     return text.isascii() and text.isdecimal() and len(text) <= 20 and int(text) < 2**64
 
 
@@ -92,7 +93,8 @@ def picked_sets(reading: Reading, options: Options) -> Iterator[List[int]]:
         drawn = drawn_sets(Order(reading), count, seed)
         return (list(places_of(place_set)) for place_set in drawn)
     has_lost, has_files = '--lost' in options, '--files' in options
-    families = family_sets(StateList(reading), has_lost=has_lost, has_files=has_files)
+    order, trees = Order(reading), States(reading)
+    families = family_sets(order, trees, has_lost=has_lost, has_files=has_files)
     return (places for family in families for places in different_places(family))
 
 

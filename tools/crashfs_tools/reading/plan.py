@@ -107,7 +107,7 @@ def add_families(plan: StateList, *, has_lost: bool, has_files: bool) -> None:
     """Adds the sets of the families --lost and --files to a plan, as picks, in this order. Each set
     is added once, and only if the plan lacks it. ReadingFault if the plan is full; the sets added
     before stay."""
-    families = family_sets(plan, has_lost=has_lost, has_files=has_files)
+    families = family_sets(plan.order, plan.trees, has_lost=has_lost, has_files=has_files)
     planned_sets = {state.place_set for state in plan.states}
     for place_set in dict.fromkeys(chain.from_iterable(families)):
         if place_set not in planned_sets:
@@ -132,23 +132,26 @@ def read_picks(picks_bytes: bytes) -> List[List[int]]:
     return picks
 
 
-def family_sets(plan: StateList, *, has_lost: bool, has_files: bool) -> List[Iterator[int]]:
-    """The sets of each family that is asked for, as a stream: of --lost first, then of --files. The
-    states of the plan aren't looked at."""
-    families = [lost_sets(plan)] if has_lost else []
-    return [*families, file_sets(plan)] if has_files else families
+def family_sets(
+    order: Order, trees: States, *, has_lost: bool, has_files: bool
+) -> List[Iterator[int]]:
+    """The sets of each family that is asked for, as a stream: of --lost first, then of --files.
+    `order` and `trees` must be those of one trace."""
+    families = [lost_sets(order)] if has_lost else []
+    return [*families, file_sets(order, trees)] if has_files else families
 
 
-def lost_sets(plan: StateList) -> Iterator[int]:
-    """The family --lost: for each micro-operation the smallest allowed set that has it, in the
-    order of the trace."""
-    return (plan.order.needs[place] | 1 << place for place in range(plan.order.count))
+def lost_sets(order: Order) -> Iterator[int]:
+    """The family --lost: for each micro-operation the smallest set that has it and that the order
+    allows, in the order of the trace."""
+    return (needs | 1 << place for place, needs in enumerate(order.needs))
 
 
-def file_sets(plan: StateList) -> Iterator[int]:
+def file_sets(order: Order, trees: States) -> Iterator[int]:
     """The family --files: each prefix without those changes of one file that no sync before its
-    last micro-operation covers, and without all that need them. A set may come several times."""
-    order, changes = plan.order, plan.trees.change_places
+    last micro-operation covers, and without all that need them. A set may come several times.
+    `order` and `trees` must be those of one trace."""
+    changes = trees.change_places
     for end in range(1, order.count + 1):
         prefix = (1 << end) - 1
         # A sync after the prefix's last micro-operation hasn't ended yet.

@@ -14,8 +14,9 @@ from .place_sets import set_of
 from .plan import Needs, PlanError
 
 if TYPE_CHECKING:
-    from crashfs_tools.reading import Reading, StateList
+    from crashfs_tools.reading import Reading
     from crashfs_tools.reading.order import Order, Profiles
+    from crashfs_tools.reading.states import States
 
 # What the program says if there are too many sets.
 TOO_MANY = ('more than ', 'too many sets')
@@ -164,22 +165,29 @@ class ReadingSets:
         self.orders: Dict[str, Order] = {}
 
     @cached_property
-    def state_list(self) -> StateList:
-        """A list without states, for its order and its trees. The order is the trace's own: in
-        older traces what follows an acknowledged line doesn't need this line."""
-        from crashfs_tools.reading import StateList
+    def trace_order(self) -> Order:
+        """The order of the trace's own profile. Unlike in order(), in older traces what follows an
+        acknowledged line doesn't need this line."""
+        from crashfs_tools.reading.order import Order
 
-        return StateList(self.reading)
+        return Order(self.reading)
+
+    @cached_property
+    def trees(self) -> States:
+        """The trees that allowed sets leave."""
+        from crashfs_tools.reading.states import States
+
+        return States(self.reading)
 
     @cached_property
     def needs(self) -> Needs:
         """What each micro-operation needs, with itself, as `list --json` prints it."""
-        return Needs([mask | 1 << place for place, mask in enumerate(self.state_list.order.needs)])
+        return Needs([mask | 1 << place for place, mask in enumerate(self.trace_order.needs)])
 
     def has_pending(self, end: int) -> bool:
         """Whether a micro-operation before the place `end` isn't durable yet when the one at `end`
         begins. Acknowledged lines don't count."""
-        return self.state_list.order.pending_set(end) & ~self.state_list.trees.says != 0
+        return self.trace_order.pending_set(end) & ~self.trees.says != 0
 
     @cached_property
     def profile_names(self) -> Tuple[str, ...]:

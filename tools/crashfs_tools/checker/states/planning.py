@@ -221,7 +221,8 @@ class Planner:
 
         needs = reading_sets.needs
         sets = list(needs.masks) if self.options.has_lost else []
-        sets += file_sets(reading_sets.state_list) if self.options.has_files else []
+        if self.options.has_files:
+            sets += file_sets(reading_sets.trace_order, reading_sets.trees)
         if self.options.has_every:
             operations = reading_sets.reading.operations
             sets += needs.sets_without_lines(operation.line_number for operation in operations)
