@@ -15,10 +15,10 @@ from crashfs_tools.checker.options import NAME, Options
 from crashfs_tools.checker.running.results import Results, known_states
 from crashfs_tools.checker.states.layout import lay_out, read_trees
 from crashfs_tools.checker.states.plan import Plan, PlannedTrace
-from crashfs_tools.common.archive import Member
+from crashfs_tools.common.archive import Member, members_of_tree, tree_of_members
 from crashfs_tools.common.entry import Entries
 from crashfs_tools.common.guard import Guard
-from crashfs_tools.common.program import Crashfs, members_of_tree, tree_of_members
+from crashfs_tools.common.program import Crashfs
 from crashfs_tools.common.removal import remove_tree
 
 from .checks import path_text, refuse_every_with_families

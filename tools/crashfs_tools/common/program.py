@@ -14,7 +14,14 @@ from functools import cached_property
 from itertools import groupby
 from typing import Any, Dict, Iterable, Iterator, List, Optional, Tuple, Union
 
-from .archive import ArchiveFault, Member, parse_state_number, read_members
+from .archive import (
+    ArchiveFault,
+    Member,
+    first_name_of_path,
+    parse_state_number,
+    read_members,
+    tree_of_members,
+)
 from .command import Refused, ending_text
 from .entry import Entries
 from .forked_reading import ForkedReading
@@ -257,24 +264,6 @@ class Crashfs:
         Errors as open_archive(), also if there is no such state."""
         with self.open_archive(words, environment) as archive:
             return tree_of_members(archive)
-
-
-def tree_of_members(members: Iterable[Member]) -> Entries:
-    """A tree from the entries of an archive, which it reads to the end: paths get a slash in
-    front."""
-    return {'/' + path: entry for path, entry in members}
-
-
-def members_of_tree(tree: Entries) -> Iterator[Member]:
-    """Yields the entries of a tree as those of an archive: paths lose their first slash, so that of
-    the root is empty."""
-    for path, entry in tree.items():
-        yield path[1:], entry
-
-
-def first_name_of_path(member: Member) -> str:
-    """The first name of the path of an archive's entry: with `--states` the number of its state."""
-    return member[0].partition('/')[0]
 
 
 def program_of_tools(tools_folder: str) -> Optional[str]:

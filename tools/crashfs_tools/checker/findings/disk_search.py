@@ -11,9 +11,9 @@ from typing import Callable, Dict, List, NamedTuple, Optional, Sequence, Set, Tu
 from crashfs_tools.checker.running.runner import GOOD, Outcome, refuse_left_processes
 from crashfs_tools.checker.running.trials import Trials
 from crashfs_tools.checker.states.layout import lay_out
+from crashfs_tools.common.archive import members_of_tree
 from crashfs_tools.common.entry import Entries
 from crashfs_tools.common.guard import Guard
-from crashfs_tools.common.program import members_of_tree
 from crashfs_tools.common.removal import remove_tree
 from crashfs_tools.common.trace_read import read_trace_with_numbers
 from crashfs_tools.disks.disk import Crash, Disk, digest_of

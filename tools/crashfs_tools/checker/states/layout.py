@@ -21,10 +21,10 @@ from typing import (
     Union,
 )
 
-from crashfs_tools.common.archive import Member, parse_state_number
+from crashfs_tools.common.archive import Member, first_name_of_path, parse_state_number
 from crashfs_tools.common.entry import Entry
 from crashfs_tools.common.removal import FOLDER, remove_tree, set_folder_mode
-from crashfs_tools.common.program import Crashfs, ProgramFault, first_name_of_path
+from crashfs_tools.common.program import Crashfs, ProgramFault
 from crashfs_tools.common.sparse import SparseBytes
 
 from .plan import Plan, PlannedTrace, Request
