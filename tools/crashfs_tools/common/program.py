@@ -12,7 +12,7 @@ import tempfile
 from contextlib import contextmanager
 from functools import cached_property
 from itertools import groupby
-from typing import Any, Dict, Iterable, Iterator, List, Optional, Tuple, Union
+from typing import Any, Dict, Iterator, List, Optional, Tuple, Union
 
 from .archive import (
     ArchiveFault,
