@@ -142,7 +142,7 @@ def run_campaign(arguments: List[str]) -> int:
     try:
         options = read_options(arguments)
         campaign = Campaign(options, open_book(options))
-        # It may be in RESULTS, which is there now.
+        # The page may be in RESULTS, which is there now.
         if options.html is not None:
             folder_to_write(options.html)
     except Refused as refused:

@@ -285,6 +285,8 @@ class Findings:
         pair = loss.pair if loss else self.pairs.pair_of(state)
         kept, lost = self.line_at(pair.kept), self.line_at(pair.lost)
         tried, allowed = self.tried_states(state), self.plan.profile_names_of(state)
+        kept_set = self.plan.kept[state.number]
+        is_explained = pair.is_kept_in(kept_set) and pair.is_lost_in(kept_set)
         no_states: FrozenSet[Tuple[int, ...]] = frozenset()
         return Group(
             outcome=self.outcomes_by_state[state.number],
@@ -298,16 +300,8 @@ class Findings:
             states_by_profile={
                 name: tried if name in allowed else no_states for name in self.plan.profiles.names
             },
-            explained_states=tried if self.is_explained(state, pair) else no_states,
+            explained_states=tried if is_explained else no_states,
         )
-
-    def is_explained(self, state: State, pair: Pair) -> bool:
-        """Whether a state lacks the operation that a pair lost, and has the one that the pair kept.
-        False if the pair lost none or kept none."""
-        kept_set = self.plan.kept[state.number]
-        has_lost = pair.lost is None or bool(kept_set >> pair.lost & 1)
-        has_kept = pair.kept is not None and bool(kept_set >> pair.kept & 1)
-        return has_kept and not has_lost
 
     def tried_states(self, state: State) -> FrozenSet[Tuple[int, ...]]:
         """The number of the state that is tried for a state, as the only member of a set; an empty

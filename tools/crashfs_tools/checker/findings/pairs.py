@@ -39,6 +39,15 @@ class Pair(NamedTuple):
     lost: Optional[int]
     is_guess: bool = False
 
+    def is_kept_in(self, kept_set: int) -> bool:
+        """Whether a set has the micro-operation that the pair kept; False if the pair kept none."""
+        return self.kept is not None and bool(kept_set >> self.kept & 1)
+
+    def is_lost_in(self, kept_set: int) -> bool:
+        """Whether a set lacks the micro-operation that the pair lost; False if the pair lost
+        none."""
+        return self.lost is not None and not kept_set >> self.lost & 1
+
 
 class Loss(NamedTuple):
     """A smallest loss that makes a state fail: its pair, and the set of all that it lacks."""
@@ -50,8 +59,7 @@ class Loss(NamedTuple):
         """Whether a state that has kept_set, and lacks lost_set before its last operation, lacks
         all that this loss lacks, and has the operation that the pair kept. False if the pair kept
         nothing."""
-        has_kept = self.pair.kept is not None and bool(kept_set >> self.pair.kept & 1)
-        return has_kept and self.lacking & ~lost_set == 0
+        return self.pair.is_kept_in(kept_set) and self.lacking & ~lost_set == 0
 
 
 class Comparison(Enum):
@@ -129,8 +137,8 @@ class Pairs:
         return other.cause_kind == outcome.cause_kind
 
     def prefix_pair(self, length: int, compare: Compare) -> Pair:
-        """The pair of the prefix of a length by rule 1. A prefix that wasn't tried is taken to fail
-        alike."""
+        """The pair of the prefix of a length, which must fail alike, by rule 1. A prefix that
+        wasn't tried is taken to fail alike."""
         whole = len(self.plan.operations)
         shortest = self.last_failing_length(range(length, -1, -1), compare)
         longest = self.last_failing_length(range(length, whole + 1), compare)
@@ -148,7 +156,7 @@ class Pairs:
         return last
 
     def hole_pair(self, state: State, compare: Compare) -> Pair:
-        """The pair of a hole by rules 3 to 5."""
+        """The pair of a hole that fails alike, by rules 3 to 5."""
         hole_place, length = state.numbers
         if is_failing_alike(self.prefixes[length], compare):
             return self.prefix_pair(length, compare)
@@ -179,8 +187,8 @@ class Pairs:
         return hole_place
 
     def pick_pair(self, state: State, compare: Compare) -> Pair:
-        """The pair of a pick by rule 6. If no hole gives the pair, it is a guess, unless the pick
-        has nothing or lacks nothing."""
+        """The pair of a pick that fails alike, by rule 6. If no hole gives the pair, it is a guess,
+        unless the pick has nothing or lacks nothing."""
         kept_set, lacking = self.plan.kept[state.number], self.plan.set_lost_by(state)
         for place in places_of(lacking):
             hole = self.holes.get((place, kept_set.bit_length()))

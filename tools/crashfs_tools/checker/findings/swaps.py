@@ -51,8 +51,7 @@ class Swap:
         """Writes the copy and tries its states; returns how many different states fail in the trace
         and in the copy. Those that --fail-fast left untried don't count. None, and nothing is
         tried, if the lines can't change places, or the copy has more than MOST_STATES states.
-        Exceptions as in Planner.plan(), but not Refused, and Trials.try_states(); OSError also if a
-        file can't be read or written."""
+        Exceptions as in plan_copy() and Trials.try_states()."""
         moved_numbers = lines_to_move(self.kept_line, self.lost_line, self.findings.head.lines)
         planned = self.plan_copy(moved_numbers) if moved_numbers else None
         if planned is None or len(planned.plan.states) > MOST_STATES:
@@ -67,8 +66,8 @@ class Swap:
 
     def plan_copy(self, moved_numbers: List[int]) -> Optional[PlannedTrace]:
         """Writes the copy, with the lines of lines_of_copy(), and plans it; a later copy replaces
-        the file. None if there are no such lines, or if the program refuses this order. Other
-        exceptions as in Planner.plan(); OSError also if a file can't be read or written."""
+        the file. None if there are no such lines, or if the program refuses this order. Exceptions
+        as in Planner.plan(), without Refused; OSError also if a file can't be read or written."""
         lines = self.lines_of_copy(moved_numbers)
         if lines is None:
             return None
