@@ -1,4 +1,4 @@
-"""Records one session and checks it, by the two commands."""
+"""Records one session and checks it, by crashfs-record and crashfs-check."""
 
 from __future__ import annotations
 
@@ -90,10 +90,10 @@ class Sessions:
     def run_tool(
         self, tool: str, words: Sequence[str], variables: Dict[str, str]
     ) -> Tuple[int, str]:
-        """Runs one of the two commands to its end, without a time limit, with these variables added
-        to its environment. Returns its status and what it printed on standard error; other output
-        is dropped. After an exception meanwhile, as by a stop, end_tool() ends the command. OSError
-        if it can't be started."""
+        """Runs crashfs-record or crashfs-check, as `tool` says, to its end, without a time limit,
+        with these variables added to its environment. Returns its status and what it printed on
+        standard error; other output is dropped. After an exception meanwhile, as by a stop,
+        end_tool() ends the command. OSError if it can't be started."""
         child = subprocess.Popen(
             [sys.executable, str(TOOLS / tool), *words],
             env={**os.environ, **variables},
@@ -112,9 +112,9 @@ class Sessions:
 
 
 def end_tool(child: subprocess.Popen[str]) -> None:
-    """Terminates one of the two commands, and waits for its end. If that takes more than
-    ENDING_SECONDS, terminates it again, on which crashfs-record kills SESSION; it then waits
-    without limit."""
+    """Terminates crashfs-record or crashfs-check, and waits for its end. If that takes more than
+    ENDING_SECONDS, terminates it again, on which crashfs-record kills SESSION, and waits without
+    limit."""
     child.terminate()
     try:
         child.communicate(timeout=ENDING_SECONDS)

@@ -218,14 +218,14 @@ class AdviceTrials:
         """How many different states of a copy's plan that aren't the group's fail or gave no
         answer, and how many of these are states of the trace too, which failed before."""
         group_keys = {self.state_key(self.kept_sets[state.number]) for state in group.states}
-        numbers = self.findings.outcomes_by_state
-        trace_keys = {self.state_key(self.kept_sets[number]) for number in numbers}
+        tried_numbers = self.findings.outcomes_by_state.keys()
+        trace_keys = {self.state_key(self.kept_sets[number]) for number in tried_numbers}
         is_earlier: Dict[Trial, bool] = {}
         for state in plan.states:
             kept_set, trial = plan.kept[state.number], state.trial
             if is_failing(kept_set, self.outcomes) and self.state_key(kept_set) not in group_keys:
-                in_trace = self.state_key(kept_set) in trace_keys
-                is_earlier[trial] = is_earlier.get(trial, False) or in_trace
+                is_in_trace = self.state_key(kept_set) in trace_keys
+                is_earlier[trial] = is_earlier.get(trial, False) or is_in_trace
         return len(is_earlier), sum(is_earlier.values())
 
 
