@@ -10,7 +10,7 @@ from crashfs_tools.checker.report.drawing import Drawing, drawing_of
 from crashfs_tools.checker.report.text import ReportText
 
 from .checked import CheckedExample
-from .svg import LINE, MARGIN, WIDTH, Picture, rectangle, text_element
+from .svg import LINE, MARGIN, WIDTH, Picture, path_element, rectangle, text_element
 
 # The side of a state's square, with the gap after it.
 CELL = 5
@@ -48,7 +48,7 @@ def draw_states(picture: Picture, rows: List[str], y: float) -> None:
     dashes are the states with the sign. States with other signs, which weren't tried, aren't drawn.
     Doesn't change the picture's y."""
     for sign, (colour, _) in RESULTS.items():
-        picture.add(f'<path class="cells {colour}" d="{path_steps(rows, sign, y)}"/>')
+        picture.add(path_element(path_steps(rows, sign, y), f'cells {colour}'))
 
 
 def path_steps(rows: List[str], sign: str, y: float) -> str:
