@@ -169,6 +169,13 @@ class AsGit(InFolder):
             ]
         )
 
+    def test_a_path_of_many_names_is_found_by_each_of_them(self) -> None:
+        deep = '/a' * 2000
+        for path, wanted in ((f'/x{deep}', True), (f'{deep}/x', True), (deep, False)):
+            rules = IgnoreRules(['x'], NOWHERE)
+            self.assertIs(rules(path), wanted)
+            self.assertIs(rules(path), wanted)
+
     def test_git_leaves_nothing_out_by_what_is_refused(self) -> None:
         self.assert_as_git([([glob], f'/{glob}', False) for glob in NEVER_MATCH])
 

@@ -117,6 +117,13 @@ class Frames(unittest.TestCase):
                     os.pwrite(part.fileno(), whole.read(length), 0)
                     self.assertEqual(source_lines.read_segments(part.name), [])
 
+    def test_a_program_with_its_table_at_an_offset_of_no_file_has_no_parts(self):
+        header = b'\x7fELF\x02\x01'.ljust(32, b'\0') + struct.pack('<Q', 2**64 - 1)
+        header = header.ljust(54, b'\0') + struct.pack('<HH', 56, 1)
+        with tempfile.NamedTemporaryFile() as program:
+            os.pwrite(program.fileno(), header.ljust(64, b'\0'), 0)
+            self.assertEqual(source_lines.read_segments(program.name), [])
+
     def test_only_the_loaded_parts_of_a_program_for_32_bits_are_read(self):
         table = [(6, 9, 9, 9, 9, 9, 9, 9), (1, 0x1000, 0x8049000, 7, 0x200, 0x300, 5, 0x1000)]
         header = b'\x7fELF\x01\x01'.ljust(28, b'\0') + struct.pack('<I', 52)

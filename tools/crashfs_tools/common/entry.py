@@ -3,7 +3,7 @@
 from __future__ import annotations
 
 from dataclasses import dataclass
-from typing import Dict, Optional, Union
+from typing import Dict, Iterator, Optional, Union
 
 from . import limits
 from .sparse import SparseBytes
@@ -72,3 +72,10 @@ def parent_of(path: str) -> str:
     """The path of the directory in which the file or directory of a path is; `/` for the root
     itself."""
     return path.rpartition('/')[0] or '/'
+
+
+def ancestors_and_path(path: str) -> Iterator[str]:
+    """Yields the paths of the directories above a path, from the highest on, but not the root, and
+    then the path itself. For the root it is only `/`."""
+    names = path.split('/')
+    return ('/'.join(names[:count]) for count in range(2, len(names) + 1))

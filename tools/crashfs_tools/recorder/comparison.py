@@ -6,7 +6,7 @@ from __future__ import annotations
 from abc import ABC, abstractmethod
 from typing import Collection, Dict, Iterable, Iterator, List
 
-from crashfs_tools.common.entry import Entries, Entry
+from crashfs_tools.common.entry import Entries, Entry, ancestors_and_path
 from crashfs_tools.common.program import Crashfs
 from crashfs_tools.common.trace import StartSymlink
 from crashfs_tools.common.trace_read import tree_at_end
@@ -104,8 +104,7 @@ def kind_text(entry: Entry) -> str:
 def is_at_or_below(path: str, others: Collection[str]) -> bool:
     """Whether a path is one of some others, or below one of them. The root counts only for the path
     `/` itself."""
-    names = path.split('/')
-    return any('/'.join(names[:count]) in others for count in range(2, len(names) + 1))
+    return any(directory in others for directory in ancestors_and_path(path))
 
 
 def entry_differences(at_end: Entry, traced: Entry) -> List[str]:

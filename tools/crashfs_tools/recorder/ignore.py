@@ -8,6 +8,8 @@ import re
 from dataclasses import dataclass
 from typing import Dict, List, Tuple
 
+from crashfs_tools.common.entry import ancestors_and_path
+
 
 @dataclass(frozen=True)
 class Rule:
@@ -146,13 +148,14 @@ class IgnoreRules:
     def __call__(self, path: str) -> bool:
         """Whether a path, which begins with `/`, or a directory above it is ignored. The first
         answer for a path is kept, even if the file becomes a directory later."""
-        if not self.rules:
-            return False
-        if path not in self.answers:
-            parent = path.rpartition('/')[0]
-            is_parent_ignored = parent != '' and self(parent)
-            self.answers[path] = is_parent_ignored or self.is_ignored_itself(path)
-        return self.answers[path]
+        if not self.rules or path in self.answers:
+            return self.answers.get(path, False)
+        is_ignored = False
+        for ancestor in ancestors_and_path(path):
+            if ancestor not in self.answers:
+                self.answers[ancestor] = is_ignored or self.is_ignored_itself(ancestor)
+            is_ignored = self.answers[ancestor]
+        return is_ignored
 
     def is_ignored_itself(self, path: str) -> bool:
         """Whether the last pattern that matches a path doesn't begin with `!`; False if none does,

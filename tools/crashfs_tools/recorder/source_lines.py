@@ -50,14 +50,14 @@ def read_segments(path: str) -> List[Segment]:
     try:
         with open(path, 'rb') as file:
             return parse_segments(file)
-    except (OSError, struct.error):
+    except (OSError, ValueError, struct.error):
         return []
 
 
 def parse_segments(file: BinaryIO) -> List[Segment]:
     """The loaded segments that the headers of an ELF file list. Empty for any other file, and for
-    one with the most significant byte first. struct.error if the headers are cut, OSError if the
-    file can't be read."""
+    one with the most significant byte first. struct.error if the headers are cut, ValueError if the
+    table is at an offset that no file has, OSError if the file can't be read."""
     header = file.read(64)
     if header[:4] != b'\x7fELF' or header[5:6] != b'\x01':
         return []
