@@ -37,7 +37,7 @@ def main(words: Optional[List[str]] = None) -> int:
     """Runs `inventories` with these words, or with those of its command line if they are None.
     Returns the status: 1 only if --check finds an outdated file. With --print, --check is ignored.
     A wrong word ends the program (SystemExit). Errors as current_texts() before anything is
-    written, and as write_outdated_files()."""
+    written, and as write_outdated_files(); with --print as the function of the list."""
     parser = argparse.ArgumentParser(
         prog='inventories', description=ABOUT, formatter_class=argparse.RawDescriptionHelpFormatter
     )

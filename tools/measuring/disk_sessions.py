@@ -100,8 +100,9 @@ def disk_text(disk: Disk) -> str:
 
 
 def entry_text(disk: Disk, path: str) -> str:
-    """What is at a path of a disk: `directory`, the text of a link, or a file's size and its bytes
-    as runs of equal ones, as `4: 3*b'a' 1*b'b'`. KeyError if there is nothing."""
+    """What is at a path of a disk: `directory`, the target of a symbolic link after an arrow, or a
+    file's size and its bytes as runs of equal ones, such as `4: 3*b'a' 1*b'b'`. KeyError if there
+    is nothing."""
     entry = disk.tree[path]
     if entry.link is not None:
         return f'-> {entry.link}'

@@ -22,7 +22,7 @@ class CheckedExample(NamedTuple):
 
     findings: Findings
     report: CheckReport
-    files: Entries
+    tree: Entries
 
 
 def check_example(trace: str, command: Sequence[str]) -> CheckedExample:
@@ -44,5 +44,5 @@ def check_example(trace: str, command: Sequence[str]) -> CheckedExample:
         if not report.groups():
             raise ValueError(f'no state of {trace} fails')
         state = report.groups()[0].example.number
-        files = Trials(checked_trace.workplace, planned).trees.of_state(state)
-    return CheckedExample(check.last_window.findings, report, files)
+        tree = Trials(checked_trace.workplace, planned).trees.of_state(state)
+    return CheckedExample(check.last_window.findings, report, tree)

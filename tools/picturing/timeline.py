@@ -54,7 +54,7 @@ def lines_of_files(checked: CheckedExample) -> Dict[str, List[str]]:
     UnicodeDecodeError if a file isn't ASCII: the picture shows text."""
     return {
         path: bytes(entry.data).decode('ascii').splitlines()
-        for path, entry in sorted(checked.files.items())
+        for path, entry in sorted(checked.tree.items())
         if entry.data is not None
     }
 
