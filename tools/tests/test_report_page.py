@@ -8,6 +8,7 @@ from xml.dom import minidom
 
 from crashfs_tools.checker.findings.groups import Difference
 from crashfs_tools.checker.findings.second_crashes import Recovery
+from crashfs_tools.checker.findings.sightings import OUTSIDE, DiskFailure, Explanation, Sightings
 from crashfs_tools.checker.findings.tree_diff import difference_lines, nearest_good_state
 from crashfs_tools.checker.report.drawing import drawing_of
 from crashfs_tools.checker.report.junit import junit_lines
@@ -103,6 +104,8 @@ class Pages(unittest.TestCase):
         report.head.trace = '\x1b]0;owned\x07\udcff\u202e'
         group = report.groups_of_windows[0][0]
         group.outcome = Outcome(BAD, 'lost: \x1b[31m\udcff', '\x1b[31m\n')
+        failure = DiskFailure(group.outcome, [0], {}, {}, Explanation(OUTSIDE))
+        report.sightings = Sightings(['ext4'], {'ext4': 9}, {'ext4': 9}, {'ext4': 1}, {}, [failure])
         shown = {
             'report': '\n'.join(ReportText(report).lines()),
             'page': ''.join(page_pieces(report)),
@@ -114,7 +117,9 @@ class Pages(unittest.TestCase):
             self.assertNotRegex(text, '[\x1b\x07\u202e]' if name != 'json' else '[\x1b\x07]', name)
             text.encode('utf-8')
         self.assertIn('lost: \\x1b[31m\\xff', shown['report'])
-        self.assertEqual(json.loads(shown['json'])['trace'], report.head.trace)
+        fields = json.loads(shown['json'])
+        self.assertEqual(fields['trace'], report.head.trace)
+        self.assertEqual(fields['disks']['further'][0]['cause'], group.outcome.cause)
 
     def test_what_second_crashes_left_is_shown(self):
         text = HEADER + line('creat', '/a')

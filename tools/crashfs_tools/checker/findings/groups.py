@@ -29,6 +29,10 @@ from .sync_points import LinePairs, never_synced_directory
 from .torn import kept_part_text
 
 
+# A state that was tried, by its number; of a second crash the numbers of both crashes' states.
+TriedState = Tuple[int, ...]
+
+
 class Difference(NamedTuple):
     """How a group's example differs from the good state with a number: a line for each path."""
 
@@ -49,7 +53,7 @@ class Group:
     lost_line: Optional[TraceLine]
     states: List[State] = field(default_factory=list)
     # The different states among them, by the numbers under which they were tried.
-    tried_states: FrozenSet[Tuple[int, ...]] = frozenset()
+    tried_states: FrozenSet[TriedState] = frozenset()
     # All pairs of lines, the lost one first.
     line_pairs: List[Tuple[int, int]] = field(default_factory=list)
     # Of the example: the numbers of all lines of which it lacks something, of those that must be
@@ -70,12 +74,12 @@ class Group:
     # Whether the advice of larger groups removes all states.
     is_covered: bool = False
     # For each profile the tried states that a crash may leave by its rules.
-    states_by_profile: Dict[str, FrozenSet[Tuple[int, ...]]] = field(default_factory=dict)
+    states_by_profile: Dict[str, FrozenSet[TriedState]] = field(default_factory=dict)
     # The accepted failure that the group is; the same if its last day has passed.
     accepted_entry: Optional[AcceptedFailure] = None
     expired_entry: Optional[AcceptedFailure] = None
     # The tried states that lack the lost operation of their pair and have the kept one.
-    explained_states: FrozenSet[Tuple[int, ...]] = frozenset()
+    explained_states: FrozenSet[TriedState] = frozenset()
 
     @property
     def cause(self) -> str:
@@ -287,7 +291,7 @@ class Findings:
         tried, allowed = self.tried_states(state), self.plan.profile_names_of(state)
         kept_set = self.plan.kept[state.number]
         is_explained = pair.is_kept_in(kept_set) and pair.is_lost_in(kept_set)
-        no_states: FrozenSet[Tuple[int, ...]] = frozenset()
+        no_states: FrozenSet[TriedState] = frozenset()
         return Group(
             outcome=self.outcomes_by_state[state.number],
             example=state,
@@ -303,10 +307,9 @@ class Findings:
             explained_states=tried if is_explained else no_states,
         )
 
-    def tried_states(self, state: State) -> FrozenSet[Tuple[int, ...]]:
+    def tried_states(self, state: State) -> FrozenSet[TriedState]:
         """The number of the state that is tried for a state, as the only member of a set; an empty
-        set if the window before tried it. The number is in a tuple, since entries of second crashes
-        put the number of the first crash's state before it."""
+        set if the window before tried it."""
         number = self.results.tried_numbers[state.trial]
         return frozenset() if number in self.results.numbers_before else frozenset([(number,)])
 

@@ -45,11 +45,11 @@ def second_crash_entries(recoveries: Iterable[Recovery]) -> List[Tuple[Group, Se
 
 
 def copies_of_groups(recoveries: Iterable[Recovery]) -> Iterator[Tuple[Group, SecondCrash]]:
-    """A copy of each group of some recoveries, with the two crashes of its example. The rows of the
-    copy's tried_states begin with the number of the first crash's state. The copy has a list of
+    """A copy of each group of some recoveries, with the two crashes of its example. Each of the
+    copy's tried_states begins with the number of the first crash's state. The copy has a list of
     states of its own, but shares the group's advice."""
     for recovery in recoveries:
         for group in recovery.groups:
-            tried_states = frozenset((recovery.state, *row) for row in group.tried_states)
+            tried_states = frozenset((recovery.state, *tried) for tried in group.tried_states)
             copy = replace(group, states=list(group.states), tried_states=tried_states)
             yield copy, SecondCrash(recovery.state, recovery.crash_places[group.example.number])

@@ -2,13 +2,12 @@
 
 from __future__ import annotations
 
-import json
 from dataclasses import replace
 from typing import Any, Dict, Iterator
 
 from crashfs_tools.checker.findings.groups import Group
 from crashfs_tools.checker.findings.second_crashes import Recovery
-from crashfs_tools.checker.running.results import Results
+from crashfs_tools.checker.running.results import Head, Results
 
 from .counts import counts_by_profile
 from .json_text import COMPACT, as_json, unpack_text
@@ -23,7 +22,7 @@ def json_pieces(report: CheckReport) -> Iterator[str]:
     """The text of the file of --json, in pieces: the results of each window, the entries with their
     texts, and what else was found. A report that was made without has_json keeps no results, so
     its text has no windows."""
-    yield as_json(report.head.fields(), **COMPACT)[:-1] + ',\n"windows":[\n'
+    yield head_piece(report.head, **COMPACT)
     for place, window in enumerate(report.packed_windows):
         yield (',\n' if place else '') + unpack_text(window)
     groups = [group_fields(report, group) for group in report.groups()]
@@ -31,7 +30,7 @@ def json_pieces(report: CheckReport) -> Iterator[str]:
     recoveries = [recovery_fields(recovery) for recovery in report.recoveries]
     yield ',\n"recoveries":' + as_json(recoveries, indent=1)
     if report.sightings is not None:
-        yield ',\n"disks":' + json.dumps(report.sightings.fields(), indent=1, ensure_ascii=False)
+        yield ',\n"disks":' + as_json(report.sightings.fields(), indent=1)
     if report.not_done:
         yield ',\n"not_done":' + as_json(report.not_done)
     missing = [entry.fields for entry in report.missing_accepted_failures()]
@@ -44,10 +43,17 @@ def partial_pieces(report: CheckReport, results: Results, *, has_rest: bool) -> 
     the results of earlier windows and, as `results`, of the present one, without entries. has_rest
     says whether the session goes on after the present window. The report isn't changed."""
     head = replace(report.head, stopped=KILLED, has_rest=has_rest)
-    yield as_json(head.fields())[:-1] + ',\n"windows":[\n'
+    yield head_piece(head)
     for window in report.packed_windows:
         yield unpack_text(window) + ',\n'
     yield as_json(results.fields()) + '],\n"groups":[],\n"recoveries":[]}\n'
+
+
+def head_piece(head: Head, **layout: Any) -> str:
+    """The first piece of the file of --json: an object with the fields of the head, and in it the
+    beginning of the list of windows. layout is as in as_json()."""
+    without_brace = as_json(head.fields(), **layout)[:-1]
+    return f'{without_brace},\n"windows":[\n'
 
 
 def recovery_fields(recovery: Recovery) -> Dict[str, Any]:
