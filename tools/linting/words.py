@@ -169,11 +169,11 @@ def word_faults(line: Line) -> List[str]:
 def name_faults(line: Line) -> List[str]:
     """A sentence for each retired word of a name, which is the text of the line. A word must be
     whole: between underscores or, in the name of a class, from one capital to the next."""
-    words = f'_{CAPITAL_IN_NAME.sub("_", line.text).strip("_").lower()}_'
+    underscored_name = f'_{CAPITAL_IN_NAME.sub("_", line.text).strip("_").lower()}_'
     return [
         f'{line.file}:{line.number}: {line.text}: "{word}": {better}'
         for word, better in RETIRED_NAMES.items()
-        if f'_{word}_' in words
+        if f'_{word}_' in underscored_name
     ]
 
 

@@ -43,7 +43,7 @@ class TimedCommand(NamedTuple):
     """A command that has ended: what it printed on standard output, the processor time of it and
     its children, and the time that passed."""
 
-    printed: str
+    output: str
     processor_seconds: float
     wall_seconds: float
 
@@ -56,12 +56,12 @@ def time_command(words: List[str], environment: Optional[Dict[str, str]] = None)
         words, stdout=subprocess.PIPE, stdin=subprocess.DEVNULL, text=True, env=environment
     ) as child:
         assert child.stdout is not None
-        printed = child.stdout.read()
+        output = child.stdout.read()
         usage = wait_for_usage(child)
     wall_seconds = time.monotonic() - began
     if child.returncode != 0:
-        raise OSError(f'{words[0]} ended with status {child.returncode}: {printed[-200:]}')
-    return TimedCommand(printed, usage.processor_seconds, wall_seconds)
+        raise OSError(f'{words[0]} ended with status {child.returncode}: {output[-200:]}')
+    return TimedCommand(output, usage.processor_seconds, wall_seconds)
 
 
 class Checks:
@@ -89,9 +89,9 @@ class Checks:
         families = [] if '--prefixes' in options else ['--families']
         words = [*program, *families, *options, str(TRACE), '--', '/bin/true']
         command = time_command(words, self.environment)
-        counts = TRIED.search(command.printed)
+        counts = TRIED.search(command.output)
         if counts is None:
-            raise OSError(f'{words[0]} ended with status 0: {command.printed[-200:]}')
+            raise OSError(f'{words[0]} ended with status 0: {command.output[-200:]}')
         state_count, tried_count = (int(count.replace(',', '')) for count in counts.groups())
         return Times(state_count, tried_count, command.processor_seconds, command.wall_seconds)
 
