@@ -64,6 +64,10 @@ class Calls(unittest.TestCase):
         ]
         self.assertEqual(recording_of(log).trace.operations[0].mode, 0o640)
 
+    def test_a_number_that_no_user_can_have_is_a_name(self):
+        log = ['1 chown("f", 99999999999, 99999999999) = 0']
+        self.assertEqual(operations_of(log, FILE), ['chown /f u99999999999 g99999999999'])
+
     def test_an_empty_access_control_list_changes_no_mode(self):
         for call in ('setxattr("/d/f"', 'fsetxattr(3</d/f>'):
             log = [OPEN_F, f'1 {call}, "system.posix_acl_access", "\2\0\0\0", 4, 0) = 0']

@@ -42,7 +42,7 @@ def user_name(number: int) -> str:
     """The name of the user with this number, or `u` and the number if the system knows no name."""
     try:
         return pwd.getpwuid(number).pw_name
-    except KeyError:
+    except (KeyError, OverflowError):
         return f'u{number}'
 
 
@@ -51,7 +51,7 @@ def group_name(number: int) -> str:
     name."""
     try:
         return grp.getgrgid(number).gr_name
-    except KeyError:
+    except (KeyError, OverflowError):
         return f'g{number}'
 
 

@@ -185,8 +185,8 @@ class LiveFiles:
         self, process: Process, call: Call, index: int, *, follow_last_link: bool = True
     ) -> Optional[Node]:
         """As node_argument(), for the path in the argument after the one with this index, as
-        path_argument_at() returns it. If the path is empty, the file is that of the descriptor in
-        the argument with this index."""
+        path_argument_at() returns it. An empty path means the file of the descriptor in the
+        argument with this index."""
         file = self.open_file_of_path(process, call.argument(index + 1))
         if call.argument(index + 1) == '""':
             file = process.descriptors.files.get(call.descriptor(index).number)
@@ -267,7 +267,7 @@ class LiveFiles:
         self, node: Node, offset: int, data: bytes, offset_source: object = None
     ) -> None:
         """Writes the bytes of the recording's current call, as write_bytes() does; nothing if there
-        are none. offset_source is that of Change. If another call changed the file at the same
+        are none. offset_source is as in Change. If another call changed the file at the same
         time, and the order of the two decides its bytes, that is reported."""
         if not data:
             return

@@ -174,7 +174,7 @@ class LogStream:
         self, mapped_files: MappedFiles, thread: int, threads: Set[int], *, is_alone: bool
     ) -> None:
         """Adds a copy of the mapped files, while a thread is stopped whose process has these
-        `threads`; is_alone is that of FileCopy. If a file can't be read, log_error is set, unless
+        `threads`; is_alone is as in FileCopy. If a file can't be read, log_error is set, unless
         it is set already."""
         other_threads = self.reader.threads - set(self.reader.log.ended_threads) - threads
         try:

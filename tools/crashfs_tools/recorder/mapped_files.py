@@ -150,7 +150,7 @@ class MappedFiles:
         self, line: int, thread: int, *, is_alone: bool, other_threads: Iterable[int] = ()
     ) -> None:
         """Adds a copy of the files that changed since the copy before, also if none did. `line`,
-        `thread` and is_alone are those of FileCopy; other_threads are those of other processes.
+        `thread` and is_alone are as in FileCopy; other_threads are the threads of other processes.
         OSError if a file can't be read: then no copy is added, and newest_bytes stays."""
         changed_bytes: Dict[int, Bytes] = {}
         for number, descriptor in enumerate(self.descriptors):

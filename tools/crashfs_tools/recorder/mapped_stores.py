@@ -24,8 +24,8 @@ def copies_by_call(
     calls: List[Call], ordered_calls: List[Call], file_copies: FileCopies
 ) -> Dict[int, List[FileCopy]]:
     """The copies of each call, by its id: what they show was stored before the call. A copy's call
-    is that of call_after_stores(). `calls` are in the log's order, ordered_calls in the trace's.
-    Copies without files, and the copy at the end, have no call."""
+    is what call_after_stores() returns; copies without files, and the copy at the end, have none.
+    `calls` are in the log's order, ordered_calls in the trace's."""
     indexes = {id(call): index for index, call in enumerate(ordered_calls)}
     newest_call: Optional[Call] = None
     last_calls: Dict[int, Call] = {}

@@ -16,8 +16,8 @@ from .strace_log import Call
 @dataclass(eq=False)
 class OpenFile:
     """An open file or output stream, which all descriptors share that were duplicated or inherited
-    from one. A file has its node; node is None for a stream, and `stream` too if it isn't known
-    which one that is. offset is that of the next read or write. is_appending means O_APPEND;
+    from one. A file has its node; node is None for a stream, and `stream` too if the stream isn't
+    known. offset is that of the next read or write. is_appending means O_APPEND;
     is_syncing means O_SYNC or O_DSYNC: each write is synced."""
 
     node: Optional[Node]
@@ -87,7 +87,7 @@ class Descriptors:
 @dataclass
 class PathContext:
     """The working directory and the umask; threads share one context. The directory is an absolute
-    path without symbolic links; once it is removed, it is that of removed_path()."""
+    path without symbolic links; once it is removed, the path that removed_path() returns."""
 
     directory: str
     umask: int
@@ -109,7 +109,7 @@ class PathContext:
 @dataclass
 class Process:
     """A process or a thread. Threads of one process share these objects; a forked process has
-    copies of its parent's."""
+    copies of its parent's objects."""
 
     descriptors: Descriptors
     path_context: PathContext
@@ -120,10 +120,10 @@ class Process:
         return self.descriptors.files.get(shown.number)
 
     def directory_of(self, shown: Descriptor) -> str:
-        """The absolute path of a descriptor's directory, at which a relative path after it begins:
-        that of removed_path() if strace shows it as removed. It is the working directory's path if
-        strace shows none, and for AT_FDCWD in a removed working directory, whose path strace shows
-        with ` (deleted)` at its end."""
+        """The absolute path of the directory at which a relative path after a descriptor begins:
+        what strace shows, or removed_path() of it if strace shows that it is removed. It is the
+        working directory if strace shows no path, and for AT_FDCWD in a removed one: its path
+        strace shows with ` (deleted)` at the end."""
         own_directory = self.path_context.directory
         is_removed = shown.number == CURRENT_DIRECTORY and REMOVED in own_directory
         if shown.path is None or is_removed:
@@ -144,7 +144,7 @@ class Process:
 
 def move_working_directories(processes: Iterable[Process], new_paths: Dict[str, str]) -> None:
     """Gives each process that is in a renamed or removed directory the new path of its working
-    directory, once for all threads that share it. new_paths is that of update_directory()."""
+    directory, once for all threads that share it. new_paths is as in update_directory()."""
     contexts = {id(process.path_context): process.path_context for process in processes}
     for context in contexts.values():
         context.update_directory(new_paths)

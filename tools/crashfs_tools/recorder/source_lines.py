@@ -106,9 +106,8 @@ def offsets_by_program(addresses: Iterable[Address]) -> Dict[str, List[int]]:
 
 
 def run_addr2line(addr2line: str, path: str, offsets: List[int]) -> List[List[Frame]]:
-    """The frames at each of these offsets, to which calls return, in a program's file. The list is
-    shorter than that of the offsets if addr2line fails. OSError if addr2line can't be started. It
-    has no time limit."""
+    """The frames at each of these offsets, to which calls return, in a program's file; fewer than
+    offsets if addr2line fails. It runs without a time limit. OSError if it can't be started."""
     segments = read_segments(path)
     # The byte before the one to which a call returns is of the call.
     addresses = [address_of_offset(offset, segments) - 1 for offset in offsets]

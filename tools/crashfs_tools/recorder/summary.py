@@ -95,8 +95,8 @@ def relative_path_hints(options: RecordOptions) -> List[str]:
 
 
 def lines_on_notes(troubles: List[Trouble]) -> List[str]:
-    """A line for each `what` of the notes among the troubles: that of its first note, and how many
-    more paths have such a note. Other troubles are left out."""
+    """A line for each different `what` of the notes among the troubles: its first note, and how
+    many more paths have such a note. Other troubles are left out."""
     notes_by_what: Dict[str, List[Trouble]] = {}
     for trouble in troubles:
         if trouble.is_note:

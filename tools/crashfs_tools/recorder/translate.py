@@ -147,9 +147,9 @@ class Translator:
             self.recording.differing_paths.update(targets[1:])
 
     def cut_targets(self, call: Call) -> List[str]:
-        """The paths in the directory, or the name of the stream, that a call would change; of an
-        open those of files that it would make or truncate. Empty for a call that changes nothing,
-        or only extended attributes."""
+        """The paths in the directory, or the name of the stream, that a call would change; for an
+        open, the paths of files that it would make or truncate. Empty for a call that changes
+        nothing, or only extended attributes."""
         is_open = call.name in call_order.OPENS
         is_change = call_order.is_change(call) and call.name not in call_order.LIST_CHANGES
         if not (is_open or is_change):
@@ -173,8 +173,8 @@ class Translator:
 
     def targets_by_descriptor(self, process: Process, call: Call) -> List[str]:
         """The name of the stream, or the path of the file, that a call of DESCRIPTOR_CHANGES would
-        change, as a list of one. Empty if the file is outside the directory, ignored, or unknown,
-        since strace shows no path of the descriptor."""
+        change, as a list of one. Empty if the file is outside the directory or ignored, or if
+        strace shows no path of the descriptor."""
         index = call_order.TARGET_INDEXES.get(call.name, 0)
         stream = self.files.find_output_stream(process, call, index)
         if stream is not None:
@@ -282,8 +282,8 @@ class Translator:
 
     def find_process(self, number: int, line: int) -> Process:
         """The process with this number, which makes a call at this line of the log. One that isn't
-        known is added: COMMAND's first process, or that of new_process(), as a child may call
-        before its parent's fork has returned."""
+        known is added: COMMAND's first process, or what new_process() returns, as a child may make
+        calls before its parent's fork has returned."""
         processes = self.files.processes
         if number not in processes:
             if number == self.log.first_thread:

@@ -112,10 +112,11 @@ def write_to_descriptor(
     flags: str = '',
     missing_reason: str = NOT_IN_LOG,
 ) -> None:
-    """Writes the bytes that a call wrote, as many as its result, to the stream or file of the
-    descriptor in the argument with this index: at the offset, or at that of the open file (None).
-    If data is None, or has fewer bytes, missing_reason is reported for a file or an acknowledging
-    stream. Nothing is written if the descriptor isn't followed, or is of a directory."""
+    """Writes the bytes that a call wrote, as many as its result says, to the stream or file of the
+    descriptor in the argument with this index: at the offset, or, if it is None, at the open file's
+    own. If data is None, or has fewer bytes, missing_reason is reported for a file or an
+    acknowledging stream. Nothing is written if the descriptor isn't followed, or is of a directory.
+    """
     written = None if data is None or len(data) < call.result else data[: call.result]
     reason = f'{call.name}: {missing_reason}'
     stream = files.find_output_stream(process, call, index)
@@ -205,9 +206,9 @@ def copy_between_descriptors(
     target_offset: Optional[int],
 ) -> None:
     """Copies as many bytes as the call did between the descriptors in the arguments with these
-    indexes. An offset that is None is that of the open file, which then moves. The log doesn't show
-    the bytes: they are those that the source has now, as read_bytes() returns them. If it returns
-    too few, or None, write_to_descriptor() reports that."""
+    indexes. If an offset is None, the open file's own is used, and moves. The log doesn't show the
+    bytes: they are those that the source has now, as read_bytes() returns them. If it returns too
+    few, or None, write_to_descriptor() reports that."""
     if call.result == 0:
         return
     source = process.open_file(call.descriptor(source_index))
@@ -251,8 +252,8 @@ def on_sendfile(files: LiveFiles, process: Process, call: Call) -> None:
 
 
 def on_copy_file_range(files: LiveFiles, process: Process, call: Call) -> None:
-    """Copies between two descriptors. For each of them the call names an offset, or NULL, which
-    means that of the open file. splice has the same arguments."""
+    """Copies between two descriptors. For each of them the call names an offset, or NULL for the
+    open file's own. splice has the same arguments."""
     copy_between_descriptors(
         files,
         process,

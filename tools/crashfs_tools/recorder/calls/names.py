@@ -32,8 +32,8 @@ def on_rmdir(files: LiveFiles, process: Process, call: Call) -> None:
 
 
 def on_unlinkat(files: LiveFiles, process: Process, call: Call) -> None:
-    """Removes a name by a path that is relative to a directory; with AT_REMOVEDIR it must be that
-    of a directory."""
+    """Removes a name of a file, or, with AT_REMOVEDIR, a directory, by a path that is relative to a
+    directory."""
     full_path = files.full_path(process.directory_of(call.descriptor(0)), call.argument(1))
     if 'AT_REMOVEDIR' in call.argument(2):
         remove_directory(files, full_path)
@@ -103,8 +103,8 @@ def on_mkdirat(files: LiveFiles, process: Process, call: Call) -> None:
 
 
 def make_directory(files: LiveFiles, process: Process, path: Optional[str], mode_word: str) -> None:
-    """Makes a directory with the mode in an argument, without the bits of the umask and those of
-    SET_ID; another one beyond 777 is only noted. Nothing if the path is None."""
+    """Makes a directory with the mode in an argument, without the bits of the umask and of SET_ID;
+    the sticky bit is only noted. Nothing if the path is None."""
     if path is not None:
         bits = mode_of_new_node(process, mode_word) & ~SET_ID
         node = Node.directory(bits & PERMISSIONS)
@@ -130,8 +130,8 @@ def on_linkat(files: LiveFiles, process: Process, call: Call) -> None:
 
 def add_link(files: LiveFiles, node: Optional[Node], target: Optional[str]) -> None:
     """Gives a file another name, in the trace too if that has the file; one of O_TMPFILE may get
-    its first name. If the file isn't known (None), that is reported, and the name is that of a file
-    whose bytes aren't known. Nothing if the target is None."""
+    its first name. If the file isn't known (None), that is reported, and the live tree gets a new
+    file whose bytes aren't known. Nothing if the target is None."""
     if target is None:
         return
     if node is None:

@@ -35,7 +35,7 @@ def on_openat(files: LiveFiles, process: Process, call: Call) -> None:
 
 def on_openat2(files: LiveFiles, process: Process, call: Call) -> None:
     """Opens a path as on_openat() does. Flags and mode are fields of one argument; if it has no
-    mode, that is 0."""
+    mode, the mode is 0."""
     word, flags = call.argument(1), call.argument(2)
     match = re.search(r'mode=(0[0-7]*)', flags)
     mode_word = match[1] if match else '0'
@@ -161,8 +161,8 @@ def duplicate_descriptor(
     files: LiveFiles, process: Process, call: Call, *, is_closed_by_exec: bool
 ) -> None:
     """Makes the call's result a descriptor of the same open file or stream as its first argument.
-    If --say-fd names the number of one of the two, the stream acknowledges something. If the first
-    isn't followed, neither is the result. Nothing if both have one number."""
+    If --say-fd names one of the two numbers, the stream acknowledges something. If the first
+    argument isn't followed, neither is the result. Nothing if the two numbers are equal."""
     old, streams = call.descriptor(), files.recording.streams
     if old.number == call.result:
         return

@@ -39,8 +39,8 @@ def on_chdir(files: LiveFiles, process: Process, call: Call) -> None:
 
 
 def on_fchdir(files: LiveFiles, process: Process, call: Call) -> None:
-    """Sets the working directory to that of a descriptor, for all threads that share it. If strace
-    shows no path of the descriptor, the old directory stays."""
+    """Makes a descriptor's directory the working directory, for all threads that share it. If
+    strace shows no path of the descriptor, the old directory stays."""
     process.path_context.directory = process.directory_of(call.descriptor())
 
 

@@ -84,9 +84,9 @@ def exchange_paths(files: LiveFiles, source: Optional[str], target: Optional[str
 
 
 def move_path(files: LiveFiles, source: Optional[str], target: Optional[str]) -> None:
-    """Moves what is at one path of the tree to another; if that is None, it is removed. If nothing
-    is known at the source, or that is None, the target gets a file, as add_from_outside() adds it.
-    Nothing happens if both paths are names of one file."""
+    """Moves what is at one path of the tree to another; if the target is None, it is removed. If
+    the source is None, or nothing is known there, the target gets a file, as add_from_outside()
+    adds it. Nothing happens if both paths are names of one file."""
     node = files.tree.node_at(source)
     if source is None or node is None:
         add_from_outside(files, target)
