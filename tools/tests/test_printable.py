@@ -6,7 +6,8 @@ import unittest
 from unittest import mock
 
 from crashfs_tools.common.command import LINE_CHARACTERS, print_line
-from crashfs_tools.common.printable import escape_unprintable
+from crashfs_tools.common.pages import html_text
+from crashfs_tools.common.printable import escape_unprintable, folded_lines
 from crashfs_tools.common.standard_streams import set_utf8_streams
 
 
@@ -27,6 +28,19 @@ class Printable(unittest.TestCase):
         for text in ['Zürich', '東京', 'שלום', '👍', '\ufffd', 'a\\n b']:
             self.assertEqual(escape_unprintable(text), text)
         self.assertEqual(escape_unprintable('a\n\tb\x1b', '\n\t'), 'a\n\tb\\x1b')
+
+    def test_lines_are_folded_and_words_are_broken_only_if_they_may_be(self):
+        word = 'a-' * 75
+        self.assertEqual(folded_lines([word], '  '), [f'  {word}'])
+        broken = ['  ' + 'a-' * 49, '    ' + 'a-' * 26]
+        self.assertEqual(folded_lines([word], '  ', may_break_words=True), broken)
+        words = ' '.join(['word'] * 30)
+        folded = ['- ' + ' '.join(['word'] * 19), '-   ' + ' '.join(['word'] * 11)]
+        self.assertEqual(folded_lines([words, '', ' ', 'a\x1b b '], '- '), [*folded, '- a\\x1b b'])
+
+    def test_html_has_each_character_of_a_text_and_no_tag(self):
+        self.assertEqual(html_text('<b>\n\x1b"&'), '&lt;b&gt;\\n\\x1b&quot;&amp;')
+        self.assertEqual(html_text('a\n\tb\x1b', '\n\t'), 'a\n\tb\\x1b')
 
     def test_a_line_has_an_end_however_long_a_number_is(self):
         path = '/'.join(['n' * 255] * 16)
