@@ -263,7 +263,7 @@ class Groups(unittest.TestCase):
         text = HEADER + line('creat', '/old') + line('fsync', '/') + line('unlink', '/old')
         text += line('fsync', '/') + line('say', text='it is removed')
         report = report_of(text, lambda files, says: '' if says or '/old' in files else 'lost: old')
-        span = [group.advice.lines() for group in report.groups() if group.has_no_loss]
+        span = [group.advice.lines() for group in report.groups() if not group.is_due_to_loss]
         self.assertTrue(
             all(
                 one[1].endswith('does COMMAND accept it?')

@@ -110,12 +110,13 @@ class Group:
         return self.kept_line is not None and self.kept_line == self.lost_line
 
     @property
-    def has_no_loss(self) -> bool:
-        """Whether the failure needs no loss: states fail from the kept line on, or from the
-        beginning, until lost_line repairs them, or to the end. False for a torn line."""
+    def is_due_to_loss(self) -> bool:
+        """Whether the failure needs a loss: that of the lost line, or of a part of a torn line. If
+        it needs none, states fail from the kept line on, or from the beginning, until lost_line
+        repairs them, or to the end, though they may lack something."""
         if self.is_torn:
-            return False
-        return self.pair.lost is None or (self.pair.kept or 0) <= self.pair.lost
+            return True
+        return self.pair.lost is not None and self.pair.lost < (self.pair.kept or 0)
 
     @property
     def is_swappable(self) -> bool:
@@ -123,19 +124,19 @@ class Group:
         needs no loss, and both lines are there, of which the later one acknowledges nothing."""
         if self.kept_line is None or self.lost_line is None or self.lost_line.word == 'say':
             return False
-        return self.is_reproducible and self.has_no_loss
+        return self.is_reproducible and not self.is_due_to_loss
 
     @property
     def key(self) -> Tuple[object, ...]:
         """A key that is equal for groups that are one entry of a report. It has the cause without
         numbers and the result; if the example is reproducible, also whether a line is torn, whether
-        the failure needs no loss, and the statements of the two lines."""
+        the failure needs a loss, and the statements of the two lines."""
         cause_and_result = without_numbers(self.cause), self.outcome.result
         if not self.is_reproducible:
             return cause_and_result
         lines = (self.kept_line, self.lost_line)
         statements = [line.statement if line else '' for line in lines]
-        return (*cause_and_result, self.is_torn, self.has_no_loss, *statements)
+        return (*cause_and_result, self.is_torn, self.is_due_to_loss, *statements)
 
     def add_group(self, other: Group) -> None:
         """Adds the states, pairs of lines and profiles of another group with the same key, which
@@ -163,7 +164,7 @@ class Group:
             self.advice = Advice(list(NOT_REPRODUCIBLE))
         elif self.kept_line is not None and self.is_torn:
             self.advice = torn_advice(self.kept_line, self.kept_part)
-        elif self.kept_line is None or self.lost_line is None or self.has_no_loss:
+        elif self.kept_line is None or self.lost_line is None or not self.is_due_to_loss:
             self.advice = self.best_no_loss_advice()
         else:
             pairs = [*self.line_pairs, *more_pairs]
@@ -348,7 +349,7 @@ class Findings:
         """The syncs between a group's two lines that are of the lost line's file or of its
         directory, but don't make that line durable. Empty if the group is torn, or its failure
         needs no loss."""
-        if group.kept_line is None or group.lost_line is None or group.has_no_loss:
+        if group.kept_line is None or group.lost_line is None or not group.is_due_to_loss:
             return []
         own_paths = [path for path in (group.lost_line.path, group.lost_line.target) if path]
         paths = {*own_paths, *map(parent_of, own_paths)}

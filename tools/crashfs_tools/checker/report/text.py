@@ -262,7 +262,7 @@ class ReportText:
         there are none, or if the failure needs no loss."""
         named = {group.lost_line.number if group.lost_line else 0, *group.needed_lines}
         other_lost = [number for number in group.lost_lines if number not in named]
-        if not other_lost or group.has_no_loss:
+        if not other_lost or not group.is_due_to_loss:
             return []
         shown = ', '.join(map(self.line_text, other_lost[:SHOWN_LINES]))
         more = len(other_lost) - SHOWN_LINES
