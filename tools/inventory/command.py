@@ -22,8 +22,8 @@ Exit status 0, or 1 with --check if a file is missing or older than the sources.
 
 def current_texts() -> Dict[Path, str]:
     """The text that each file that is made from the sources should have now, by its path. Nothing
-    is written. ValueError if docs/RESULTS.md doesn't have its marks; OSError, KeyError or
-    ValueError as completion_files() and results_part()."""
+    is written. ValueError if docs/RESULTS.md doesn't have its marks, OSError if it can't be read;
+    errors as completion_files() and results_part()."""
     return {**completion_files(), PAGE: page_with_part(PAGE.read_text('utf-8'), results_part())}
 
 

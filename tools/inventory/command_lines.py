@@ -128,7 +128,7 @@ def command_help(command: str) -> str:
 
 def commands_of_program() -> Dict[str, List[Option]]:
     """The options of each command of the program, by the command's name, as SOURCE has them;
-    without --help, which each has. KeyError as options_in(), OSError if SOURCE can't be read."""
+    without --help, which each has. Errors as options_in(), and OSError if SOURCE can't be read."""
     functions = functions_of_program()
     return {
         name.replace('_command', ''): options_in(name, functions)

@@ -233,7 +233,7 @@ def fish_of_program() -> str:
 
 def completion_files() -> Dict[Path, str]:
     """The texts of the completion files of all four commands for each shell, by their paths. No
-    file is written. KeyError or OSError as commands_of_program()."""
+    file is written. Errors as commands_of_program()."""
     texts = {
         FOLDER / 'crashfs.bash': bash_of_program(),
         FOLDER / 'crashfs.zsh': zsh_of_program(),

@@ -177,10 +177,9 @@ def name_faults(line: Line) -> List[str]:
     ]
 
 
-def unused_allowance_faults() -> List[str]:
-    """A sentence for each entry of ALLOWED whose text is in no line of its file any more. Errors as
-    all_lines()."""
-    lines = list(all_lines())
+def unused_allowance_faults(lines: List[Line]) -> List[str]:
+    """A sentence for each entry of ALLOWED whose text is in no line of its file any more. `lines`
+    must have those of all_lines()."""
     return [
         f'{file}: "{text}" is allowed, and no longer there'
         for file, text in ALLOWED
@@ -192,7 +191,8 @@ def retired_word_faults() -> List[str]:
     """A sentence for each retired word in the pages, in what is printed, and in documentation and
     names of Python, except in lines that may_have_retired_words() accepts; and for each entry of
     ALLOWED that nothing needs. Errors as all_lines()."""
-    lines = [line for line in all_lines() if not may_have_retired_words(line)]
-    faults = [fault for line in lines for fault in word_faults(line)]
+    lines = list(all_lines())
+    checked_lines = (line for line in lines if not may_have_retired_words(line))
+    faults = [fault for line in checked_lines for fault in word_faults(line)]
     faults += [fault for line in names_of_tools() for fault in name_faults(line)]
-    return [*dict.fromkeys(faults), *unused_allowance_faults()]
+    return [*dict.fromkeys(faults), *unused_allowance_faults(lines)]

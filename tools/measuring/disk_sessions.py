@@ -3,7 +3,7 @@
 from __future__ import annotations
 
 import re
-from dataclasses import asdict, dataclass, field, replace
+from dataclasses import asdict, dataclass, field
 from typing import Dict, Iterator, List, Set
 
 from crashfs_tools.checker.findings.read_trees import TreeAndCount, tree_and_count
@@ -62,10 +62,17 @@ def allowed_trees(reading: Reading, profile: str) -> Set[TreeAndCount]:
     return {tree_and_count(states, place_set) for place_set in classes.different_sets()}
 
 
-def session_result(filesystem: str, seed: int, trace: Trace, disks: List[Disk]) -> SessionResult:
+def session_result(
+    filesystem: str,
+    seed: int,
+    trace: Trace,
+    disks: List[Disk],
+    *,
+    operation_count: int = OPERATIONS,
+) -> SessionResult:
     """The result of a session on the file system of this name, from the different disks that its
-    crashes left there; its `operations` is OPERATIONS. A profile allows a disk as is_allowed_disk()
-    says. KeyError if PROFILE_OF has no such name."""
+    crashes left there. The session must be that of the seed, with so many operations. A profile
+    allows a disk as is_allowed_disk() says. KeyError if PROFILE_OF has no such name."""
     reading = parse_trace(trace_text(trace).encode())
     allowed = {profile: allowed_trees(reading, profile) for profile in profile_names(reading)}
     outside = {
@@ -80,6 +87,7 @@ def session_result(filesystem: str, seed: int, trace: Trace, disks: List[Disk]) 
         states=len(allowed['blocks']),
         allowed={profile: len(disks) - len(outside[profile]) for profile in allowed},
         outside=[disk_text(disk) for disk in outside.get(PROFILE_OF[filesystem], [])],
+        operations=operation_count,
     )
 
 
@@ -134,8 +142,8 @@ class SessionMaker:
             )
         finally:
             maker.remove_images()
-        result = session_result(self.filesystem.name, seed, trace, disks)
-        return replace(result, operations=operation_count)
+        name = self.filesystem.name
+        return session_result(name, seed, trace, disks, operation_count=operation_count)
 
 
 def sums_table(results: List[SessionResult]) -> Iterator[str]:

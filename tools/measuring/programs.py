@@ -29,7 +29,8 @@ class Programs:
 
     def benchmark_names(self) -> List[str]:
         """The names of the benchmark programs, built or not, in the order of crates.txt: those of
-        crates that end in `_bench` and are no library. OSError if there is no crates.txt."""
+        crates that end in `_bench` and are no library. OSError if there is no crates.txt; errors as
+        uses_by_crate()."""
         crates = uses_by_crate((self.top / 'crates.txt').read_text('utf-8'))
         return [name for name in crates if name.endswith('_bench') and self.is_program(name)]
 
