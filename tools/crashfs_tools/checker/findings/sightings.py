@@ -45,6 +45,12 @@ class DiskFailure:
     tree: Entries
     explanation: Explanation
 
+    @property
+    def name(self) -> str:
+        """The name of the failure's test, for JUnit and TAP: its cause, and why no tried state has
+        the tree, in brackets."""
+        return f'{self.outcome.cause} ({self.explanation.reason})'
+
     def lines(self) -> List[str]:
         """Three lines of a report: on which file systems and after which crashes the tree was seen,
         why no tried state has it, and its first SHOWN_PATHS paths, with the count of the others."""

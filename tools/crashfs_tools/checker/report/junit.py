@@ -93,11 +93,11 @@ def others_case_lines(report: CheckReport, class_name: str, seconds: float) -> I
     """The test case of all states that are in no entry: an error if the report isn't whole, because
     a state or a recovery wasn't tried. Its time is `seconds`. class_name has its quotes, and is
     escaped."""
-    case = xml_attribute(f'all other states ({report.counts.good_count:,})')
-    yield f'<testcase classname={class_name} name={case} time="{seconds:.3f}">\n'
-    if not report.is_whole:
-        report_text = ReportText(report)
-        lines = [report_text.summary(), *report_text.not_tried_lines()]
+    report_text = ReportText(report)
+    name = xml_attribute(report_text.others_name)
+    yield f'<testcase classname={class_name} name={name} time="{seconds:.3f}">\n'
+    lines = report_text.others_fault_lines()
+    if lines:
         yield fault_element('error', lines[0], lines)
     yield '</testcase>\n'
 
@@ -105,8 +105,8 @@ def others_case_lines(report: CheckReport, class_name: str, seconds: float) -> I
 def disk_case_lines(failure: DiskFailure, class_name: str) -> Iterator[str]:
     """The test case of a failure on disks that no tried state has: an error if COMMAND gave no
     answer there. Its time is 0. class_name has its quotes, and is escaped."""
-    case = f'{failure.outcome.cause} ({failure.explanation.reason})'
-    yield f'<testcase classname={class_name} name={xml_attribute(case)} time="0.000">\n'
+    name = xml_attribute(failure.name)
+    yield f'<testcase classname={class_name} name={name} time="0.000">\n'
     lines = failure.lines()
     yield fault_element(fault_kind(failure.outcome), lines[0], lines)
     yield f'<system-out>{xml_text(failure.outcome.output)}</system-out>\n'

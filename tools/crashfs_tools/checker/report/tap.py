@@ -41,10 +41,7 @@ def tap_lines(report: CheckReport) -> Iterator[str]:
     report_text = ReportText(report)
     points = [entry_point(report_text, group) for group in report.groups()]
     points += [entry_point(report_text, *entry) for entry in report.recovery_groups()]
-    points += [
-        failed_point(f'{failure.outcome.cause} ({failure.explanation.reason})', failure.lines())
-        for failure in report.disk_failures()
-    ]
+    points += [failed_point(failure.name, failure.lines()) for failure in report.disk_failures()]
     points.append(others_point(report_text))
     yield f'{VERSION}\n1..{len(points)}\n'
     for number, point in enumerate(points, 1):
@@ -64,11 +61,8 @@ def entry_point(
 
 def others_point(report_text: ReportText) -> TestPoint:
     """The test of all states that are in no entry. It fails if the report isn't whole, because a
-    state or a recovery wasn't tried. Its name counts the good states."""
-    name = f'all other states ({report_text.counts.good_count:,})'
-    if report_text.report.is_whole:
-        return TestPoint(name)
-    return TestPoint(name, [report_text.summary(), *report_text.not_tried_lines()])
+    state or a recovery wasn't tried."""
+    return TestPoint(report_text.others_name, report_text.others_fault_lines())
 
 
 def failed_point(cause: str, details: List[str]) -> TestPoint:

@@ -197,6 +197,17 @@ class ReportText:
             if recovery.fault
         ]
 
+    @property
+    def others_name(self) -> str:
+        """The name of the test of all states that are in no entry, for JUnit and TAP: it counts the
+        good states."""
+        return f'all other states ({self.counts.good_count:,})'
+
+    def others_fault_lines(self) -> List[str]:
+        """Why the test of all states that are in no entry fails: a state or a recovery wasn't
+        tried. No lines if the report is whole: then the test passes."""
+        return [] if self.report.is_whole else [self.summary(), *self.not_tried_lines()]
+
     def disk_lines(self) -> List[str]:
         """The lines on what was seen on real disks, and all failures there that no tried state has;
         no line without --disks. They may be longer than COLUMNS."""
