@@ -157,6 +157,7 @@ class Records(InRecordings):
         self.assertIn('no acknowledged line is down', ran.stderr)
 
     def test_the_trace_may_be_standard_output_or_what_is_no_plain_file(self):
+        self.write('-', 'no trace')
         ran = self.run_tool(
             'crashfs-record', '--no-say', 'd', '-', '--', 'sh', '-c', 'echo 2 > new'
         )

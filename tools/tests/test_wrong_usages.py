@@ -43,6 +43,7 @@ RECORD: List[Tuple[str, int, str]] = [
     ('none o -- true', 1, 'none is no directory'),
     ('d none/o -- true', 1, 'none/o: its directory is not there'),
     ('d d/o -- true', 1, 'd/o would be in '),
+    ('--keep-log - . /dev/null -- true', 1, '- would be in '),
     ('d tmp -- true', 1, 'tmp is a directory'),
     ('d o -- no-such', 1, 'no-such: command not found'),
     ('d o -- ./no-such', 1, './no-such: command not found'),

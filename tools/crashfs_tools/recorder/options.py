@@ -266,9 +266,10 @@ def prepare_options(options: RecordOptions) -> None:
         raise Refused(f'{options.directory} is no directory')
     options.directory = os.path.realpath(options.directory)
     options.is_ignored = IgnoreRules(options.ignore, options.directory)
-    for path in (options.out, options.keep_log):
-        if path is not None and path != '-':
-            refuse_output_path(path, options.directory)
+    if options.out != '-':
+        refuse_output_path(options.out, options.directory)
+    if options.keep_log is not None:
+        refuse_output_path(options.keep_log, options.directory)
     options.command = with_program_path(options.command) if options.command else []
 
 

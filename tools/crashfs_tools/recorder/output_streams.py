@@ -66,8 +66,8 @@ class OutputStream:
         return texts
 
     def complete_lines(self, data: bytes, change_count: int) -> List[bytes]:
-        """The lines that a write completes, without line feeds and carriage returns at their ends;
-        what is after the last line feed waits in `pieces`. If files were changed since the newest
+        """The lines that a write completes, each without the line feed, and the carriage return
+        before that, at its end; what is after the last line feed waits in `pieces`. If files were changed since the newest
         of the pieces, by change_count, gap_count and most_gaps count that."""
         if not self.pieces:
             self.gap_count = 0

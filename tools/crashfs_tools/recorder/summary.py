@@ -197,9 +197,9 @@ def read_last_state(readers: List[LastStateReader]) -> Tuple[Entries, str]:
 def last_state_readers(options: RecordOptions, recording: Recording) -> List[LastStateReader]:
     """The readers of the last state, in the order in which they must be tried, and at least one:
     the program, if it reads the trace's version and the trace isn't too long for it, then a replay.
-    If OUT isn't a file, there is only a replay of the trace in memory. Refused if --crashfs names
-    no program; OSError as in Crashfs.program_for_version()."""
-    if not os.path.isfile(options.out):
+    If has_trace() is False for OUT, there is only a replay of the trace in memory. Refused if
+    --crashfs names no program; OSError as in Crashfs.program_for_version()."""
+    if not has_trace(options.out):
         return [ReplayReader(recording.trace.lines())]
     readers: List[LastStateReader] = [ReplayReader(lines_of_file(options.out))]
     program = None if needs_windows(recording) else Crashfs.find(options.crashfs)
@@ -208,6 +208,12 @@ def last_state_readers(options: RecordOptions, recording: Recording) -> List[Las
         if not program.is_unproved:
             readers.insert(0, ProgramReader(program, options.out))
     return readers
+
+
+def has_trace(out: str) -> bool:
+    """Whether OUT is a plain file, which has the trace once that is written. False for `-`, which
+    is standard output, also if there is a file of this name."""
+    return out != '-' and os.path.isfile(out)
 
 
 def needs_windows(recording: Recording) -> bool:
@@ -262,9 +268,9 @@ def states_text(options: RecordOptions, recording: Recording) -> str:
 
 @contextmanager
 def trace_file(out: str, trace: Trace) -> Iterator[str]:
-    """Yields the path of a file that has the trace: OUT, or, if OUT isn't a file, as for standard
-    output, a temporary file, which is removed at the end. OSError if that can't be written."""
-    if os.path.isfile(out):
+    """Yields the path of a file that has the trace: OUT, if has_trace() is True for it, or else a
+    temporary file, which is removed at the end. OSError if that can't be written."""
+    if has_trace(out):
         yield out
         return
     with tempfile.NamedTemporaryFile('w', suffix='.trace', **TEXT) as file:
