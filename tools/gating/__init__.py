@@ -1,1 +1,1 @@
-"""What the gate needs beside `rt ci`: times, the tools' tests, and its last lines."""
+"""What the gate needs in addition to `rt ci`: times, the tools' tests, and its last lines."""

@@ -20,7 +20,7 @@ CRATES = Path(__file__).resolve().parent.parent.parent / 'crates'
 GROUPS = 3
 # An edit takes about as long as the proof of so many lines.
 LINES_PER_EDIT = 100
-# A folder's name beside `src` of a crate.
+# The name of a crate's folder of edits.
 EDITS = 'must-fail'
 
 

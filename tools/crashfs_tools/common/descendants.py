@@ -110,8 +110,8 @@ def descendant_processes() -> Set[int]:
 
 
 def program_name(process: int) -> str:
-    """The name of a process's program, cut by the system to 15 bytes. An empty text if the process
-    is gone."""
+    """The name of a process, cut by the system to 15 bytes: that of its program, unless it has
+    another one by become_cleaner() or the like. An empty text if the process is gone."""
     try:
         with open(f'/proc/{process}/comm', encoding='utf-8', errors='replace') as file:
             return file.read().rstrip('\n')

@@ -28,7 +28,7 @@ def read_file_bytes(descriptor: int) -> Bytes:
 
 def read_pieces(descriptor: int, begin: int, end: int) -> Iterator[Part]:
     """The bytes of an open file from the offset `begin` to before `end`, in pieces of at most
-    PIECE_BYTES, each after its offset. If the file is shorter, the pieces end with it. OSError if
+    PIECE_BYTES, each with its offset. If the file is shorter, the pieces end with it. OSError if
     it can't be read. The descriptor's own offset stays."""
     while begin < end:
         piece = os.pread(descriptor, min(PIECE_BYTES, end - begin), begin)

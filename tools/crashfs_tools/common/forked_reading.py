@@ -111,7 +111,7 @@ class ForkedReading:
 
 def read_pipes(*pipes: int) -> Iterator[Tuple[int, bytes]]:
     """Reads pipes to their ends, by their descriptors, and waits for them without limit. Yields
-    each piece when it has come, after its pipe's descriptor. The pipes stay open."""
+    each piece when it has come, with its pipe's descriptor. The pipes stay open."""
     poll, open_pipes = poll_for_input(*pipes), set(pipes)
     while open_pipes:
         pipe, _ = poll.poll()[0]

@@ -183,7 +183,7 @@ class Guard:
     def clean_up(self) -> None:
         """In the watcher: ends the processes with the token. If there is a directory, unmounts what
         is mounted below it, and removes it; what can't be unmounted or removed stays in it, or
-        beside it in a directory whose name ends with TRASH_ENDING."""
+        next to it in a directory whose name ends with TRASH_ENDING."""
         end_processes_with_token(self.token)
         if self.directory:
             table = MountTable()

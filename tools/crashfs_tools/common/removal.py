@@ -10,7 +10,7 @@ FOLDER = os.O_RDONLY | os.O_DIRECTORY | os.O_NOFOLLOW | os.O_CLOEXEC
 # Opens a directory that may not be read.
 PLACE = os.O_PATH | os.O_DIRECTORY | os.O_NOFOLLOW | os.O_CLOEXEC
 OPEN_MODE = 0o700
-# What stays of a directory is beside it, in one whose name ends so.
+# What stays of a directory is next to it, in one whose name ends so.
 TRASH_ENDING = '.left'
 
 

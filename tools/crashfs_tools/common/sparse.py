@@ -22,7 +22,7 @@ Content = Union[bytes, bytearray, 'SparseBytes']
 
 
 class SparseBytes:
-    """Bytes that are changed in place. They begin as zeros; then `parts`, pieces after their
+    """Bytes that are changed in place. They begin as zeros; then `parts`, pieces with their
     offsets, are written by write(). pages has, by number, the pages that may have bytes other than
     zeros, each of PAGE_BYTES; a page's bytes after `length` are zeros."""
 
@@ -73,7 +73,7 @@ class SparseBytes:
     __hash__ = None  # type: ignore[assignment]  # its bytes change
 
     def data_pages(self) -> Iterator[Tuple[int, bytes]]:
-        """The pages that aren't all zeros, each after its number, in no particular order."""
+        """The pages that aren't all zeros, each with its number, in no particular order."""
         for number, page in self.pages.items():
             if page != ZEROS:
                 yield number, bytes(page)
@@ -141,13 +141,13 @@ class SparseBytes:
         self.length = length
 
     def parts(self) -> List[Part]:
-        """What isn't zero, as pieces after their offsets, ascending. Each LONG_TEXT is a part by
+        """What isn't zero, as pieces with their offsets, ascending. Each LONG_TEXT is a part by
         itself. Any other part has fewer than GAP_BYTES zeros in a row, and zeros at an edge only
         next to a long text."""
         return [part for begin, run in self.page_runs() for part in split_parts(begin, run)]
 
     def page_runs(self) -> Iterator[Part]:
-        """The pages that aren't all zeros, as runs after their offsets, ascending: neighbours are
+        """The pages that aren't all zeros, as runs with their offsets, ascending: neighbours are
         joined up to PART_BYTES. The last page ends at the length."""
         run_begin = 0
         pages: List[bytes] = []
@@ -165,7 +165,7 @@ class SparseBytes:
 
 def split_parts(begin: int, data: bytes) -> Iterator[Part]:
     """The bytes at offset `begin` of a file, as parts in the form of SparseBytes.parts(), each
-    after its offset."""
+    with its offset."""
     piece_begin = 0
     for gap in GAP.finditer(data):
         yield from split_texts(begin + piece_begin, data[piece_begin : gap.start()])
@@ -175,7 +175,7 @@ def split_parts(begin: int, data: bytes) -> Iterator[Part]:
 
 def split_texts(begin: int, data: bytes) -> Iterator[Part]:
     """The bytes at an offset of a file, without the zeros at their edges, split so that each
-    LONG_TEXT is a part by itself. Each part comes after its offset; there is none if all bytes are
+    LONG_TEXT is a part by itself. Each part comes with its offset; there is none if all bytes are
     zeros."""
     begin += len(data) - len(data.lstrip(b'\0'))
     stripped, end = data.strip(b'\0'), 0

@@ -26,7 +26,7 @@ from .own_mounts import own_mounts_fault
 MEBIBYTE = 1 << 20
 # So many images of each file system a process has at once: the start, the disk, and its copy.
 IMAGES = 3
-# The programs that images are made by, besides `mkfs`.
+# The programs that images are made by, in addition to `mkfs`.
 PROGRAMS = ('fallocate',)
 # An inode for each block, also in images of 512 MiB and more, which have fewer by default.
 EXT_BLOCKS = ('-q', '-F', '-b', '4096', '-i', '4096')

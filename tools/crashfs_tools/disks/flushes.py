@@ -19,7 +19,7 @@ Unsynced = Sequence[Sequence[UnsyncedChange]]
 
 class FlushKind(Enum):
     """What the kernel is made to write before a crash. The value says in a report what was on the
-    disk besides what the session had synced."""
+    disk in addition to what the session had synced."""
 
     NOTHING = 'nothing more written'
     LOG = 'the log written'
