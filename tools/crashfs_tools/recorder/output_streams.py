@@ -66,9 +66,9 @@ class OutputStream:
         return texts
 
     def complete_lines(self, data: bytes, change_count: int) -> List[bytes]:
-        """The lines that a write completes, each without the line feed, and the carriage return
-        before that, at its end; what is after the last line feed waits in `pieces`. If files were changed since the newest
-        of the pieces, by change_count, gap_count and most_gaps count that."""
+        """The lines that a write completes, each without its line feed and a carriage return before
+        that; what is after the last line feed waits in `pieces`. If files were changed since the
+        newest of the pieces, by change_count, gap_count and most_gaps count that."""
         if not self.pieces:
             self.gap_count = 0
         elif change_count != self.last_change_count:
