@@ -264,15 +264,10 @@ class Groups(unittest.TestCase):
         text += line('fsync', '/') + line('say', text='it is removed')
         report = report_of(text, lambda files, says: '' if says or '/old' in files else 'lost: old')
         span = [group.advice.lines() for group in report.groups() if not group.is_due_to_loss]
-        self.assertTrue(
-            all(
-                one[1].endswith('does COMMAND accept it?')
-                for one in span
-                if 'say "it is removed"' in one[0]
-            ),
-            span,
-        )
-        self.assertTrue(any('say "it is removed"' in one[0] for one in span), span)
+        remedies = [one[1] for one in span if 'say "it is removed"' in one[0]]
+        self.assertTrue(remedies, span)
+        for remedy in remedies:
+            self.assertTrue(remedy.endswith('does COMMAND accept it?'), remedy)
 
     def test_no_line_but_the_first_is_longer_than_the_width(self):
         name = '/' + 'n' * 200
