@@ -13,6 +13,9 @@ from .results import Results
 from .runner import BAD, Outcome
 from .trials import Trials
 
+END_TREE, START_TREE = "the tree at the session's end", 'the start tree'
+LOSSLESS = 'where nothing is lost'
+
 
 class FirstTrials:
     """Tries the tree at the session's end and the start tree. end_plan is the plan of a trace that
@@ -30,54 +33,60 @@ class FirstTrials:
 
     def run(self) -> None:
         """Tries the two trees, first that at the end. Refused if COMMAND fails in one of them;
-        other exceptions as in try_state(). The results get the outcomes of states that are among
+        other exceptions as in outcome_of(). The results get the outcomes of states that are among
         those to try; the outcome of end_plan's state is dropped."""
         prefixes = [state for state in self.trials.plan.states if state.family == 'prefix']
+        start, end = prefixes[0], prefixes[-1]
         if self.end_plan is None:
-            end_name = "the tree at the session's end"
-            self.try_state(prefixes[-1], end_name, next_numbers=[prefixes[0].number])
+            self.try_prefix(end, END_TREE, next_numbers=[start.number])
         else:
             state = self.end_plan.plan.listed[0]
             outcome = Trials(self.trials.workplace, self.end_plan).try_state(state)
-            self.refuse_bad(
-                outcome,
-                f"the tree at the session's end, where nothing is lost (says {state.says})",
-                [],
-            )
-        self.try_state(prefixes[0], 'the start tree')
+            if outcome.result == BAD:
+                raise self.refusal(outcome, f'{END_TREE}, {LOSSLESS} (says {state.says})', [])
+        self.try_prefix(start, START_TREE)
 
-    def try_state(self, state: State, tree_name: str, next_numbers: Sequence[int] = ()) -> None:
-        """Tries a state, unless the results have its outcome already. They get the outcome if this
-        shard must try the state. tree_name says in words which tree the state has. Refused if
-        COMMAND fails in it; next_numbers and other exceptions as in Trials.try_state() and
-        wanted_numbers()."""
+    def try_prefix(self, state: State, tree_name: str, next_numbers: Sequence[int] = ()) -> None:
+        """Tries the tree of a prefix: Refused, with tree_name, if COMMAND fails there; next_numbers
+        and other exceptions as in outcome_of()."""
         number = self.results.tried_numbers[state.trial]
-        tried_state = self.trials.plan.state(number)
-        outcome = self.results.outcomes.get(number) or self.trials.try_state(
-            tried_state, next_numbers=next_numbers
-        )
+        outcome = self.outcome_of(number, next_numbers)
+        if outcome.result == BAD:
+            place = f'{tree_name}, {LOSSLESS} (state {number}, says {state.says})'
+            is_start = state.numbers[0] == 0
+            raise self.refusal(outcome, place, self.hints_on_state(number, is_start=is_start))
+
+    def outcome_of(self, number: int, next_numbers: Sequence[int]) -> Outcome:
+        """The outcome of the state of a number: that of the results, or else that of a run, which
+        the results get if this shard must try the state. next_numbers and exceptions as in
+        Trials.try_state(); other exceptions as in Trials.wanted_numbers()."""
+        outcome = self.results.outcomes.get(number)
+        if outcome is None:
+            state = self.trials.plan.state(number)
+            outcome = self.trials.try_state(state, next_numbers=next_numbers)
         if number in self.trials.wanted_numbers(self.results):
             self.results.outcomes[number] = outcome
+        return outcome
+
+    def refusal(self, outcome: Outcome, place: str, hints: List[str]) -> Refused:
+        """A new Refused for an outcome that is BAD: the first line of its text has the place and
+        the cause, then come those of hints_on_cause(), and `hints` last. It isn't raised yet."""
+        name = 'COMMAND' if self.is_command else 'the recovery'
+        first_line = f'{name} fails in {place}: {outcome.cause}'
+        return Refused('\n'.join([first_line, *self.hints_on_cause(outcome.cause), *hints]))
+
+    def hints_on_state(self, number: int, *, is_start: bool) -> List[str]:
+        """The lines that ask for a look at a state in which COMMAND fails, maybe none. is_start
+        says whether it is the start tree: files there may be a mistake. Errors as in
+        PlanTrees.of_state()."""
         hints = []
-        if outcome.result == BAD and state.numbers[0] == 0 and self.trials.trees.of_state(number):
+        if is_start and self.trials.trees.of_state(number):
             hints.append('did the directory have files of an earlier session when it was recorded?')
         if self.is_command:
             hints.append(f'inspect it with --state {number}')
-        self.refuse_bad(
-            outcome,
-            f'{tree_name}, where nothing is lost (state {number}, says {state.says})',
-            hints,
-        )
+        return hints
 
-    def refuse_bad(self, outcome: Outcome, tree_name: str, hints: List[str]) -> None:
-        """Refused if an outcome is BAD: the first line of the text has tree_name and the cause, and
-        `hints` are its last lines. An outcome without an answer isn't refused."""
-        if outcome.result == BAD:
-            name = 'COMMAND' if self.is_command else 'the recovery'
-            first_line = f'{name} fails in {tree_name}: {outcome.cause}'
-            raise Refused('\n'.join([first_line, *self.hints_for(outcome.cause), *hints]))
-
-    def hints_for(self, cause: str) -> List[str]:
+    def hints_on_cause(self, cause: str) -> List[str]:
         """One or more lines that ask what may be wrong with COMMAND, or with the recovery function,
         if that fails with this cause."""
         if not self.is_command:
