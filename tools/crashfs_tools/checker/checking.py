@@ -14,7 +14,6 @@ from crashfs_tools.checker.findings.groups import Findings
 from crashfs_tools.checker.report.report import CheckReport
 from crashfs_tools.checker.running.first_trials import FirstTrials
 from crashfs_tools.checker.running.progress import Progress
-from crashfs_tools.checker.running.read_results import read_json
 from crashfs_tools.checker.running.recoveries import FunctionRecovery
 from crashfs_tools.checker.running.results import AllResults, Head, Results, known_states
 from crashfs_tools.checker.running.runner import do_nothing
@@ -84,6 +83,8 @@ class Check:
         path = self.options.resume
         if path is None or not os.path.exists(path):
             return None
+        from crashfs_tools.checker.running.read_results import read_json
+
         earlier = read_json(path)
         if earlier.head.identity() != self.head.identity():
             raise Refused(OTHER_CHECK)

@@ -46,10 +46,11 @@ class OutcomeCache:
 
     def look_up(self, key: str) -> Optional[Outcome]:
         """Returns the outcome for a key, of this check or of an earlier one; None if there is none,
-        or if what the file has for the key is no outcome. The outcome is kept for later checks. The
-        first use of an outcome of an earlier check counts as a hit."""
+        or if the file has anything else for the key than the fields of an outcome with an answer.
+        The outcome is kept for later checks. The first use of an outcome of an earlier check counts
+        as a hit."""
         fields = self.used_outcomes.get(key) or self.earlier_outcomes.get(key)
-        if fields is None or len(fields) != 3 or fields[0] not in (GOOD, BAD):
+        if not isinstance(fields, list) or len(fields) != 3 or fields[0] not in (GOOD, BAD):
             return None
         self.hits += key not in self.used_outcomes
         self.used_outcomes[key] = fields

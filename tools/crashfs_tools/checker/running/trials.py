@@ -1,11 +1,23 @@
-"""Tries the states of a plan: runs COMMAND in each, keeps the outcomes, and stops when it must."""
+"""Tries the states of a plan: runs COMMAND in each, keeps the outcomes, and stops when it must.
+What few checks need is imported where they need it."""
 
 from __future__ import annotations
 
 from dataclasses import dataclass, field, replace
 from functools import cached_property, lru_cache
 from itertools import product
-from typing import Callable, Dict, Iterable, Iterator, List, Optional, Sequence, Set, Tuple
+from typing import (
+    TYPE_CHECKING,
+    Callable,
+    Dict,
+    Iterable,
+    Iterator,
+    List,
+    Optional,
+    Sequence,
+    Set,
+    Tuple,
+)
 
 from crashfs_tools.checker.address import Address
 from crashfs_tools.checker.options import Options
@@ -18,13 +30,15 @@ from crashfs_tools.common.limits import RUNS
 from crashfs_tools.common.program import Crashfs
 from crashfs_tools.common.trace_lines import root_owner
 
-from .cache import OutcomeCache, StateKeys
 from .progress import Pace, Progress, TooSlow
 from .recoveries import CommandRecovery, FunctionRecovery, StateRecovery
 from .results import Results
 from .runner import BAD, AcknowledgedLines, Checker, Outcome, do_nothing, refuse_left_processes
 from .batches import states_in_batches
 from .workers import OnOutcome, StateWorkers
+
+if TYPE_CHECKING:
+    from .cache import OutcomeCache, StateKeys
 
 # A state may be tried so often: once, and the example of an entry twice more.
 ATTEMPTS = 3
@@ -170,6 +184,8 @@ class Trials:
     @cached_property
     def state_keys(self) -> StateKeys:
         """The keys by which the cache has the outcomes of this plan's states."""
+        from .cache import StateKeys
+
         return StateKeys(self.planned.trace, self.plan, self.acknowledged_lines.texts)
 
     def find_outcomes(

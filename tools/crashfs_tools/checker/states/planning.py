@@ -14,7 +14,6 @@ from crashfs_tools.common.guard import Guard
 from crashfs_tools.common.program import Crashfs, ProgramFault, is_plan_too_large
 
 from .all_sets import AllSets, ReadingSets, all_sets
-from .joining import joined_states
 from .layout import is_small
 from .place_sets import places_of, size_of
 from .plan import AllStates, Needs, Offsets, Part, Plan, PlannedTrace, SetProfiles, State
@@ -180,6 +179,8 @@ class Planner:
         listings = [self.run_program(['list', *options, '--json']) for options in options_of_parts]
         plan = read_plan(listings[0], offsets, listings[1:])
         if len(options_of_parts) > 1:
+            from .joining import joined_states
+
             plan = plan.with_states(joined_states(trace, plan), None, plan.profiles)
         parts = make_parts(plan, options_of_parts, [len(sets) for sets in picks_of_parts])
         return PlannedTrace(trace, parts, plan, offsets)

@@ -117,8 +117,8 @@ class Steps:
     which paths are links to one file, only `tree` knows."""
 
     def __init__(self, session: Session) -> None:
-        """Begins at the first step, with the tree in which the trace begins. Only go_to() moves
-        `begin`, and never back."""
+        """Begins at the first step, with the tree in which the trace begins. Only advance_to()
+        moves `begin`, and never back."""
         self.session = session
         self.begin = 0
         self.says = 0
@@ -137,8 +137,8 @@ class Steps:
         """How many micro-operations come from `begin` up to the step `end`, without that step."""
         return self.session.places[end] - self.session.places[self.begin]
 
-    def go_to(self, step: int, start: Entries) -> None:
-        """Moves `begin` on to a later step, by applying the operations before that step to `tree`.
+    def advance_to(self, step: int, start: Entries) -> None:
+        """Moves `begin` to a later step, by applying the operations before that step to `tree`.
         `start` must be the tree there as the program gives it; it isn't compared with `tree`."""
         for passed_step in self.session.steps[self.begin : step]:
             self.says += isinstance(passed_step.operation, Say)

@@ -75,8 +75,8 @@ class Windows:
         """Yields the plan of each window, with is_last, which is True only for the last one. States
         are numbered on from window to window; micro-operations have their places in the session. A
         window's files are removed when the next plan is asked for; those of the last one stay.
-        cut_off grows meanwhile: call this once. Errors as in Planner.plan() and go_to(), and
-        OSError if a trace can't be written."""
+        cut_off grows meanwhile: call this once. Errors as in Planner.plan() and
+        move_steps(), and OSError if a trace can't be written."""
         steps, state_count = Steps(self.session), 0
         window = self.longest_window(steps, state_count)
         while window.end < len(self.session.steps):
@@ -223,7 +223,7 @@ class Windows:
         prefix = self.session.places[step] - previous.planned.offsets.operations
         words = [*previous.planned.parts[0].options_without_picks, '--state', str(prefix)]
         start_tree = self.planner.program.tree_with_root(words, self.planner.guard.environment)
-        steps.go_to(step, start_tree)
+        steps.advance_to(step, start_tree)
         if start_tree != steps.tree.entries:
             raise Refused(
                 f'before line {self.session.steps[step].line} the program and these tools have '
