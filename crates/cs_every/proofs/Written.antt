@@ -1,63 +1,15 @@
 -- What is written so far, and what is left.
-use Rattle.std.proofs.Common.{◌≡◌, ℕ, zero, suc, ◌+◌, ◌-◌, ◌<◌, ◌≤◌, Bool, true, cond, List, [], ◌∷◌, ◌++◌, Option, codes, decimal}
-use Rattle.std.proofs.Common.{get_or, map, take, length, refl, sym, ap, ◌∙◌, subst, arith, append_assoc, length-append}
+use Rattle.std.proofs.Common.{◌≡◌, ℕ, ◌+◌, ◌<◌, List, [], ◌∷◌, ◌++◌, Option, codes, decimal}
+use Rattle.std.proofs.Common.{get_or, map, take, length, refl, sym, ap, ◌∙◌, subst, append_assoc, length-append}
 use Rattle.std.proofs.KnownBytes.{Appends-nil, Appends-trans}
 use Rattle.std.proofs.lemmas.List.{append-nil, flat_map_more, map-append, take_more}
 use Rattle.std.proofs.lemmas.List.Elements.{All-nil, All-push}
 use Rattle.std.specs.Io.KnownBytes.{Appends}
-use Rattle.std.specs.List.{Contains, filter, range_with_len}
+use Rattle.std.specs.List.{Contains}
 use Rattle.cs_sets.specs.declared.row.Row.{Row}
-use Rattle.cs_sets.specs.Bits.{has_place}
-use Rattle.cs_sets.specs.Finding.{HasNone, IsNext}
 use Rattle.cs_sets.specs.Places.{places_of}
 use Rattle.cs_every.specs.Drawn.{WritesSample}
-use Rattle.cs_every.specs.Texts.{others_text, pick_line, picks_text, places_from}
-
--- ---- places
-
-none_in : (has : ℕ → Bool) (a m : ℕ) → HasNone has a (a + m) → filter has (range_with_len a m) ≡ []
-none_in has a zero none = refl
-none_in has a (suc m) none =
-    ap (λ b. cond b (a ∷ filter has (range_with_len (a + 1) m)) (filter has (range_with_len (a + 1) m)))
-    (none a (omega arith) (omega arith))
-    ∙ none_in has (a + 1) m (λ i l u. none i (omega (arith, l)) (omega (arith, u)))
-
-next_in : (has : ℕ → Bool) (d a m : ℕ) → HasNone has a (a + d) → has (a + d) ≡ true → d < m
-    → filter has (range_with_len a m) ≡ (a + d) ∷ filter has (range_with_len (a + d + 1) (m - (d + 1)))
-next_in has d a zero none is low = absurd (omega (arith, low))
-next_in has zero a (suc m) none is low =
-    let e : a + 0 ≡ a = omega arith in
-    let f : suc m - (0 + 1) ≡ m = omega arith in
-    ap (λ b. cond b (a ∷ filter has (range_with_len (a + 1) m)) (filter has (range_with_len (a + 1) m))) (ap has (sym e) ∙ is)
-    ∙ ap (λ v. v ∷ filter has (range_with_len (v + 1) m)) (sym e)
-    ∙ ap (λ v. (a + 0) ∷ filter has (range_with_len (a + 0 + 1) v)) (sym f)
-next_in has (suc d) a (suc m) none is low =
-    let e : (a + 1) + d ≡ a + suc d = omega arith in
-    let f : m - (d + 1) ≡ suc m - (suc d + 1) = omega arith in
-    ap (λ b. cond b (a ∷ filter has (range_with_len (a + 1) m)) (filter has (range_with_len (a + 1) m)))
-    (none a (omega arith) (omega arith))
-    ∙ next_in has d (a + 1) m (λ i l u. none i (omega (arith, l)) (omega (arith, u, e))) (ap has e ∙ is) (omega (arith, low))
-    ∙ ap (λ v. v ∷ filter has (range_with_len (v + 1) (m - (d + 1)))) e
-    ∙ ap (λ v. (a + suc d) ∷ filter has (range_with_len (a + suc d + 1) v)) f
-
-pub from_none : (has : ℕ → Bool) (at : ℕ) → at ≤ 1024 → HasNone has at 1024 → places_from has at ≡ []
-unfolding places_from
-from_none has at low none = none_in has at (1024 - at) (λ i l u. none i l (omega (arith, u, low)))
-
-pub from_next : (has : ℕ → Bool) (at place : ℕ) → IsNext has at 1024 place → places_from has at ≡ place ∷ places_from has (place + 1)
-unfolding places_from
-from_next has at place next =
-    let from = next.from_first in let to = next.before_end in
-    let e : at + (place - at) ≡ place = omega (arith, from) in
-    let f : (1024 - at) - ((place - at) + 1) ≡ 1024 - (place + 1) = omega (arith, from, to) in
-    next_in has (place - at) at (1024 - at) (λ i l u. next.none_before i l (omega (arith, u, e))) (ap has e ∙ next.is_there)
-    (omega (arith, from, to))
-    ∙ ap (λ v. v ∷ filter has (range_with_len (v + 1) ((1024 - at) - ((place - at) + 1)))) e
-    ∙ ap (λ v. place ∷ filter has (range_with_len (place + 1) v)) f
-
-pub all_from : (row : Row) → places_of row ≡ places_from (has_place row) 0
-unfolding places_from places_of
-all_from row = refl
+use Rattle.cs_every.specs.Texts.{others_text, pick_line, picks_text}
 
 -- ---- a line
 

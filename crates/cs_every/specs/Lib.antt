@@ -1,4 +1,5 @@
 pub mod Texts
+pub mod Lines
 pub mod Drawn
 pub mod Counted
 pub mod Faults

@@ -1,14 +1,10 @@
 -- Sets as lines of a picks file, and their number.
-use Rattle.std.specs.Prelude.{ℕ, ◌-◌, ◌^◌, Bool, List, [], ◌∷◌, ◌++◌, codes, decimal, nat_lt, if◌then◌else◌}
-use Rattle.std.specs.List.{filter, flat_map, range_with_len}
+use Rattle.std.specs.Prelude.{ℕ, ◌^◌, List, [], ◌∷◌, ◌++◌, codes, decimal, nat_lt, if◌then◌else◌}
+use Rattle.std.specs.List.{flat_map}
 
 -- a comma and the number of each place
 abbrev pub others_text : List ℕ → List ℕ
 others_text places = flat_map (λ k. codes "," ++ decimal k) places
-
--- the places from one on that pass the test
-unfoldable pub places_from : (ℕ → Bool) → ℕ → List ℕ
-places_from has first = filter has (range_with_len first (1024 - first))
 
 -- an array with commas between, and a line feed
 abbrev pub pick_line : List ℕ → List ℕ

@@ -6,8 +6,8 @@ ghost use Rattle.cs_sets.specs.Orders.{needs_in};
 ghost use Rattle.cs_every.specs.Faults.{IsOutside, IsUncounted};
 ghost use Rattle.cs_every.specs.Texts.{count_text};
 
+use crate::bytes::write_bytes;
 use crate::fault::EveryFault;
-use crate::printed::write_bytes;
 use cs_sets::{Order, Sets};
 use std::alloc::Global;
 use std::io::Write;

@@ -2,9 +2,11 @@
 //! allows, printed, counted, or drawn at random.
 #![tactic(auto)]
 
+mod bytes;
 mod counted;
 mod drawn;
 mod fault;
+mod line;
 mod printed;
 
 pub use counted::{has_more_than, write_count};

@@ -1,26 +1,18 @@
 //! Sets of places as lines of a picks file: each a JSON array of its places, ascending, and a line
 //! feed.
-ghost use Rattle.std.specs.Prelude.{◌≤◌, ◌++◌, codes, decimal, length, map, IfErr, OnOk};
+ghost use Rattle.std.specs.Prelude.{◌++◌, codes, decimal, length, map, IfErr, OnOk};
 ghost use Rattle.std.specs.Io.KnownBytes.{Appends};
-ghost use Rattle.cs_sets.specs.Bits.{has_place};
 ghost use Rattle.cs_sets.specs.Every.{every};
 ghost use Rattle.cs_sets.specs.Orders.{needs_in};
 ghost use Rattle.cs_sets.specs.Places.{places_of};
 ghost use Rattle.cs_every.specs.Faults.{IsOutside};
-ghost use Rattle.cs_every.specs.Texts.{others_text, pick_line, picks_text, places_from};
+ghost use Rattle.cs_every.specs.Texts.{others_text, pick_line, picks_text};
 
+use crate::bytes::write_bytes;
 use crate::fault::EveryFault;
-use cs_names::limits::MICRO_OPERATIONS;
+use crate::line::Line;
 use cs_sets::{Order, Row, Sets};
 use std::io::Write;
-
-/// Writes all of the bytes. The only fault is Output; then some of them may be written.
-pub fn write_bytes<W: Write>(bytes: &[u8], out: &mut W) -> Result<(), EveryFault>
-    ensures fault { IfErr result IsOutside }
-    ensures text { OnOk result (Appends (W.contents out.old) (W.contents out.new) bytes.now) }
-{
-    out.write_all(bytes).map_err(|_| EveryFault::Output)
-}
 
 /// Writes a bracket and the first place of a set. The only fault is Output.
 fn write_first<W: Write>(place: usize, out: &mut W) -> Result<(), EveryFault>
@@ -40,24 +32,7 @@ fn write_other<W: Write>(place: usize, out: &mut W) -> Result<(), EveryFault>
     write!(out, ",{place}").map_err(|_| EveryFault::Output)
 }
 
-/// Writes a comma and the number of each place of the set from `first` on, in ascending order. The
-/// only fault is Output. (`write_places` does the same for a list.)
-fn write_others<W: Write>(set: &Row, first: usize, out: &mut W) -> Result<(), EveryFault>
-    requires { first ≤ MICRO_OPERATIONS }
-    ensures fault { IfErr result IsOutside }
-    ensures text { OnOk result (Appends (W.contents out.old) (W.contents out.new)
-        (others_text (places_from (has_place set.now) first))) }
-{
-    let mut at = first;
-    while let Some(place) = set.next_from(at, MICRO_OPERATIONS) {
-        write_other(place, out)?;
-        at = place + 1;
-    }
-    Ok(())
-}
-
 /// Writes a comma and the number of each of these places, in their order. The only fault is Output.
-/// (`write_others` does the same for a row.)
 fn write_places<W: Write>(places: &[u32], out: &mut W) -> Result<(), EveryFault>
     ensures fault { IfErr result IsOutside }
     ensures text { OnOk result (Appends (W.contents out.old) (W.contents out.new)
@@ -99,14 +74,9 @@ pub fn write_set<W: Write>(set: &Row, out: &mut W) -> Result<(), EveryFault>
     ensures text { OnOk result (Appends (W.contents out.old) (W.contents out.new)
         (pick_line (places_of set.now))) }
 {
-    let Some(first) = set.next_from(0, MICRO_OPERATIONS) else {
-        write_bytes(b"[]\n", out)?;
-        return Ok(());
-    };
-    write_first(first, out)?;
-    write_others(set, first + 1, out)?;
-    write_bytes(b"]\n", out)?;
-    Ok(())
+    let mut line = Line::empty();
+    line.change_to(set);
+    line.write(out)
 }
 
 /// Writes these sets, in their order, each as a line. It allocates nothing. The only fault is
@@ -116,8 +86,10 @@ pub fn write_rows<W: Write>(sets: &[Row], out: &mut W) -> Result<(), EveryFault>
     ensures text { OnOk result (Appends (W.contents out.old) (W.contents out.new)
         (picks_text (map places_of sets.now))) }
 {
+    let mut line = Line::empty();
     for set in sets {
-        write_set(set, out)?;
+        line.change_to(set);
+        line.write(out)?;
     }
     Ok(())
 }
@@ -131,8 +103,10 @@ pub fn write_every<W: Write>(order: &Order, out: &mut W) -> Result<(), EveryFaul
         (picks_text (every (needs_in order.now) (length order.now)))) }
 {
     let mut sets = Sets::of(order);
+    let mut line = Line::empty();
     while let Some(set) = sets.next() {
-        write_set(&set, out)?;
+        line.change_to(&set);
+        line.write(out)?;
     }
     Ok(())
 }

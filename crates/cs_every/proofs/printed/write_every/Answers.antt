@@ -1,4 +1,5 @@
-use Rattle.std.proofs.Common.{ap, length}
+use Rattle.std.proofs.Common.{ap, length, subst}
+use Rattle.std.specs.Io.KnownBytes.{Appends}
 use Rattle.cs_sets.specs.Every.{every}
 use Rattle.cs_sets.specs.Orders.{needs_in}
 use Rattle.cs_sets.specs.Places.{places_of}
@@ -8,9 +9,12 @@ use Rattle.cs_every.proofs.printed.write_every.Goals as goal
 
 pub loop-set-preserved : goal.loop-set-preserved
 loop-set-preserved g c =
-    part_more (g.W.Write.contents c.args.out.now) (g.W.Write.contents c.loop-set.out) (g.W.Write.contents c.write_set.new.out)
-    (picks_text c.loop-set.sets) (pick_line (places_of c.in-Some.set)) (picks_text c.next.new.self)
-    (picks_text (every (needs_in c.args.order.now) (length c.args.order.now))) c.loop-set.invariant c.in_ok-write_set.ensures.text
+    let before = g.W.Write.contents c.loop-set.out in
+    let after = g.W.Write.contents c.write.new.out in
+    part_more (g.W.Write.contents c.args.out.now) before after (picks_text c.loop-set.sets)
+    (pick_line (places_of c.in-Some.set)) (picks_text c.next.new.self)
+    (picks_text (every (needs_in c.args.order.now) (length c.args.order.now))) c.loop-set.invariant
+    (subst (λ v. Appends before after (pick_line v)) c.change_to.ensures c.in_ok-write.ensures.text)
     (ap picks_text c.in-Some.ensures.steps)
 
 pub returns-clause-text : goal.returns-clause-text
