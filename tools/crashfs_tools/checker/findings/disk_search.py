@@ -6,7 +6,7 @@ from __future__ import annotations
 import os
 import time
 from dataclasses import dataclass
-from typing import Callable, Dict, List, NamedTuple, Optional, Sequence, Set, Tuple
+from typing import Callable, Dict, Iterator, List, NamedTuple, Optional, Sequence, Set, Tuple
 
 from crashfs_tools.checker.running.runner import GOOD, Outcome, refuse_left_processes
 from crashfs_tools.checker.running.trials import Trials
@@ -61,6 +61,15 @@ class DiskTree:
     def tree_and_count(self) -> TreeAndCount:
         """The tree by its digest, and the number of acknowledged lines."""
         return self.digest, self.says
+
+
+class TriedTree(NamedTuple):
+    """A tree on disks, and the outcome of COMMAND there. is_of_state says whether a tried state has
+    the tree: then the outcome is that of the state."""
+
+    tree: DiskTree
+    outcome: Outcome
+    is_of_state: bool
 
 
 def search_disks(trials: Trials, outcomes: Dict[int, Outcome]) -> Sightings:
@@ -124,31 +133,34 @@ class DiskSearch:
         for name, different_disks in disks.items():
             sightings.crash_counts[name] = sum(len(disk.crashes) for disk in different_disks)
             sightings.tree_counts[name] = len(different_disks)
-        self.add_outcomes(different_trees(disks), sightings)
+        tried_trees = list(self.try_trees(different_trees(disks), sightings))
         refuse_left_processes(self.checker.left_processes)
+        self.add_failures(tried_trees, sightings)
         return sightings
 
-    def add_outcomes(self, trees: List[DiskTree], sightings: Sightings) -> None:
-        """Adds to the sightings which listed states have the trees, and on each file system how
-        many trees fail or give no answer with some number of lines. COMMAND is run in each tree
-        that no tried state has: if it fails or gives no answer there, that is a further failure.
-        After an exception only crashes of states are added."""
+    def try_trees(self, trees: List[DiskTree], sightings: Sightings) -> Iterator[TriedTree]:
+        """Yields each tree with its outcome, which is that of the first tried state that has the
+        tree or, if none has it, that of a run of COMMAND. Adds the tree's crashes to the sightings
+        of all listed states that have the tree. Exceptions as in state_numbers_by_tree() and
+        run_in_tree()."""
         numbers_by_tree = self.state_numbers_by_tree()
-        failing_trees: List[DiskTree] = []
-        untried: List[Tuple[DiskTree, Outcome]] = []
         for tree in trees:
             numbers = numbers_by_tree.get(tree.tree_and_count, [])
             sightings.add_crashes(numbers, tree.crashes)
             known_outcome = self.known_outcome(numbers)
             outcome = known_outcome or self.run_in_tree(tree)
-            if outcome.result != GOOD:
-                failing_trees.append(tree)
-                if known_outcome is None:
-                    untried.append((tree, outcome))
+            yield TriedTree(tree, outcome, is_of_state=known_outcome is not None)
+
+    def add_failures(self, tried_trees: List[TriedTree], sightings: Sightings) -> None:
+        """Adds to the sightings in how many trees on each file system COMMAND fails or gives no
+        answer, with some number of lines, and the failures in trees that no tried state has.
+        ReadingFault as explain_failures(): then only the numbers are added."""
+        failing = [tried for tried in tried_trees if tried.outcome.result != GOOD]
         sightings.failing_counts = {
-            name: len({tree.digest for tree in failing_trees if name in tree.crashes})
+            name: len({tried.tree.digest for tried in failing if name in tried.tree.crashes})
             for name in sightings.names
         }
+        untried = [(tried.tree, tried.outcome) for tried in failing if not tried.is_of_state]
         sightings.further_failures = explain_failures(self.trace_bytes, untried)
 
     def state_numbers_by_tree(self) -> Dict[TreeAndCount, List[int]]:
