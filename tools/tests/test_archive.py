@@ -4,7 +4,7 @@ import io
 import tarfile
 import unittest
 
-from crashfs_tools.common.archive import ArchiveFault, read_members
+from crashfs_tools.common.archive import ArchiveFault, parse_extended_fields, read_members
 from crashfs_tools.common.entry import Entry
 
 LONG = 'n' * 255
@@ -101,6 +101,12 @@ class Archives(unittest.TestCase):
         without_size = {name: text for name, text in SPARSE.items() if 'size' not in name}
         with self.assertRaisesRegex(ArchiveFault, 'sparse'):
             read(sparse_archive(without_size, PIECES))
+
+    def test_an_extended_header_with_a_wrong_length_is_refused(self):
+        self.assertEqual(parse_extended_fields(b'6 a=b\n'), {'a': 'b'})
+        for length in (b'0', b'7', b'x', b'', b'-6', b'6' * 5_000):
+            with self.assertRaisesRegex(ArchiveFault, 'an extended header is cut', msg=length):
+                parse_extended_fields(length + b' a=b\n')
 
     def test_other_kinds_of_entries_are_refused(self):
         out = io.BytesIO()

@@ -85,8 +85,9 @@ class Tree:
     @property
     def micro_operations(self) -> int:
         """How many micro-operations the applied operations have, in the tree's present version."""
-        own_count = self.micro_operations_of_version_4 if self.version >= 4 else 0
-        return self.micro_operations_of_all_versions + own_count
+        if self.version < 4:
+            return self.micro_operations_of_all_versions
+        return self.micro_operations_of_all_versions + self.micro_operations_of_version_4
 
     def add_start(self, entry: StartLine) -> None:
         """Adds the file, directory or link of a start line, with a copy of bytes that can be

@@ -67,7 +67,7 @@ class DiskPool:
         a process is an OSError or a workers.Fault. After a fault there are no disks."""
         tasks = self.tasks()
         trees_by_name: Dict[str, CrashedTrees] = {name: [] for name in self.makers}
-        with DiskWorkers(jobs, partial(become_worker, os.getpid()), self.crash) as workers:
+        with DiskWorkers(jobs, partial(become_worker, os.getpid()), self.do_task) as workers:
             for done_count, (name, crashed_trees) in enumerate(workers.results(tasks), 1):
                 trees_by_name[name] += crashed_trees
                 on_step(done_count, len(tasks))
@@ -76,9 +76,9 @@ class DiskPool:
             for name, crashed_trees in trees_by_name.items()
         }
 
-    def crash(self, task: Task) -> Tuple[str, CrashedTrees]:
-        """In a worker: does a task. Returns the file system's name, and the trees that crashes at
-        the task's moment leave on it."""
+    def do_task(self, task: Task) -> Tuple[str, CrashedTrees]:
+        """In a worker: the name of a task's file system, and the trees that crashes at the task's
+        moment leave on it. Errors as CrashMaker raises them."""
         return task.name, list(self.makers[task.name].crashes(task.moment, self.flush_kinds))
 
 
