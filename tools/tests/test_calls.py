@@ -8,7 +8,7 @@ from typing import Dict, List, Set, Tuple
 
 from crashfs_tools.common.trace import Creat, Mkdir, Operation
 from crashfs_tools.recorder.directory import scan_directory
-from crashfs_tools.recorder.live_files import LiveFiles, StartConditions
+from crashfs_tools.recorder.live_files import files_at_start, StartConditions
 from crashfs_tools.recorder.log_filter import LogFilter
 from crashfs_tools.recorder.recording import Recording, TraceSettings
 from crashfs_tools.recorder.strace_log import read_log
@@ -33,7 +33,7 @@ def recording_of_log(path: str, top: str) -> Recording:
     """What a kept log becomes; the directory is empty at the start."""
     start = scan_directory(top, lambda _: True)
     recording = Recording(start.header, TraceSettings())
-    files = LiveFiles(recording, StartConditions(top, 0o022, 'u', 'u'), start, lambda _: False)
+    files = files_at_start(recording, StartConditions(top, 0o022, 'u', 'u'), start, lambda _: False)
     with open(path, encoding='ascii') as lines:
         log = read_log(lines, LogFilter(os.fsencode(top)))
     Translator(files, log).translate_log()

@@ -13,7 +13,7 @@ from crashfs_tools.recorder.arguments import LogError
 from crashfs_tools.recorder.directory import Scan
 from crashfs_tools.recorder.log_filter import LogFilter
 from crashfs_tools.recorder.pipe_lines import PipeLines
-from crashfs_tools.recorder.live_files import LiveFiles, StartConditions
+from crashfs_tools.recorder.live_files import files_at_start, StartConditions
 from crashfs_tools.recorder.recording import Recording, TraceSettings
 from crashfs_tools.recorder.strace_log import read_log
 from crashfs_tools.recorder.translate import Translator
@@ -26,7 +26,7 @@ LARGE = 'ab' * 40_000
 def new_files():
     header = Header('u', 'u', 0o755)
     recording = Recording(header, TraceSettings())
-    return LiveFiles(
+    return files_at_start(
         recording, StartConditions('/d', 0o022, 'u', 'u'), Scan(header), lambda path: False
     )
 

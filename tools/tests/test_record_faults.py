@@ -185,7 +185,8 @@ class Copies(InFolder):
         child = subprocess.Popen(['sleep', str(PATIENCE)])
         self.addCleanup(child.wait)
         self.addCleanup(child.kill)
-        stream = LogStream(self.folder, None, mapped)
+        stream = LogStream(self.folder, mapped)
+        stream.create_files(None)
         stream.start()
         with open(stream.pipe, 'w', encoding='ascii') as pipe:
             child.send_signal(signal.SIGSTOP)
@@ -262,7 +263,8 @@ class Descriptors(InFolder):
                 os.fstat(end)
 
     def test_a_pipe_that_can_not_be_opened_is_raised_before_the_log_is_awaited(self):
-        stream = LogStream(self.folder, None, None)
+        stream = LogStream(self.folder, None)
+        stream.create_files(None)
         fault = OSError(errno.EMFILE, 'Too many open files')
         with mock.patch('os.open', side_effect=fault):
             with self.assertRaisesRegex(OSError, 'Too many open files'):
@@ -270,7 +272,8 @@ class Descriptors(InFolder):
 
     def test_a_log_is_read_whole_however_late_it_begins(self):
         for seconds in (0, 0.2):
-            stream = LogStream(tempfile.mkdtemp(dir=self.folder), None, None)
+            stream = LogStream(tempfile.mkdtemp(dir=self.folder), None)
+            stream.create_files(None)
             stream.start()
             time.sleep(seconds)
             with open(stream.pipe, 'w', encoding='ascii') as pipe:
@@ -279,7 +282,8 @@ class Descriptors(InFolder):
             self.assertEqual(stream.finish().ended_threads, [7])
 
     def test_a_log_that_nobody_began_is_empty(self):
-        stream = LogStream(self.folder, None, None)
+        stream = LogStream(self.folder, None)
+        stream.create_files(None)
         stream.start()
         self.assertEqual(stream.finish().calls, [])
 

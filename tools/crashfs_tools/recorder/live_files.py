@@ -74,23 +74,23 @@ class LiveFiles:
     argument raises LogError if this argument isn't as strace writes it."""
 
     def __init__(
-        self, recording: Recording, conditions: StartConditions, scan: Scan, is_ignored: IsIgnored
+        self,
+        recording: Recording,
+        conditions: StartConditions,
+        is_ignored: IsIgnored,
+        tree: LiveTree,
     ) -> None:
-        """Adds the scan to the live tree and to the recording's start tree, which must be empty,
-        and reports what the start tree leaves out."""
+        """The files in a live tree; no process is known yet."""
         self.recording = recording
         self.conditions = conditions
         self.is_ignored = is_ignored
-        root = Node.directory(scan.header.mode)
-        root.traced_paths = {'/'}
-        self.tree = LiveTree(root)
+        self.tree = tree
         self.resolver = Resolver(conditions.top, self.read_link, conditions.read_outside)
         self.processes: Dict[int, Process] = {}
         # The files of O_TMPFILE, until nothing refers to them.
         self.temporary_files: WeakSet[Node] = WeakSet()
         self.late_syncs: List[LateSync] = []
         self.has_copies = False
-        add_start_tree(recording, self.tree, scan)
 
     def first_process(self) -> Process:
         """COMMAND's first process as it starts: in the directory, with the umask of the start
@@ -381,3 +381,15 @@ class LiveFiles:
             late_sync = self.late_syncs.pop(0)
             self.recording.current_call = late_sync.call
             self.sync_range(late_sync.node, late_sync.offset, late_sync.length)
+
+
+def files_at_start(
+    recording: Recording, conditions: StartConditions, scan: Scan, is_ignored: IsIgnored
+) -> LiveFiles:
+    """The files at the start of a session, from a scan. Adds the scan to the recording's start tree
+    too, which must be empty, and reports what that leaves out."""
+    root = Node.directory(scan.header.mode)
+    root.traced_paths = {'/'}
+    files = LiveFiles(recording, conditions, is_ignored, LiveTree(root))
+    add_start_tree(recording, files.tree, scan)
+    return files

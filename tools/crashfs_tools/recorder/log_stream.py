@@ -51,16 +51,13 @@ class LogStream:
     def __init__(
         self,
         folder: str,
-        keep_path: Optional[str],
         mapped_files: Optional[MappedFiles],
         line_filter: Optional[LogFilter] = None,
     ) -> None:
-        """Makes the pipe in the folder, and the file that keeps the log (None: no file). OSError if
-        one of them can't be made; then the pipe may be left. mapped_files is None without --mapped;
-        without a filter all lines are in the log. Nothing is read before start()."""
+        """The pipe will be in the folder: create_files() makes it. mapped_files is None without
+        --mapped; without a filter all lines are in the log."""
         self.pipe = os.path.join(folder, 'log')
-        os.mkfifo(self.pipe)
-        self.kept_log = None if keep_path is None else create_log(keep_path)
+        self.kept_log: Optional[TextIO] = None
         self.mapped_files = mapped_files
         self.reader = LogReader(line_filter)
         self.line_number = 0
@@ -69,6 +66,12 @@ class LogStream:
         self.keep_fault: Optional[OSError] = None
         self.log_error: Union[LogError, OSError, None] = None
         self.thread: Optional[threading.Thread] = None
+
+    def create_files(self, keep_path: Optional[str]) -> None:
+        """Makes the pipe, and the file that keeps the log, unless its path is None. OSError if one
+        of them can't be made; then the pipe may be left."""
+        os.mkfifo(self.pipe)
+        self.kept_log = None if keep_path is None else create_log(keep_path)
 
     def start(self) -> None:
         """Opens the pipe, and starts the thread that reads it, which finish() ends. OSError if the

@@ -22,7 +22,7 @@ from .begin_after import LateStart
 from .arguments import LogError
 from .directory import NEWEST, Scan, group_name, scan_directory, user_name
 from .log_filter import LogFilter
-from .live_files import LiveFiles, StartConditions, no_target
+from .live_files import LiveFiles, StartConditions, files_at_start, no_target
 from .log_stream import LogStream
 from .mapped_files import FileCopies, MappedFiles
 from .options import NAME, RecordOptions, prepare_options, read_options
@@ -66,7 +66,8 @@ def run_under_strace(options: RecordOptions, guard: Guard) -> RecordedRun:
     mapped_files = MappedFiles(options.directory, options.is_ignored) if options.mapped else None
     # All calls decide where copies of mapped files belong, also those on other files.
     line_filter = None if options.mapped else make_line_filter(options, options.directory)
-    stream = LogStream(guard.directory, options.keep_log, mapped_files, line_filter)
+    stream = LogStream(guard.directory, mapped_files, line_filter)
+    stream.create_files(options.keep_log)
     command = strace_run.strace_command(strace, stream.pipe, options)
     traced_run = strace_run.StraceRun(command, options, stream, guard)
     try:
@@ -149,7 +150,7 @@ def record(options: RecordOptions) -> int:
     Crashfs.find(options.crashfs)
     start_scan = scan_directory(options.directory, options.is_ignored, options.version or NEWEST)
     recording = Recording(start_scan.header, trace_settings(options))
-    files = LiveFiles(recording, start_conditions(options), start_scan, options.is_ignored)
+    files = files_at_start(recording, start_conditions(options), start_scan, options.is_ignored)
     run = run_or_load_log(options, files)
     translate_run(options, files, run)
     write_trace(options, recording)

@@ -157,7 +157,7 @@ class Recording:
         return self.trace.version >= NEWEST or self.settings.version is None
 
     def use_newest_version(self, reason: str) -> bool:
-        """Gives the trace and its tree the newest version, and sets its reason, unless they have it
+        """Gives the trace and its tree the newest version, for this reason, unless they have it
         already, or --trace-version names an older one. Returns whether they have it now."""
         if self.trace.version < NEWEST and self.may_have_newest_version:
             self.set_version(NEWEST, reason)

@@ -116,24 +116,25 @@ def acknowledgement_faults(recording: Recording) -> List[str]:
     acknowledging = [stream for stream in streams if stream.is_acknowledged and stream.text_count]
     line_count = sum(stream.text_count for stream in acknowledging)
     write_count = sum(stream.write_count for stream in acknowledging)
-    error_count = sum(
-        stream.text_count
-        for stream in streams
-        if stream.name == ERRORS and not stream.is_acknowledged
-    )
     if line_count == 0:
-        where = f', and {count_text(error_count, "line")} on standard error' if error_count else ''
-        hint = ' (--say-fd 2 takes these)' if error_count else ''
-        return [
-            f'no line was acknowledged{where}: no loss can be seen{hint}; --no-say if that is '
-            'intended'
-        ]
+        return [no_acknowledgement_text(streams)]
     if line_count > 1 and write_count == 1:
         return [
             f'all {line_count:,} acknowledged lines came in one write: is standard output flushed '
             'after each? (--no-say if that is intended)'
         ]
     return [line for stream in acknowledging for line in held_line_faults(stream)]
+
+
+def no_acknowledgement_text(streams: List[OutputStream]) -> str:
+    """A line that says that no line was acknowledged, and how many lines standard error has, if it
+    is among these streams and has some."""
+    error_count = sum(stream.text_count for stream in streams if stream.name == ERRORS)
+    where = f', and {count_text(error_count, "line")} on standard error' if error_count else ''
+    hint = ' (--say-fd 2 takes these)' if error_count else ''
+    return (
+        f'no line was acknowledged{where}: no loss can be seen{hint}; --no-say if that is intended'
+    )
 
 
 def held_line_faults(stream: OutputStream) -> List[str]:
