@@ -13,9 +13,9 @@ def library_folder(copy: Path, name: str) -> Path:
 
 
 def read_stamp(library: Path) -> bytes:
-    """The stamp of a library's folder: a checksum of all texts that the library was made from,
-    which `rt` writes once the library is whole. Empty if there is no library, or only a part of
-    one; OSError if the stamp can't be read."""
+    """The stamp of a library's folder, which `rt` writes once the library is whole: a checksum of
+    all texts that the library was made from, also of the crates below, and of the toolchain. Empty
+    if there is no library, or only a part of one; OSError if the stamp can't be read."""
     stamp = library / 'stamp'
     return stamp.read_bytes() if stamp.is_file() else b''
 

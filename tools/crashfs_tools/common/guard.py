@@ -234,9 +234,10 @@ def has_token(process: int, token: bytes) -> bool:
 
 
 def end_processes_with_token(token: str) -> None:
-    """Kills all processes with a token, again and again until none is found, since one may have
-    just forked. It doesn't wait for their ends. After ENDING_SECONDS it returns, even if some are
-    left. A cleaner has CLEANING_SECONDS to end by itself. OSError without /proc."""
+    """Kills all processes with a token, again and again until none of them runs, since one may have
+    just forked. Children of this process among them aren't waited for. After ENDING_SECONDS it
+    returns, even if some still run. A cleaner has CLEANING_SECONDS to end by itself. OSError
+    without /proc."""
     start_time = time.monotonic()
     while time.monotonic() < start_time + descendants.ENDING_SECONDS:
         processes = processes_with_token(token)

@@ -187,9 +187,9 @@ class Say:
 
     @staticmethod
     def from_line(line: bytes) -> Say:
-        """The Say of a line, or of a piece of one, that a program printed. It has at most the first
-        SAY_BYTES bytes, without a character that this would cut. Bytes that aren't UTF-8 become
-        replacement characters; line feeds stay."""
+        """The Say of a line, or of a piece of one, that a program printed. Bytes that aren't UTF-8
+        become replacement characters; then the text is cut to SAY_BYTES bytes, without a character
+        that this would split. Line feeds stay."""
         text = line.decode('utf-8', 'replace').encode()[: limits.SAY_BYTES]
         return Say(text.decode('utf-8', 'ignore'))
 

@@ -21,7 +21,7 @@ from crashfs_tools.common.trace import (
 FIRST_UNKNOWN = 200_000
 
 
-class Numbers:
+class AccountNumbers:
     """The numbers of users, or of groups. A name keeps the first number that it is given."""
 
     def __init__(self, *, is_for_groups: bool) -> None:
@@ -59,8 +59,8 @@ class Owners:
 
     def __init__(self, trace: Trace) -> None:
         """Gives each name of the trace its number, for which the system's accounts are read."""
-        self.users = Numbers(is_for_groups=False)
-        self.groups = Numbers(is_for_groups=True)
+        self.users = AccountNumbers(is_for_groups=False)
+        self.groups = AccountNumbers(is_for_groups=True)
         for line in (trace.header, *trace.start, *trace.operations):
             if isinstance(line, (Header, Start, StartSymlink, Creat, Mkdir, Symlink, Chown)):
                 self.users.number(line.owner)
