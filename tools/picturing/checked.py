@@ -34,7 +34,7 @@ def check_example(trace: str, command: Sequence[str]) -> CheckedExample:
     options = read_options(words)
     program = Crashfs.find_or_second_reading(None, is_unproved=True)
     with Guard('crashfs-picture') as guard:
-        checked_trace = CheckedTrace(options, program, guard)
+        checked_trace = CheckedTrace.read(options, program, guard)
         check = Check(checked_trace)
         report, _, exception = check.run()
         if exception is not None:

@@ -73,7 +73,7 @@ def plan_windows() -> List[Window]:
         trace = Path(folder, 'session.trace')
         trace.write_text(session_text(), 'utf-8')
         options = Options(str(trace), quick=True, window=LARGEST)
-        checked = CheckedTrace(
+        checked = CheckedTrace.read(
             options, Crashfs.find_or_second_reading(None, is_unproved=True), guard
         )
         return [window_of(planned) for planned in checked.all_planned()]

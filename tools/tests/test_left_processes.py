@@ -268,7 +268,7 @@ class Unkillable(InStore, InRuns):
         options = Options(self.good, ['/bin/sh', '-c', script], prefixes=True, timeout=1, jobs=1)
         with Guard('crashfs-check', may_reap=False) as guard:
             program = Crashfs.second_reading()
-            trace = CheckedTrace(options, program, guard, Progress(io.StringIO()))
+            trace = CheckedTrace.read(options, program, guard, Progress(io.StringIO()))
             (planned,) = trace.all_planned()
             trials = Trials(trace.workplace, planned)
             with mock.patch.object(StateWorkers, 'run', run_and_stop):

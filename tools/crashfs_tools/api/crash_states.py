@@ -86,7 +86,7 @@ def states(
     refuse_unreadable(os.fspath(trace))
     program = Crashfs.find_or_second_reading(options.crashfs, is_unproved=unproved)
     with Guard(NAME, may_reap=False) as guard:
-        checked_trace = CheckedTrace(options, program, guard)
+        checked_trace = CheckedTrace.read(options, program, guard)
         last_plan: Optional[Plan] = None
         for planned in checked_trace.all_planned():
             numbers_before = known_states(last_plan, planned.plan) if last_plan else {}

@@ -7,7 +7,7 @@ import os
 import stat
 from contextlib import contextmanager
 from functools import cached_property
-from typing import TYPE_CHECKING, Iterator, Optional
+from typing import TYPE_CHECKING, Iterator, NamedTuple, Optional
 
 from crashfs_tools.checker.running.progress import Progress
 from crashfs_tools.checker.running.results import Head
@@ -30,44 +30,64 @@ if TYPE_CHECKING:
 NUMBER_OF_END = 2**31 - 1
 
 
+class TraceFile(NamedTuple):
+    """A trace that was read: the absolute path of a file that has it, its text, and the mode of
+    files which show parts of it."""
+
+    path: str
+    text: str
+    mode: int
+
+
+def read_trace_file(path: str, guard: Guard) -> TraceFile:
+    """Reads a whole trace, but doesn't check its lines. A trace from a pipe is copied to a file in
+    the guard's directory, since the program reads the trace several times. OSError if the trace
+    can't be read or copied."""
+    with open(path, **TEXT) as file:
+        text = file.read()
+        status = os.fstat(file.fileno())
+    mode = mode_of_report(status)
+    if stat.S_ISREG(status.st_mode):
+        return TraceFile(os.path.abspath(path), text, mode)
+    copy_path = os.path.join(guard.directory, 'trace')
+    with open(copy_path, 'w', **TEXT) as file:
+        file.write(text)
+    return TraceFile(copy_path, text, mode)
+
+
 class CheckedTrace:
-    """A trace that is checked by one program. mode is that of files which show parts of the trace.
+    """A trace that is checked by one program. path, text and mode are those of its TraceFile.
     windows is None until all_planned() finds that the trace needs windows; for a trace that is
     tried whole it stays None."""
 
     def __init__(
         self,
         options: Options,
+        trace_file: TraceFile,
         program: Crashfs,
         guard: Guard,
         progress: Optional[Progress] = None,
     ) -> None:
-        """Reads the whole trace, which the options must name, but doesn't check its lines. A trace
-        from a pipe is copied below the guard's directory. OSError if the trace can't be read or
-        copied. If the program takes no traces of this version, the second reading takes its place.
-        Without `progress` a new one is shown on standard error."""
-        assert options.trace is not None
+        """The program must take traces of this version. Without `progress` a new one is shown on
+        standard error."""
         self.options, self.guard = options, guard
+        self.path, self.text, self.mode = trace_file
+        self.program = program
+        self.planner = Planner(options, program, guard)
         self.progress = progress or Progress()
-        self.path = os.path.abspath(options.trace)
-        with open(self.path, **TEXT) as file:
-            self.text = file.read()
-            status = os.fstat(file.fileno())
-        self.mode = mode_of_report(status)
-        if not stat.S_ISREG(status.st_mode):
-            self.path = self.copy_to_file()
-        self.program = program.program_for_version(trace_version(self.text))
-        self.planner = Planner(options, self.program, guard)
         self.windows: Optional[Windows] = None
 
-    def copy_to_file(self) -> str:
-        """Writes the trace to a file in the guard's directory, and returns the file's path. A trace
-        from a pipe needs it, since the program reads the trace several times. OSError if the file
-        can't be written."""
-        path = os.path.join(self.guard.directory, 'trace')
-        with open(path, 'w', **TEXT) as file:
-            file.write(self.text)
-        return path
+    @staticmethod
+    def read(
+        options: Options, program: Crashfs, guard: Guard, progress: Optional[Progress] = None
+    ) -> CheckedTrace:
+        """Reads the trace that the options must name, and asks the program whether it takes traces
+        of this version: if not, the second reading takes its place. Exceptions as in
+        read_trace_file() and Crashfs.program_for_version()."""
+        assert options.trace is not None
+        trace_file = read_trace_file(options.trace, guard)
+        program = program.program_for_version(trace_version(trace_file.text))
+        return CheckedTrace(options, trace_file, program, guard, progress)
 
     def all_planned(self) -> Iterator[PlannedTrace]:
         """Yields the plan of the trace or, if --window is given or the trace is too long for one

@@ -359,7 +359,7 @@ def open_trace(options: Options, guard: Guard, progress: Progress) -> Iterator[C
     """Yields the trace that some options name, ready for a check. Changes their `command`: its
     program gets its absolute path, or it becomes the name of the function. Refused if the trace,
     the program, COMMAND or a file system of --disks can't be used, and in the place of a
-    ProgramFault that is raised within the `with`. OSError as CheckedTrace()."""
+    ProgramFault that is raised within the `with`. OSError as CheckedTrace.read()."""
     refuse_unreadable(options.trace or '')
     if options.disks is not None:
         from crashfs_tools.disks.filesystems import require_filesystems
@@ -370,7 +370,7 @@ def open_trace(options: Options, guard: Guard, progress: Progress) -> Iterator[C
         options.command = with_program_path(options.command)
     else:
         options.command = FunctionRecovery(options.function).words
-    trace = CheckedTrace(options, program, guard, progress)
+    trace = CheckedTrace.read(options, program, guard, progress)
     with trace.refused_faults():
         yield trace
 

@@ -36,7 +36,7 @@ def merged_report(options: Options) -> CheckReport:
         return report_of_results(options, results)
     program = Crashfs.find_or_second_reading(options.crashfs, is_unproved=options.unproved)
     with Guard(NAME) as guard:
-        trace = CheckedTrace(options, program, guard)
+        trace = CheckedTrace.read(options, program, guard)
         if trace.digest() != results.head.digest:
             raise Refused(f'{options.trace}: {OTHER_TRACE}')
         with trace.refused_faults():
