@@ -28,7 +28,7 @@ class ModuleResult:
     output: str = ''
 
 
-def result_of(name: str, tests: unittest.TestResult) -> ModuleResult:
+def result_of_tests(name: str, tests: unittest.TestResult) -> ModuleResult:
     """The result, without the output, of a module whose tests ran. An unexpected success counts as
     failed."""
     failed = len(tests.failures) + len(tests.errors) + len(tests.unexpectedSuccesses)
@@ -40,7 +40,7 @@ def run_here(name: str, result_path: Path) -> int:
     Returns 0, also if a test fails or the module can't be imported. OSError if the file can't be
     written. The folder tools/ must be on Python's path."""
     tests = unittest.defaultTestLoader.loadTestsFromName(name)
-    result = result_of(name, unittest.TextTestRunner().run(tests))
+    result = result_of_tests(name, unittest.TextTestRunner().run(tests))
     result_path.write_text(json.dumps(asdict(result)), encoding='utf-8')
     return 0
 

@@ -170,7 +170,7 @@ class Guard:
         The answer is a JSON array, as start_watcher() reads it: the path, or null and the arguments
         of the OSError. `directory` stays empty if it can't be made."""
         try:
-            self.directory = make_directory(f'{self.program}-', self.folder)
+            self.directory = make_temporary_directory(f'{self.program}-', self.folder)
             answer = json.dumps([self.directory])
         except OSError as error:
             answer = json.dumps([None, error.errno, error.strerror, error.filename])
@@ -191,7 +191,7 @@ class Guard:
             remove_tree(self.directory)
 
 
-def make_directory(prefix: str, folder: Optional[str]) -> str:
+def make_temporary_directory(prefix: str, folder: Optional[str]) -> str:
     """Makes a directory whose name begins with a prefix, in a folder or, if that is None, in the
     system's one for temporary files. Returns its path, without links. An OSError names the
     place."""

@@ -77,7 +77,7 @@ def read_lines(lines: Iterable[str]) -> Iterator[Tuple[int, Trace]]:
     for number, fields in parse_lines(lines):
         try:
             if trace is None:
-                trace = read_header(fields)
+                trace = read_trace_header(fields)
             else:
                 read_line(trace, fields)
         except (ValueError, KeyError, TypeError, AttributeError) as error:
@@ -87,7 +87,7 @@ def read_lines(lines: Iterable[str]) -> Iterator[Tuple[int, Trace]]:
         raise TraceError('it has no header')
 
 
-def read_header(fields: Dict[str, Any]) -> Trace:
+def read_trace_header(fields: Dict[str, Any]) -> Trace:
     """A trace that has only this header. ValueError, KeyError or TypeError if its version is
     unknown, or its fields aren't those of its version."""
     version = fields['trace']
@@ -117,7 +117,7 @@ def read_line(trace: Trace, fields: Dict[str, Any]) -> None:
     line_class = class_of_line(fields)
     if not trace.has_kind(line_class):
         raise ValueError(f'{fields} in a trace of version {trace.version}')
-    item: Any = line_class(**read_values(fields, line_class, trace.version))
+    item: Any = line_class(**read_line_values(fields, line_class, trace.version))
     if 'start' in fields:
         trace.start.append(item)
         return
@@ -135,16 +135,16 @@ def class_of_line(fields: Dict[str, Any]) -> Type[Any]:
     return KINDS[fields['op']]
 
 
-def read_values(fields: Dict[str, Any], line_class: Type[Any], version: int) -> Dict[str, Any]:
+def read_line_values(fields: Dict[str, Any], line_class: Type[Any], version: int) -> Dict[str, Any]:
     """The values of a line's fields by the attributes of its class. ValueError, KeyError or
     TypeError if one is missing or can't be read."""
     return {
-        attribute.name: read_value(attribute.name, fields, version)
+        attribute.name: read_line_value(attribute.name, fields, version)
         for attribute in dataclasses.fields(line_class)
     }
 
 
-def read_value(attribute: str, fields: Dict[str, Any], version: int) -> Any:
+def read_line_value(attribute: str, fields: Dict[str, Any], version: int) -> Any:
     """The value of an attribute of a line; None for the bytes of a directory. KeyError if the line
     has no such field; ValueError or TypeError if bytes, parts or a mode can't be read. Parts may be
     in any order, and end past the length. Other values are kept as they are, of any type."""
@@ -152,14 +152,14 @@ def read_value(attribute: str, fields: Dict[str, Any], version: int) -> Any:
         if fields.get('start') == 'dir':
             return None
         if version >= 4 and 'parts' in fields:
-            parts = [(int(part['at']), read_bytes(part, version)) for part in fields['parts']]
+            parts = [(int(part['at']), read_line_bytes(part, version)) for part in fields['parts']]
             return SparseBytes(int(fields['length']), parts)
-        return read_bytes(fields, version)
+        return read_line_bytes(fields, version)
     value = fields[KEYS.get(attribute, attribute)]
     return int(value, 8) if attribute == 'mode' else value
 
 
-def read_bytes(fields: Dict[str, Any], version: int) -> bytes:
+def read_line_bytes(fields: Dict[str, Any], version: int) -> bytes:
     """The bytes of a line or a part: `bytes`, in hexadecimal digits, or, since version 3 and if
     that is missing, `text`. KeyError if both are missing, TypeError if `bytes` isn't a text,
     ValueError for other digits. Blanks between bytes aren't noticed."""

@@ -43,17 +43,17 @@ def mounted_image(filesystem: FileSystem, image: str, mount_point: str) -> Itera
     """Within this an image is mounted at a directory, which is made if it isn't there, and stays.
     Yields the directory's path. After the unmount the loop device is free again. Refused if no
     device is free, or if the image can't be mounted. OSError if the directory can't be made or the
-    image can't be opened, and at the end as unmount()."""
+    image can't be opened, and at the end as unmount_directory()."""
     os.makedirs(mount_point, exist_ok=True)
     with attached_loop_device(image) as device:
-        mount(filesystem, device, mount_point)
+        mount_device(filesystem, device, mount_point)
     try:
         yield mount_point
     finally:
-        unmount(mount_point)
+        unmount_directory(mount_point)
 
 
-def mount(filesystem: FileSystem, device: str, mount_point: str) -> None:
+def mount_device(filesystem: FileSystem, device: str, mount_point: str) -> None:
     """Mounts a device with the file system's options. Refused if it can't be mounted. It makes the
     system call itself, since the program `mount` takes four times as long."""
     words = [
@@ -64,7 +64,7 @@ def mount(filesystem: FileSystem, device: str, mount_point: str) -> None:
         raise Refused(f'--disks: an image of {filesystem.name} can not be mounted: {reason}')
 
 
-def unmount(mount_point: str) -> None:
+def unmount_directory(mount_point: str) -> None:
     """Unmounts what is mounted at a directory. While it is in use, this tries up to UMOUNT_TRIES
     times, and waits for UMOUNT_SECONDS after each: the kernel may use it for a moment longer.
     OSError if it is in use even then, or if nothing is mounted there."""

@@ -67,7 +67,7 @@ def make_files_and_directories(trace: Trace, top: str) -> None:
         if isinstance(line, StartLink):
             os.link(top + line.source, top + line.path)
         elif isinstance(line, Start):
-            make_entry(top + line.path, line.data)
+            make_start_entry(top + line.path, line.data)
 
 
 def set_start_rights(trace: Trace, top: str, owners: Owners) -> None:
@@ -81,7 +81,7 @@ def set_start_rights(trace: Trace, top: str, owners: Owners) -> None:
         os.chmod(path, entry.mode)
 
 
-def make_entry(path: str, data: Union[bytes, SparseBytes, None]) -> None:
+def make_start_entry(path: str, data: Union[bytes, SparseBytes, None]) -> None:
     """Makes a file with these bytes, or a directory if `data` is None. The pages of zeros of
     SparseBytes become holes. Owner and mode are the caller's task. FileExistsError if something is
     there."""
@@ -99,10 +99,10 @@ def make_symlink(path: str, line: Union[Symlink, StartSymlink], owners: Owners) 
     """Makes a symbolic link, with the owner and group of its line. FileExistsError if something is
     there."""
     os.symlink(line.link, path)
-    set_owner(path, line, owners)
+    set_owner_if_other(path, line, owners)
 
 
-def set_owner(path: str, line: NewEntry, owners: Owners) -> None:
+def set_owner_if_other(path: str, line: NewEntry, owners: Owners) -> None:
     """Sets the owner and group of what a line of the trace made at a path, also of a symbolic link
     itself; but only if they differ, as the session made no such call otherwise. OSError if that
     fails."""
@@ -183,7 +183,7 @@ class Replay:
         """Sets the owner, group and mode of what an operation made, but only those that differ:
         otherwise the session made no such call."""
         path = self.disk_path(operation.path)
-        set_owner(path, operation, self.owners)
+        set_owner_if_other(path, operation, self.owners)
         if os.lstat(path).st_mode & 0o777 != operation.mode:
             os.chmod(path, operation.mode)
 
