@@ -26,7 +26,7 @@ class ForkedReading:
         """Starts the command, with standard input empty. OSError if the system can't fork, or has
         no more pipes: then no pipe stays open. The other open files of this process are open in the
         fork too."""
-        # Imported before the fork, so that later ones have it too.
+        # Imported before the fork, so that no fork has to do it; main() imports `archive` late.
         from crashfs_tools.reading import archive, main
 
         self.main = main.main
@@ -40,7 +40,7 @@ class ForkedReading:
                 for stop in STOPS:
                     signal.signal(stop, signal.SIG_DFL)
                 signal.pthread_sigmask(signal.SIG_SETMASK, blocked_before)
-                # Then it can't write any more, and ends, once nobody else can read.
+                # Its writes fail once nobody reads its outputs: it mustn't be a reader itself.
                 os.close(out_reader)
                 os.close(err_reader)
                 self.run_and_exit(words, out_writer, err_writer)
