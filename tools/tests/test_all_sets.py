@@ -3,12 +3,13 @@
 from __future__ import annotations
 
 import unittest
+from pathlib import Path
 from typing import Any, List, Sequence
 from unittest import mock
 
 from crashfs_tools.checker.states import all_sets as choices
 from crashfs_tools.checker.states.all_sets import AllSets, ReadingSets, all_sets
-from crashfs_tools.common.program import ProgramFault
+from crashfs_tools.common.program import Crashfs, ProgramFault
 
 from .support import InFolder
 from .test_every import H1, HEADERS, RIGHTS, creat, say
@@ -53,6 +54,18 @@ class Choices(InFolder):
         for refusal in ('more than 9 sets', 'too many sets to compare', 'too many sets to count'):
             with self.subTest(refusal):
                 self.assertIsNone(self.sets(Program(refusal=refusal), TRACE).different_sets(9))
+
+    def test_started_commands_run_at_once_and_are_killed_unless_they_are_read(self) -> None:
+        log = self.path('log')
+        script = f'#!/bin/sh\necho $$ >> {log}\n[ "$5" = --count ] && exec sleep 99\necho "[0]"\n'
+        sets = self.sets(Crashfs(self.write('crashfs', script, 0o755)), TRACE)
+        with sets.started(9):
+            self.assertEqual(sets.different_sets(9), [0b1])
+            self.wait_until(lambda: len(self.read('log').split()) >= 2, 'two starts')
+        processes = self.read('log').split()
+        self.assertEqual(len(processes), 2)
+        self.assertEqual([Path('/proc', one).exists() for one in processes], [False, False])
+        self.assertEqual(sets.different_sets(9), [0b1])
 
     def test_any_other_refusal_is_a_fault(self) -> None:
         with self.assertRaises(ProgramFault):

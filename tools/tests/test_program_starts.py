@@ -45,16 +45,15 @@ class Starts(Listing):
     def test_a_check_with_advice_starts_the_program_four_times(self) -> None:
         for program in programs():
             with self.subTest(program):
-                starts = self.starts(program, CONFIG, '--', RECOVERY)
+                starts = [
+                    f"{line.split(' ')[0]} {' '.join(line.split(' ')[3:5])}"
+                    for line in self.starts(program, CONFIG, '--', RECOVERY)
+                ]
+                # These run at the same time.
                 self.assertEqual(
-                    [f"{line.split(' ')[0]} {' '.join(line.split(' ')[3:5])}" for line in starts],
-                    [
-                        'picks --every --different',
-                        'list --holes --picks',
-                        'picks --every --count',
-                        'tar --holes --states',
-                    ],
+                    set(starts[:2]), {'picks --every --different', 'picks --every --count'}
                 )
+                self.assertEqual(starts[2:], ['list --holes --picks', 'tar --holes --states'])
 
     def test_families_take_two_starts(self) -> None:
         starts = self.starts(programs()[0], '--families', CONFIG, '--', RECOVERY)
@@ -66,7 +65,7 @@ class Starts(Listing):
         command = self.write('command', FAILS_IN_99, 0o755)
         starts = self.starts(programs()[0], SQLITE, '--', command)
         names = [line.split(' ')[0] for line in starts]
-        self.assertEqual(names, ['picks', 'list', 'picks', *4 * ['tar']])
+        self.assertEqual(names, ['picks', 'picks', 'list', *4 * ['tar']])
         options = [line.split(' ')[3:] for line in (starts[3], starts[-1])]
         self.assertEqual(options, [['--holes', '--states', states] for states in ('0,87', '4,99')])
 

@@ -175,11 +175,7 @@ class Crashfs:
         """What a command prints on standard output; what it prints as an error is dropped.
         ProgramFault if its status isn't 0; other errors as start() raises them. An `environment` of
         None means that of this process, which the second reading always has."""
-        child = self.start(words, environment)
-        output, error_text = child.communicate()
-        if child.returncode != 0:
-            raise ProgramFault(child.returncode, error_text)
-        return output.decode('utf-8', 'surrogateescape')
+        return output_of_started(self.start(words, environment))
 
     def start(self, words: List[str], environment: Optional[Dict[str, str]]) -> RunningProgram:
         """Starts a command, with pipes as its two outputs and no input. The caller must read both
@@ -326,6 +322,15 @@ class ProgramOutput(io.RawIOBase):
         while self.read_errors():
             pass
         return self.error_text
+
+
+def output_of_started(child: RunningProgram) -> str:
+    """Reads what a started command prints on standard output, up to its end, and waits for it;
+    what it prints as an error is dropped. ProgramFault if its status isn't 0."""
+    output, error_text = child.communicate()
+    if child.returncode != 0:
+        raise ProgramFault(child.returncode, error_text)
+    return output.decode('utf-8', 'surrogateescape')
 
 
 def end_program(child: RunningProgram) -> None:

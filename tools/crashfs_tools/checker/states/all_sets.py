@@ -4,11 +4,28 @@ reading if the program doesn't list them. Sets are numbers whose bits are the pl
 from __future__ import annotations
 
 import json
+from contextlib import contextmanager, nullcontext
 from functools import cached_property
 from itertools import islice
-from typing import TYPE_CHECKING, Dict, Iterable, List, Optional, Protocol, Tuple
+from typing import (
+    TYPE_CHECKING,
+    ContextManager,
+    Dict,
+    Iterable,
+    Iterator,
+    List,
+    Optional,
+    Protocol,
+    Tuple,
+)
 
-from crashfs_tools.common.program import Crashfs, ProgramFault
+from crashfs_tools.common.program import (
+    Crashfs,
+    ProgramFault,
+    RunningProgram,
+    end_program,
+    output_of_started,
+)
 
 from .place_sets import set_of
 from .plan import Needs, PlanError
@@ -22,6 +39,8 @@ if TYPE_CHECKING:
 TOO_MANY = ('more than ', 'too many sets')
 # Since this version a set that lacks an acknowledged line has nothing that follows it.
 ACKNOWLEDGED_FIRST = 3
+# The options by which `picks` prints how many sets the rules allow.
+COUNT_OPTIONS = ['--every', '--count']
 # The program makes the tree of each state whole. If the start has more bytes, that is slow.
 START_BYTES = 1 << 20
 
@@ -34,6 +53,10 @@ class AllSets(Protocol):
     def are_read(self) -> bool:
         """Whether the second reading found the sets, or some of them. This is known after
         different_sets() and, if sets are drawn, drawn_sets()."""
+
+    def started(self, most: int) -> ContextManager[None]:
+        """Within this different_sets(most) and count_sets() are computed at the same time as what
+        the caller does, if another process computes them."""
 
     def count_sets(self) -> Optional[int]:
         """How many sets the rules allow; None if these are too many to count. Call it after
@@ -80,6 +103,22 @@ class ProgramSets:
         self.environment = environment
         self.reading_sets = reading_sets
         self.are_read = False
+        # Commands that run and whose output isn't read yet, by their options.
+        self.running: Dict[Tuple[str, ...], RunningProgram] = {}
+
+    @contextmanager
+    def started(self, most: int) -> Iterator[None]:
+        """Starts the commands of different_sets(most) and count_sets(), which these only read
+        within the `with`. At the end of it those that weren't read are killed. Errors as in
+        Crashfs.start()."""
+        try:
+            for options in (different_options(most), COUNT_OPTIONS):
+                words = self.command_words(options)
+                self.running[tuple(options)] = self.program.start(words, self.environment)
+            yield
+        finally:
+            while self.running:
+                end_program(self.running.popitem()[1])
 
     def count_sets(self) -> Optional[int]:
         """How many sets the rules allow: by the second reading if that has found sets already, else
@@ -87,7 +126,7 @@ class ProgramSets:
         ProgramFault also if the program doesn't know the option."""
         if self.are_read:
             return self.reading_sets.count_sets()
-        lines = self.printed_lines(['--every', '--count'])
+        lines = self.printed_lines(COUNT_OPTIONS)
         return int(lines[0]) if lines and lines[0].strip().isdigit() else None
 
     def different_sets(self, most: int, profile: str = '') -> Optional[List[int]]:
@@ -96,9 +135,8 @@ class ProgramSets:
         from then on, and a profile that the trace doesn't have is a ReadingFault. Returns None as
         AllSets.different_sets() says."""
         profile_options = ['--profile', profile] if profile else []
-        options = ['--every', '--different', '--most', str(most), *profile_options]
         try:
-            sets = self.printed_sets(options)
+            sets = self.printed_sets([*different_options(most), *profile_options])
             if sets is not None or not profile:
                 return sets
         except ProgramFault as fault:
@@ -124,17 +162,30 @@ class ProgramSets:
         lines = self.printed_lines(options)
         return None if lines is None else [parse_set(line) for line in lines]
 
+    def command_words(self, options: List[str]) -> List[str]:
+        """The words of the command `picks` on the trace, with these options."""
+        return ['picks', '--trace', self.reading_sets.trace, *options]
+
     def printed_lines(self, options: List[str]) -> Optional[List[str]]:
         """The lines that `picks` prints for these options; None if the program reports that the
         sets are too many. ProgramFault for any other fault, also for an option that the program
         doesn't know."""
-        words = ['picks', '--trace', self.reading_sets.trace, *options]
+        child = self.running.pop(tuple(options), None)
         try:
+            if child is not None:
+                return output_of_started(child).splitlines()
+            words = self.command_words(options)
             return self.program.output_of(words, self.environment).splitlines()
         except ProgramFault as fault:
             if any(text in fault.text for text in TOO_MANY):
                 return None
             raise
+
+
+def different_options(most: int) -> List[str]:
+    """The options by which `picks` prints a set for each different state of a trace, if there are
+    at most `most` states."""
+    return ['--every', '--different', '--most', str(most)]
 
 
 def parse_set(line: str) -> int:
@@ -163,6 +214,10 @@ class ReadingSets:
             self.reading = parse_trace(file.read())
         # What order() has returned, by the profile's name.
         self.orders: Dict[str, Order] = {}
+
+    def started(self, _most: int) -> ContextManager[None]:
+        """A context that does nothing: the methods compute what they return."""
+        return nullcontext()
 
     @cached_property
     def trace_order(self) -> Order:
@@ -218,7 +273,8 @@ class ReadingSets:
         if name not in self.orders:
             from crashfs_tools.reading.order import order_under
 
-            order = order_under(self.reading, name)
+            is_own = name == self.reading.profile
+            order = self.trace_order if is_own else order_under(self.reading, name)
             is_old = self.reading.version < ACKNOWLEDGED_FIRST
             self.orders[name] = order.with_earlier_lines(self.reading) if is_old else order
         return self.orders[name]

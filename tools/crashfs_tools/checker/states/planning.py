@@ -52,11 +52,12 @@ class Planner:
         if not (options.has_lost or options.has_files or options.has_every or options.profile):
             return self.plan_picks(trace, offsets, [])
         reading_sets = self.read_trace(trace)
-        family_sets = self.family_sets(reading_sets)
         if options.has_every:
-            planned = self.plan_all_states(trace, offsets, reading_sets, family_sets)
+            all_crash_sets = all_sets(self.program, self.guard.environment, reading_sets)
+            with all_crash_sets.started(options.most_states):
+                planned = self.plan_all_states(trace, offsets, reading_sets, all_crash_sets)
         else:
-            planned = self.plan_picks(trace, offsets, [family_sets])
+            planned = self.plan_picks(trace, offsets, [self.family_sets(reading_sets)])
             if options.profile:
                 planned.plan = self.with_profiles(planned.plan, reading_sets, None)
         if planned.plan.needs.masks != reading_sets.needs.masks:
@@ -113,14 +114,13 @@ class Planner:
             raise Refused(f'{trace}: the second reading refuses it: {fault}') from fault
 
     def plan_all_states(
-        self, trace: str, offsets: Offsets, reading_sets: ReadingSets, family_sets: List[int]
+        self, trace: str, offsets: Offsets, reading_sets: ReadingSets, all_crash_sets: AllSets
     ) -> PlannedTrace:
         """The plan of the families and of all crash states. If these are too many, the plan has
         sets drawn at random in their place, or none if the sets can't even be counted; its
-        all_states says so. family_sets is what the method of this name returned. Errors as in
+        all_states says so. all_crash_sets must be of the same trace as reading_sets. Errors as in
         plan()."""
-        needs = reading_sets.needs
-        all_crash_sets = all_sets(self.program, self.guard.environment, reading_sets)
+        family_sets, needs = self.family_sets(reading_sets), reading_sets.needs
         different_sets = find_sets_of_all_states(
             all_crash_sets, reading_sets, self.options.most_states
         )
