@@ -13,17 +13,15 @@ from .recording import Recording
 
 class LateStart:
     """Begins the trace again after an acknowledged line: the one with a number, from 1, or the
-    first one that a pattern matches. has_begun is False until that line comes. It replaces the
-    recording's on_acknowledged."""
+    first one that a pattern matches. has_begun is False until that line comes. Its count_line()
+    must be the recording's on_acknowledged."""
 
     def __init__(self, recording: Recording, number_or_pattern: str) -> None:
-        """Makes count_line() the recording's on_acknowledged. What parse_number() takes is a
-        number; any other text is a pattern of fnmatch."""
+        """What parse_number() takes is a number; any other text is a pattern of fnmatch."""
         self.recording, self.pattern = recording, number_or_pattern
         self.number = parse_number(number_or_pattern)
         self.line_count = 0
         self.has_begun = False
-        recording.on_acknowledged = self.count_line
 
     def count_line(self, line: Say) -> None:
         """Counts an acknowledged line. If this is the first wanted line, the trace begins again;

@@ -260,13 +260,16 @@ def translate_run(options: RecordOptions, files: LiveFiles, run: RecordedRun) ->
 def translate_calls(options: RecordOptions, files: LiveFiles, run: RecordedRun) -> None:
     """Translates the calls of a run. With --begin-after the trace begins again after the line that
     this option names, or, if that never came, this is reported. LogError as in translate_log()."""
-    begin_after = options.begin_after
-    late_start = None if begin_after is None else LateStart(files.recording, begin_after)
-    Translator(files, run.log, run.file_copies).translate_log()
-    if late_start is not None and not late_start.has_begun:
-        files.recording.report(
-            f'no acknowledged line is {begin_after}: the trace begins with COMMAND', '--begin-after'
-        )
+    translator = Translator(files, run.log, run.file_copies)
+    if options.begin_after is None:
+        translator.translate_log()
+        return
+    late_start = LateStart(files.recording, options.begin_after)
+    files.recording.on_acknowledged = late_start.count_line
+    translator.translate_log()
+    if not late_start.has_begun:
+        what = f'no acknowledged line is {options.begin_after}: the trace begins with COMMAND'
+        files.recording.report(what, '--begin-after')
 
 
 def note_functions(calls: List[Call]) -> None:

@@ -71,8 +71,8 @@ class FileCopy:
         return self.thread == 0
 
     def has_one_writer(self, number: int) -> bool:
-        """Whether only the stopped thread could store to the file with a number. True for the copy
-        at the end, after which no call comes."""
+        """Whether only the stopped thread could store to the file with this number. True for the
+        copy at the end, after which no call comes."""
         return self.is_alone and number not in self.shared_numbers
 
 

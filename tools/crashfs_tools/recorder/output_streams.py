@@ -60,21 +60,26 @@ class OutputStream:
         if self.say_each is SayEach.WRITE:
             texts = [line_of_write(data)]
         else:
-            texts = self.complete_lines(data, change_count)
+            self.count_gap(change_count)
+            texts = self.complete_lines(data)
         self.text_count += len(texts)
         self.write_count += bool(texts)
         return texts
 
-    def complete_lines(self, data: bytes, change_count: int) -> List[bytes]:
-        """The lines that a write completes, each without its line feed and a carriage return before
-        that; what is after the last line feed waits in `pieces`. If files were changed since the
-        newest of the pieces, by change_count, gap_count and most_gaps count that."""
+    def count_gap(self, change_count: int) -> None:
+        """Counts a gap, in gap_count and most_gaps, if there are pieces, and files were changed
+        since the newest of them: the recording has change_count changes now. If there are no
+        pieces, a line without gaps begins."""
         if not self.pieces:
             self.gap_count = 0
         elif change_count != self.last_change_count:
             self.gap_count += 1
             self.most_gaps = max(self.most_gaps, self.gap_count)
         self.last_change_count = change_count
+
+    def complete_lines(self, data: bytes) -> List[bytes]:
+        """The lines that a write completes, each without its line feed and a carriage return before
+        that; what is after the last line feed waits in `pieces`."""
         ended_lines, line_feed, last_piece = data.rpartition(b'\n')
         if not line_feed:
             self.pieces.append(data)

@@ -122,9 +122,9 @@ class Recording:
         directory must be there, and its path free. A symbolic link, or a file above FILE_BYTES,
         gives the trace the newest version. For a symbolic link that the version of --trace-version
         can't have it returns False, and adds nothing."""
-        if isinstance(line, StartSymlink):
-            if not self.use_newest_version(symlink_reason(line.path)):
-                return False
+        is_link = isinstance(line, StartSymlink)
+        if is_link and not self.use_newest_version(symlink_reason(line.path)):
+            return False
         if isinstance(line, Start) and len(line.data or b'') > limits.FILE_BYTES:
             self.use_newest_version(large_file_reason(line.path))
         self.trace.start.append(line)

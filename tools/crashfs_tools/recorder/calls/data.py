@@ -39,7 +39,7 @@ def on_lseek(files: LiveFiles, process: Process, call: Call) -> None:
 
 def on_llseek(files: LiveFiles, process: Process, call: Call) -> None:
     """Sets the offset of the open file by the lseek of 32-bit programs, whose result is only 0: the
-    offset is in the first argument that strace shows as `[42]`. Nothing if it shows none so."""
+    offset is in the first argument that strace shows as `[42]`. Nothing if no argument is so."""
     file = process.open_file(call.descriptor())
     numbers = [arguments.parse_pointed_integer(word) for word in call.arguments]
     offsets = [number for number in numbers if number is not None]
@@ -225,9 +225,9 @@ def copy_between_descriptors(
 
 
 def read_bytes(file: Optional[OpenFile], offset: Optional[int], length: int) -> Optional[bytes]:
-    """So many bytes of an open file from an offset on, or from the file's own one (None), which
-    then moves; fewer at the file's end. None if its bytes aren't followed, for a stream, and for a
-    file that isn't followed (None)."""
+    """The bytes of an open file from an offset on, `length` of them, or fewer at the file's end. If
+    the offset is None, it is the file's own, which moves by the length. None if the bytes aren't
+    followed, for a stream, and for a file that isn't followed (None)."""
     node = node_of(file)
     if file is None or node is None:
         return None
