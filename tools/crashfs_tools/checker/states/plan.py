@@ -333,7 +333,9 @@ class PlannedTrace:
         for part in self.parts:
             numbers_of_part = {number for number in wanted if part.first <= number < part.end}
             if numbers_of_part:
-                has_picks = any(self.plan.state(one).family == 'pick' for one in numbers_of_part)
+                has_picks = any(
+                    self.plan.state(number).family == 'pick' for number in numbers_of_part
+                )
                 options = part.options if has_picks else part.options_without_picks
                 number_offset = part.first - part.first_in_program
                 ranges = ranges_text(number - number_offset for number in numbers_of_part)

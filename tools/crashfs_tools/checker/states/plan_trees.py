@@ -37,7 +37,7 @@ class PlanTrees:
     @cached_property
     def are_large(self) -> bool:
         """Whether the trace has so many start lines or bytes that its trees aren't kept in memory.
-        OSError if the trace can't be read."""
+        Errors as in has_large_trees()."""
         return has_large_trees(self.planned.trace)
 
     @cached_property
@@ -71,8 +71,8 @@ class PlanTrees:
 
     def of_states(self, numbers: Sequence[int]) -> List[Entries]:
         """The trees of the states of these numbers, in their order, without the roots. Entries may
-        be shared, and must not be changed. If the program lacks a tree: ProgramFault, or KeyError
-        for its number."""
+        be shared, and must not be changed. Trees that aren't large are kept. If the program lacks a
+        tree: ProgramFault, or KeyError for its number."""
         if self.are_large:
             trees = dict(self.read(numbers))
             return [without_root(trees[number]) for number in numbers]

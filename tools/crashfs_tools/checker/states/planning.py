@@ -96,8 +96,8 @@ class Planner:
 
     def has_few_states(self, trace: str) -> bool:
         """Whether a trace has at most options.most_states different crash states, so that all can
-        be tried. Refused for a trace with a fault, ProgramFault or PlanError if the program prints
-        no sets."""
+        be tried. Errors as in read_trace(); ProgramFault or PlanError if the program prints no
+        sets."""
         sets = all_sets(self.program, self.guard.environment, self.read_trace(trace))
         return sets.different_sets(self.options.most_states) is not None
 
