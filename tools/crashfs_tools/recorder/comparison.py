@@ -94,7 +94,7 @@ def tree_entry(entry: ScannedEntry) -> Entry:
     return Entry(entry.owner, entry.group, entry.mode, entry.data)
 
 
-def kind_text(entry: Entry) -> str:
+def kind_of_entry(entry: Entry) -> str:
     """The kind of an entry in words: `a file`, `a directory` or `a symbolic link`."""
     if entry.link is not None:
         return 'a symbolic link'
@@ -111,8 +111,9 @@ def entry_differences(at_end: Entry, traced: Entry) -> List[str]:
     """A sentence for each difference between an entry at the end and the one in the trace; empty if
     there is none. If their kinds differ, or the targets of symbolic links, nothing else is
     compared."""
-    if kind_text(at_end) != kind_text(traced):
-        return [f'it is {kind_text(at_end)} at the end, and {kind_text(traced)} in the trace']
+    kind, traced_kind = kind_of_entry(at_end), kind_of_entry(traced)
+    if kind != traced_kind:
+        return [f'it is {kind} at the end, and {traced_kind} in the trace']
     if at_end.link != traced.link:
         text_at_end = f'it is a symbolic link to {at_end.link} at the end'
         return [f'{text_at_end}, and one to {traced.link} in the trace']

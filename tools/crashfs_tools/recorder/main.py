@@ -251,13 +251,13 @@ def translate_run(options: RecordOptions, files: LiveFiles, run: RecordedRun) ->
     recording.streams.add_text_of_output(run.output_pipe)
     if options.stacks or any(call.frames for call in run.log.calls):
         note_functions(run.log.calls)
-    translate_calls(options, files, run)
+    translate_with_begin_after(options, files, run)
     for path in files_with_path(recording.trace, files.conditions.top):
         recording.report_note(OWN_PATH, path)
     refuse_log_without_changes(options, files)
 
 
-def translate_calls(options: RecordOptions, files: LiveFiles, run: RecordedRun) -> None:
+def translate_with_begin_after(options: RecordOptions, files: LiveFiles, run: RecordedRun) -> None:
     """Translates the calls of a run. With --begin-after the trace begins again after the line that
     this option names, or, if that never came, this is reported. LogError as in translate_log()."""
     translator = Translator(files, run.log, run.file_copies)

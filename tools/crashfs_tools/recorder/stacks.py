@@ -46,7 +46,7 @@ def environment_with_hook(environment: Dict[str, str]) -> Dict[str, str]:
     return {**environment, 'PYTHONPATH': os.pathsep.join(paths)}
 
 
-def is_python(path: str) -> bool:
+def is_python_program(path: str) -> bool:
     """Whether a program is Python, or a script for it, so that it needs only the hook: by its name,
     or its first line. False if the file can't be read."""
     try:

@@ -77,7 +77,7 @@ def strace_command(strace: str, log_path: str, options: RecordOptions) -> List[s
         '-o',
         log_path,
     ]
-    if options.stacks and not stacks.is_python(options.command[0]):
+    if options.stacks and not stacks.is_python_program(options.command[0]):
         command.append('-k')
     if options.mapped:
         # Signals that are injected don't arrive together with --seccomp-bpf.
