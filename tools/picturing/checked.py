@@ -7,7 +7,7 @@ from typing import NamedTuple, Sequence
 
 from crashfs_tools.checker.command_line import read_options
 from crashfs_tools.checker.checked_trace import CheckedTrace
-from crashfs_tools.checker.checking import Check
+from crashfs_tools.checker.checking import new_check
 from crashfs_tools.common.entry import Entries
 from crashfs_tools.checker.findings.groups import Findings
 from crashfs_tools.common.guard import Guard
@@ -35,7 +35,7 @@ def check_example(trace: str, command: Sequence[str]) -> CheckedExample:
     program = Crashfs.find_or_second_reading(None, is_unproved=True)
     with Guard('crashfs-picture') as guard:
         checked_trace = CheckedTrace.read(options, program, guard)
-        check = Check(checked_trace)
+        check = new_check(checked_trace)
         report, _, exception = check.run()
         if exception is not None:
             raise exception

@@ -9,8 +9,7 @@ from dataclasses import dataclass, field
 from pathlib import Path
 from typing import Dict, Iterable, Iterator, List, Optional
 
-from crashfs_tools.checker.checked_trace import CheckedTrace
-from crashfs_tools.checker.checking import refuse_unreadable
+from crashfs_tools.checker.checked_trace import CheckedTrace, refuse_unreadable
 from crashfs_tools.checker.options import NAME, Options
 from crashfs_tools.checker.running.results import Results, known_states
 from crashfs_tools.checker.states.layout import lay_out, read_trees

@@ -184,6 +184,20 @@ class CheckedTrace:
             raise self.planner.make_refusal('tar', fault) from fault
 
 
+def refuse_unreadable(trace: str) -> None:
+    """Refused unless a trace's path leads to a file that can be read, or to a pipe. A pipe isn't
+    opened, because it can be read only once."""
+    try:
+        mode = os.stat(trace).st_mode
+        if stat.S_ISREG(mode):
+            with open(trace, 'rb'):
+                return
+        if not stat.S_ISFIFO(mode):
+            raise Refused(f'{trace} is no file')
+    except OSError as error:
+        raise Refused(f'{trace}: {error.strerror}') from error
+
+
 def mode_of_report(source: os.stat_result) -> int:
     """The mode of a file that shows parts of a source, such as the trace: its owner may read and
     write it, and others only if they may do so with the source."""

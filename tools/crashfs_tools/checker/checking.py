@@ -4,7 +4,6 @@ few checks need is imported where they need it."""
 from __future__ import annotations
 
 import os
-import stat
 from contextlib import contextmanager
 from functools import cached_property
 from typing import TYPE_CHECKING, Callable, Iterator, NamedTuple, Optional
@@ -24,7 +23,7 @@ from crashfs_tools.common.program import Crashfs
 from crashfs_tools.common.signals import Stopped, TimeUp, time_limit
 from crashfs_tools.common.whole_files import write_whole_file
 
-from .checked_trace import CheckedTrace
+from .checked_trace import CheckedTrace, refuse_unreadable
 from .options import NAME, Options
 
 if TYPE_CHECKING:
@@ -62,33 +61,20 @@ class Check:
     states were tried, None before the first, and has_tried_all says whether all states of the
     session's last window were tried, and its examples again."""
 
-    def __init__(self, trace: CheckedTrace, *, has_states: bool = False) -> None:
-        """Reads the files of --accept and --resume, if they are given. With has_states the report
-        keeps the outcome of each state. Refused if one of the files can't be read, or isn't what
-        its option asks for."""
+    def __init__(
+        self, trace: CheckedTrace, report: CheckReport, earlier_results: Optional[AllResults]
+    ) -> None:
+        """The report, which must be new, gets what is found; earlier_results are those of --resume,
+        None without them. Nothing is tried yet."""
         self.trace = trace
         self.options = trace.options
-        self.head = trace.new_head()
-        self.report = new_report(self.head, self.options, has_states=has_states)
-        self.earlier_results = self.read_earlier_results()
+        self.report = report
+        self.head = report.head
+        self.earlier_results = earlier_results
         self.last_window: Optional[Window] = None
         self.has_tried_all = False
         # What ended the check early, also if all states had been tried.
         self.end_cause = ''
-
-    def read_earlier_results(self) -> Optional[AllResults]:
-        """The results in the file of --resume, without those of second crashes and disks; None
-        without that option, or if there is no such file yet. Refused if the file can't be read, or
-        isn't the report of a check of the same trace, COMMAND and shard."""
-        path = self.options.resume
-        if path is None or not os.path.exists(path):
-            return None
-        from crashfs_tools.checker.running.read_results import read_json
-
-        earlier = read_json(path)
-        if earlier.head.identity() != self.head.identity():
-            raise Refused(OTHER_CHECK)
-        return earlier
 
     def run(self) -> CheckResult:
         """Checks window after window, and returns the report, also if the check ends early. Then
@@ -334,6 +320,28 @@ class Check:
         return SecondCrashTrials(self.options.nested)
 
 
+def new_check(trace: CheckedTrace, *, has_states: bool = False) -> Check:
+    """A check of a trace that isn't begun. Reads the files of --accept and --resume, if they are
+    given. With has_states the report keeps the outcome of each state. Refused as new_report() and
+    read_earlier_results()."""
+    report = new_report(trace.new_head(), trace.options, has_states=has_states)
+    return Check(trace, report, read_earlier_results(trace.options.resume, report.head))
+
+
+def read_earlier_results(path: Optional[str], head: Head) -> Optional[AllResults]:
+    """The results in the file of --resume, without those of second crashes and disks; None without
+    that option, or if there is no such file yet. Refused if the file can't be read, or isn't the
+    report of a check of the same trace, COMMAND and shard as in `head`."""
+    if path is None or not os.path.exists(path):
+        return None
+    from crashfs_tools.checker.running.read_results import read_json
+
+    earlier = read_json(path)
+    if earlier.head.identity() != head.identity():
+        raise Refused(OTHER_CHECK)
+    return earlier
+
+
 def interrupted_by(fault: Exception) -> Interrupted:
     """A new Interrupted whose cause is this fault. It isn't raised yet."""
     interrupted = Interrupted()
@@ -375,25 +383,11 @@ def open_trace(options: Options, guard: Guard, progress: Progress) -> Iterator[C
         yield trace
 
 
-def refuse_unreadable(trace: str) -> None:
-    """Refused unless a trace's path leads to a file that can be read, or to a pipe. A pipe isn't
-    opened, because it can be read only once."""
-    try:
-        mode = os.stat(trace).st_mode
-        if stat.S_ISREG(mode):
-            with open(trace, 'rb'):
-                return
-        if not stat.S_ISFIFO(mode):
-            raise Refused(f'{trace} is no file')
-    except OSError as error:
-        raise Refused(f'{trace}: {error.strerror}') from error
-
-
 def check_trace(
     options: Options, guard: Guard, progress: Progress, *, has_states: bool = False
 ) -> CheckResult:
     """Checks the trace that some options name; open_trace() changes their `command`. Returns or
-    raises what Check.run() does; raises too what open_trace() and Check() do. With has_states the
-    report keeps the outcome of each state. `progress` shows how far the check is."""
+    raises what Check.run() does; raises too what open_trace() and new_check() do. With has_states
+    the report keeps the outcome of each state. `progress` shows how far the check is."""
     with open_trace(options, guard, progress) as trace:
-        return Check(trace, has_states=has_states).run()
+        return new_check(trace, has_states=has_states).run()

@@ -24,8 +24,8 @@ from crashfs_tools.common.signals import Stopped, raise_on_stop_signals
 from crashfs_tools.common.standard_streams import flushed_output, set_utf8_streams
 from crashfs_tools.common.whole_files import folder_to_write
 
-from .checked_trace import mode_of_report
-from .checking import Interrupted, check_trace, refuse_unreadable
+from .checked_trace import mode_of_report, refuse_unreadable
+from .checking import Interrupted, check_trace
 from .command_line import read_options
 from .options import NAME, Options
 

@@ -50,7 +50,7 @@ class AdviceTrials:
 
     def __init__(self, trials: Trials, planner: Planner, findings: Findings) -> None:
         """Outcomes that the findings get later aren't known. If all crash states were asked for,
-        reads the trace by the second reading: exceptions as in EqualSets()."""
+        reads the trace by the second reading: exceptions as in find_equal_sets()."""
         self.trials = trials
         self.planner = planner
         self.findings = findings

@@ -18,21 +18,22 @@ class EqualSets:
     asked for. If these are listed and the check was not stopped, each allowed set leaves a tree
     that was tried."""
 
-    def __init__(self, planned: PlannedTrace, findings: Findings) -> None:
-        """Reads the plan's trace by the second reading, and computes what each tried state leaves,
-        of equal states once. Outcomes that the findings get later aren't seen. ReadingFault if the
-        second reading refuses the trace, OSError if its file is gone."""
-        self.plan = findings.plan
-        with open(planned.trace, 'rb') as file:
-            self.states = States(parse_trace(file.read()))
+    def __init__(self, states: States) -> None:
+        """`states` computes what the sets leave. No outcome is known yet."""
+        self.states = states
         # What each set leaves, if it was asked before; and the outcomes of what was tried.
         self.left_by_sets: Dict[int, Tuple[Digest, int]] = {}
         self.outcomes: Dict[Tuple[Digest, int], Outcome] = {}
-        first_numbers = {state.trial: state.number for state in reversed(self.plan.states)}
+
+    def add_outcomes(self, findings: Findings) -> None:
+        """Adds the outcomes that the findings have now, by what the tried states leave. This is
+        computed once for equal states."""
+        plan = findings.plan
+        first_numbers = {state.trial: state.number for state in reversed(plan.states)}
         for number in first_numbers.values():
             outcome = findings.outcomes_by_state.get(number)
             if outcome is not None:
-                self.outcomes[self.tree_and_says(self.plan.kept[number])] = outcome
+                self.outcomes[self.tree_and_says(plan.kept[number])] = outcome
 
     def outcome(self, kept_set: int) -> Optional[Outcome]:
         """The outcome of a tried state that is equal to what an allowed set leaves; None if no
@@ -48,9 +49,15 @@ class EqualSets:
 
 
 def find_equal_sets(planned: PlannedTrace, findings: Findings) -> Optional[EqualSets]:
-    """The EqualSets of a plan and its findings, if all crash states were asked for, else None.
-    Exceptions as in EqualSets()."""
-    return None if findings.plan.all_states is None else EqualSets(planned, findings)
+    """The EqualSets of a plan's trace, with the outcomes of its findings, if all crash states were
+    asked for, else None. ReadingFault if the second reading refuses the trace, OSError if its file
+    is gone."""
+    if findings.plan.all_states is None:
+        return None
+    with open(planned.trace, 'rb') as file:
+        equal_sets = EqualSets(States(parse_trace(file.read())))
+    equal_sets.add_outcomes(findings)
+    return equal_sets
 
 
 def outcomes_by_set(plan: Plan, outcomes_by_state: Dict[int, Outcome]) -> Dict[int, Outcome]:
