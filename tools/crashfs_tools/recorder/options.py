@@ -187,8 +187,7 @@ def add_trace_options(parser: argparse.ArgumentParser) -> None:
         choices=[AUTO, *VERSIONS],
         default=AUTO,
         help='the version of the trace. 4 has symbolic links, renamed directories and files of up '
-        'to 1 GiB; states of such a trace are not proved yet (default: auto, which is 3 if that '
-        'has all that happens, else 4)',
+        'to 1 GiB (default: auto, which is 3 if that has all that happens, else 4)',
     )
 
 

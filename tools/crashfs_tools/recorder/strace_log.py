@@ -158,9 +158,9 @@ class LogReader:
             self.call_with_frames.frames.append(line[len(FRAME) :])
 
     def add_call(self, match: re.Match[str], begin: int, end: int) -> None:
-        """Adds a whole call, by the match of LINE, and the numbers of its first and last line.
-        Notes its thread, and the one that a fork made; the next frames are the call's. LogError if
-        an argument isn't as strace writes it."""
+        """Adds a whole call, by the match of LINE, and the numbers of its first and last line. Adds
+        its thread, and the one that a fork made, to `threads`; the next frames are the call's.
+        LogError if an argument isn't as strace writes it."""
         thread, name, text, result, tail = match.groups()
         self.threads.add(int(thread))
         if self.log.first_thread is None:
