@@ -156,12 +156,11 @@ def words_of(crate: str) -> List[Word]:
     ]
 
 
-def contracts_in(path: Path) -> Iterator[Tuple[str, str]]:
-    """Each public function of a file, and each method of an `impl` or `trait`, public or not, with
-    the text of its contract, which may be empty. A function is named `name`, a method `Type::name`,
-    or `Trait::name` in a trait. What is `pub(crate)` isn't public here. OSError, when the first is
-    asked for, if the file can't be read."""
-    owner, lines = '', path.read_text(encoding='utf-8').splitlines()
+def contracts_in(source: str) -> Iterator[Tuple[str, str]]:
+    """Each public function of a source, and each method of an `impl` or `trait`, public or not,
+    with the text of its contract, which may be empty. A function is named `name`, a method
+    `Type::name`, or `Trait::name` in a trait. What is `pub(crate)` isn't public here."""
+    owner, lines = '', source.splitlines()
     for index, line in enumerate(lines):
         if line and not line[0].isspace():
             match = IMPL.match(line)
@@ -189,15 +188,16 @@ def contract_text(lines: List[str], indent: str) -> str:
 
 def citations_in(path: Path, crate: str) -> List[Citation]:
     """The citations of words by the contracts in a file of a crate, in their order. A contract that
-    cites a word more than once has equal ones. OSError as contracts_in()."""
-    word_crates = crates_of_words(crate, path.read_text(encoding='utf-8'))
+    cites a word more than once has equal ones. OSError if the file can't be read."""
+    source = path.read_text(encoding='utf-8')
+    word_crates = crates_of_words(crate, source)
     return [
         Citation(
             word_crate=word_crates[word],
             word=word,
             call=call if word_crates[word] == crate else f'{crate} {call}',
         )
-        for call, contract in contracts_in(path)
+        for call, contract in contracts_in(source)
         for word in IDENTIFIER.findall(contract)
         if word in word_crates
     ]
@@ -218,11 +218,10 @@ def citations() -> Dict[str, Dict[str, List[str]]]:
     return calls
 
 
-def crates_of_words(crate: str, text: str) -> Dict[str, str]:
-    """The crate of each word that a source file imports by its name, as `ghost use ..{word, word}`.
-    `text` is that of the file, and `crate` the file's own crate. Words that are imported in any
-    other way are left out."""
-    imports = re.findall(r'ghost use (?:Rattle\.)?(\w+)[.:]+specs[\w.:]*\.\{([^}]*)\}', text)
+def crates_of_words(crate: str, source: str) -> Dict[str, str]:
+    """The crate of each word that a source imports by its name, as `ghost use ..{word, word}`.
+    `crate` is the source's own crate. Words that are imported in any other way are left out."""
+    imports = re.findall(r'ghost use (?:Rattle\.)?(\w+)[.:]+specs[\w.:]*\.\{([^}]*)\}', source)
     return {
         word.strip(): crate if word_crate == 'crate' else word_crate
         for word_crate, words in imports

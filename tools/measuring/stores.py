@@ -195,7 +195,7 @@ def run_command(words: List[str]) -> str:
     return process.stdout.decode('utf-8', 'replace')
 
 
-def save_row(session: Session, options: argparse.Namespace) -> bool:
+def make_and_save_row(session: Session, options: argparse.Namespace) -> bool:
     """Makes the row of a session, puts it into docs/results.json, prints the first line of its
     report, and returns true. If there is no row (NoResult), it prints why and returns false, and
     the file keeps the session's earlier row. Other errors are raised, those of put_row() too."""
@@ -212,12 +212,13 @@ def save_row(session: Session, options: argparse.Namespace) -> bool:
 
 def main(words: List[str]) -> int:
     """Runs `measure stores` with these words, and returns its status: 1 if a session has no row, or
-    that of the signal after a stop. Errors of save_row() are raised, and end the command. The rows
-    that were made before a stop or an error stay."""
+    that of the signal after a stop. Errors of make_and_save_row() are raised, and end the command.
+    The rows that were made before a stop or an error stay."""
     options = parse_words(words)
     raise_on_stop_signals()
     try:
-        have_rows = [save_row(session, options) for session in find_sessions(options.names)]
+        sessions = find_sessions(options.names)
+        have_rows = [make_and_save_row(session, options) for session in sessions]
     except Stopped as stop:
         print(f'measure stores: stopped by {stop}', file=sys.stderr)
         return stop.status

@@ -97,7 +97,7 @@ class Inventories(unittest.TestCase):
         )
 
     def test_contracts_are_those_of_public_calls_without_their_bodies(self):
-        found = dict(contracts_in(self.written(CALLS)))
+        found = dict(contracts_in(CALLS))
         self.assertEqual(list(found), ['List::sort', 'sorted', 'first'])
         self.assertIn('IsSorted self.new', found['List::sort'])
         self.assertNotIn('IsKnown', found['List::sort'])

@@ -14,16 +14,16 @@ DIGITS = 20
 LARGEST = 2**64 - 1
 
 
-def read_object(line: str) -> Dict[str, Any]:
-    """The keys and values of a line; of two equal keys the last one counts. LineFault for what the
-    program doesn't read: no JSON, no object, a number that overflows, values nested deeper than
-    DEPTH levels, half of a surrogate pair."""
-    value = load_json(line)
+def read_object(text: str) -> Dict[str, Any]:
+    """The keys and values of a line, given by its text; of two equal keys the last one counts.
+    LineFault for what the program doesn't read: no JSON, no object, a number that overflows, values
+    nested deeper than DEPTH levels, half of a surrogate pair."""
+    value = load_json(text)
     if not isinstance(value, dict):
         raise syntax_fault('no JSON object')
-    if line.count('[') + line.count('{') > DEPTH and has_more_levels(value, DEPTH):
+    if text.count('[') + text.count('{') > DEPTH and has_more_levels(value, DEPTH):
         raise syntax_fault(f'values nested deeper than {DEPTH} levels')
-    if '\\u' in line:
+    if '\\u' in text:
         refuse_half_surrogates(value)
     return value
 

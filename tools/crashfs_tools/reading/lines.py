@@ -213,8 +213,8 @@ def check_value(key: str, value: Any) -> None:
 
 
 def check_parts(line: Line) -> None:
-    """LineFault for the parts of a start file, first as check_part() for each part, then as
-    check_part_order() for all."""
+    """LineFault if the parts of a start file have a fault: first as check_part() for each of them,
+    then as check_part_order()."""
     for part in line.fields['parts']:
         check_part(part)
     check_part_order(line.parts, line.length)

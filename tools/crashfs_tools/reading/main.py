@@ -51,7 +51,7 @@ def main(words: List[str]) -> int:
             print(f"crashfs: {options['--trace']}:{fault.line}: {fault.why}", file=sys.stderr)
         return 1
     except BrokenPipeError:
-        # Nobody reads on. What is left in the buffer goes nowhere.
+        # Nobody reads any more. What is left in the buffer goes nowhere.
         os.dup2(os.open(os.devnull, os.O_WRONLY), 1)
         return 1
 

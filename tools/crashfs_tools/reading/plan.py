@@ -5,7 +5,7 @@ from __future__ import annotations
 from itertools import chain
 from typing import Any, Dict, Iterable, Iterator, List, NamedTuple, Sequence
 
-from .faults import LineFault, ReadingFault
+from .faults import LineFault, ReadingFault, syntax_fault
 from .json_lines import is_trace_number, read_array
 from .order import Order
 from .place_sets import places_of, set_of
@@ -116,20 +116,25 @@ def add_families(plan: StateList, *, has_lost: bool, has_files: bool) -> None:
 
 def read_picks(picks_bytes: bytes) -> List[List[int]]:
     """The places of each set of a picks file, given by its bytes. ReadingFault, with the line's
-    number, for a line that is no array of numbers up to LARGEST_PLACE, in UTF-8. Empty lines are
-    skipped, but counted. Whether the sets are allowed isn't checked here."""
+    number, for a line that read_pick() refuses. Empty lines are skipped, but counted. Whether the
+    sets are allowed isn't checked here."""
     picks = []
     for number, line in enumerate(picks_bytes.split(b'\n'), 1):
-        if not line:
-            continue
-        try:
-            pick = read_array(line)
-        except LineFault as fault:
-            raise ReadingFault(f'picks line {number}: Syntax') from fault
-        if not all(is_trace_number(place) and place <= LARGEST_PLACE for place in pick):
-            raise ReadingFault(f'picks line {number}: Syntax')
-        picks.append(pick)
+        if line:
+            try:
+                picks.append(read_pick(line))
+            except LineFault as fault:
+                raise ReadingFault(f'picks line {number}: {fault.kind}') from fault
     return picks
+
+
+def read_pick(line: bytes) -> List[int]:
+    """The places of a set, from its line of a picks file. LineFault if the line isn't an array of
+    numbers up to LARGEST_PLACE, in UTF-8. Which places the trace has isn't checked here."""
+    places = read_array(line)
+    if not all(is_trace_number(place) and place <= LARGEST_PLACE for place in places):
+        raise syntax_fault(f'no array of numbers up to {LARGEST_PLACE}')
+    return places
 
 
 def family_sets(
