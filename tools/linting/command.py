@@ -7,7 +7,7 @@ from typing import Callable, Dict, List, Optional
 
 from .crates_page import architecture_faults
 from .layout import layout_faults
-from .pages import made_page_faults
+from .pages import inventory_faults
 from .python import (
     black_faults,
     flake8_faults,
@@ -38,7 +38,7 @@ LINTERS: Dict[str, Callable[[], Faults]] = {
     'comments for linters': unexplained_comment_faults,
     'layout': layout_faults,
     'words': retired_word_faults,
-    'pages made from sources': made_page_faults,
+    'pages made from sources': inventory_faults,
     'crates in ARCHITECTURE': architecture_faults,
 }
 

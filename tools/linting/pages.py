@@ -34,8 +34,8 @@ def stray_edit_faults() -> List[str]:
     ]
 
 
-def made_page_faults() -> List[str]:
-    """A sentence for each outdated file of tools/inventories, each test without a sentence, and
-    each stray edit. Errors as outdated_source_lines(), undescribed_test_faults() and
-    stray_edit_faults()."""
+def inventory_faults() -> List[str]:
+    """A sentence for each fault of what tools/inventories writes and lists: each outdated file,
+    each test without a sentence, and each stray edit. Errors as outdated_source_lines(),
+    undescribed_test_faults() and stray_edit_faults()."""
     return [*outdated_source_lines(), *undescribed_test_faults(), *stray_edit_faults()]
