@@ -7,7 +7,7 @@ from unittest import mock
 
 from crashfs_tools.campaign.book import Book, KnownFailure, failure_key, read_book
 from crashfs_tools.campaign.sessions import Failure, SessionVerdict, read_report, verdict_of
-from crashfs_tools.campaign.shrinking import Shrinking, acknowledged_places
+from crashfs_tools.campaign.shrinking import Shrinking, acknowledged_places, lines_of_trace
 from crashfs_tools.common.command import Refused
 from crashfs_tools.common.trace import Header, Say, Trace
 
@@ -56,7 +56,7 @@ class Cuts(InFolder):
         self.write('session.trace', ''.join(f'{line}\n' for line in lines))
         sessions = mock.Mock(trace=Path(self.path('session.trace')), folder=Path(self.folder))
         sessions.check.return_value = SessionVerdict()
-        shrinking = Shrinking(sessions, 'none')
+        shrinking = Shrinking(sessions, 'none', lines_of_trace(sessions.trace))
         self.assertEqual(shrinking.say_places, list(range(1, len(lines))))
         for count in range(1, len(lines)):
             shrinking.find_failure(count)
@@ -70,7 +70,8 @@ class Cuts(InFolder):
         found = Failure('lost: a', [], 3, 1)
         sessions.check.return_value = SessionVerdict([found])
         kept, page = Path(self.path('kept.trace')), Path(self.path('kept.html'))
-        self.assertEqual(Shrinking(sessions, 'lost').write_part(1, kept, page), found)
+        shrinking = Shrinking(sessions, 'lost', lines_of_trace(sessions.trace))
+        self.assertEqual(shrinking.write_part(1, kept, page), found)
         self.assertEqual(kept.read_text('utf-8'), '{"op":"say","text":"x"}\n')
         cut = Path(self.path('cut.trace'))
         self.assertEqual(sessions.check.call_args_list, [mock.call(cut, page)])

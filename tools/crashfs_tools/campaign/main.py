@@ -20,7 +20,7 @@ from .book import Book, KnownFailure, failures_by_key, read_book
 from .options import NAME, CampaignOptions, read_options
 from .report import length_text, page_text, report_lines, verdict_line
 from .sessions import SessionVerdict, Failure, Sessions
-from .shrinking import Shrinking
+from .shrinking import Shrinking, lines_of_trace
 
 SOME_FAIL, BAD_INPUT, NO_VERDICT = 1, 2, 3
 # If nothing else was printed for so long, a line says how many sessions were tried.
@@ -90,8 +90,8 @@ class Campaign:
         """Counts a failure of the session that was recorded last; to be called once for each key.
         Keeps this session, cut to the shortest part that fails in the same way, if the failure is
         new, or if that part has fewer acknowledged lines than the kept one: then it prints a line.
-        Raises what Shrinking does."""
-        shrinking = Shrinking(self.sessions, key)
+        OSError if its trace can't be read; raises too what Shrinking does."""
+        shrinking = Shrinking(self.sessions, key, lines_of_trace(self.sessions.trace))
         known_failure = self.book.entries.get(key)
         if known_failure is None:
             new_failure = KnownFailure(failure, seed, len(self.book.entries) + 1)

@@ -23,20 +23,26 @@ def acknowledged_places(lines: List[str]) -> List[int]:
     ]
 
 
+def lines_of_trace(trace: Path) -> List[str]:
+    """The lines of a trace's file, each with its line feed, without empty ones. OSError if the file
+    can't be read."""
+    text = trace.read_text('utf-8', 'surrogateescape')
+    # Texts of a trace may have other characters that end a line for Python, such as U+2028.
+    return [line + '\n' for line in text.split('\n') if line]
+
+
 class Shrinking:
     """Searches for the shortest part of a session that still has the failure with a key. A part is
     the beginning of the session up to so many acknowledged lines: say_places has the places of
     these among the trace's lines, and cut is the file that a part is written to."""
 
-    def __init__(self, sessions: Sessions, key: str) -> None:
-        """Reads the session that was recorded last; a later recording changes nothing. OSError if
-        its trace can't be read, other exceptions as in acknowledged_places()."""
+    def __init__(self, sessions: Sessions, key: str, lines: List[str]) -> None:
+        """`lines` are those of the session's trace, by lines_of_trace(). Exceptions as in
+        acknowledged_places()."""
         self.sessions = sessions
         self.key = key
-        text = sessions.trace.read_text('utf-8', 'surrogateescape')
-        # Texts of a trace may have other characters that end a line for Python, such as U+2028.
-        self.lines = [line + '\n' for line in text.split('\n') if line]
-        self.say_places = acknowledged_places(self.lines)
+        self.lines = lines
+        self.say_places = acknowledged_places(lines)
         self.cut = sessions.folder / 'cut.trace'
 
     def find_failure(self, count: int, page: Optional[Path] = None) -> Optional[Failure]:

@@ -16,8 +16,8 @@ from crashfs_tools.common.trace_lines import with_syncs
 from .advice import AdviceResult, AllSyncs, FailingCounts
 from .groups import Findings, Group
 from .set_outcomes import (
+    EqualSets,
     count_failing_states,
-    find_equal_sets,
     is_failing,
     outcome_of_set,
     outcomes_by_set,
@@ -48,16 +48,22 @@ class AdviceTrials:
     trace fail. equal_sets finds the outcomes of equal states; it is None unless all crash states
     were asked for. listed_sets is the same if all are listed, else None."""
 
-    def __init__(self, trials: Trials, planner: Planner, findings: Findings) -> None:
-        """Outcomes that the findings get later aren't known. If all crash states were asked for,
-        reads the trace by the second reading: exceptions as in find_equal_sets()."""
+    def __init__(
+        self,
+        trials: Trials,
+        planner: Planner,
+        findings: Findings,
+        equal_sets: Optional[EqualSets],
+    ) -> None:
+        """The outcomes that the findings have now are known. equal_sets is what find_equal_sets()
+        returns for these findings."""
         self.trials = trials
         self.planner = planner
         self.findings = findings
         self.kept_sets = findings.plan.kept
         self.outcomes = outcomes_by_set(findings.plan, findings.outcomes_by_state)
         self.failing_before = count_failing_states(findings.plan, self.outcomes)
-        self.equal_sets = find_equal_sets(trials.planned, findings)
+        self.equal_sets = equal_sets
         # Only of all crash states it is known what each allowed set leaves.
         self.listed_sets = self.equal_sets if findings.plan.has_all_states else None
 
