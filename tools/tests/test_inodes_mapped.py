@@ -1,4 +1,4 @@
-"""The files that a process has mapped, as the recorder sees them."""
+"""The files that a process has mapped, and the calls that map them, as the recorder sees them."""
 
 from __future__ import annotations
 
@@ -7,6 +7,9 @@ import unittest
 from unittest import mock
 
 from crashfs_tools.recorder import stopped_processes
+from crashfs_tools.recorder.mapped_files import MAPPED
+
+from .support import as_strace
 
 
 class InodesMapped(unittest.TestCase):
@@ -17,3 +20,10 @@ class InodesMapped(unittest.TestCase):
             self.assertIsNone(stopped_processes.read_mapped_inodes(os.getpid()))
         with mock.patch('builtins.open', side_effect=FileNotFoundError):
             self.assertEqual(stopped_processes.read_mapped_inodes(os.getpid()), set())
+
+
+class Mappings(unittest.TestCase):
+    def test_mappings_of_32_bit_programs_are_known(self) -> None:
+        line = '7 mmap2(NULL, 4096, PROT_READ|PROT_WRITE, MAP_SHARED, 3</d/f>, 0) = 0xf7000000'
+        for name in ('mmap', 'mmap2'):
+            self.assertTrue(MAPPED.match(as_strace(line.replace('mmap2', name))))

@@ -16,7 +16,7 @@ from crashfs_tools.common import limits, own_faults
 from crashfs_tools.common.signals import Stopped
 from crashfs_tools.recorder import main
 from crashfs_tools.recorder.log_stream import LogStream
-from crashfs_tools.recorder.mapped_files import MAPPED, MappedFiles
+from crashfs_tools.recorder.mapped_files import MappedFiles
 from crashfs_tools.recorder.pipe_lines import PipeLines
 from crashfs_tools.recorder.stopped_processes import is_stopped
 from crashfs_tools.recorder.strace_run import StraceRun
@@ -137,11 +137,6 @@ class WithoutStrace(InRecordings):
             '/: the start tree leaves out 1 of its files and directories: a trace has 2 at most',
         )
         self.assertEqual(recording.differing_paths, {'/c'})
-
-    def test_mappings_of_32_bit_programs_are_known(self):
-        line = '7 mmap2(NULL, 4096, PROT_READ|PROT_WRITE, MAP_SHARED, 3</d/f>, 0) = 0xf7000000'
-        for name in ('mmap', 'mmap2'):
-            self.assertTrue(MAPPED.match(as_strace(line.replace('mmap2', name))))
 
     def test_closed_streams_are_opened(self):
         for closed in ('>&-', '2>&-', '<&- >&- 2>&-'):
