@@ -247,9 +247,9 @@ def changed_paths(change: Call) -> Optional[Set[str]]:
 
 def paths_in_arguments(words: List[str]) -> Optional[Set[str]]:
     """The path in each string argument, and the path of its directory; symbolic links aren't
-    followed.
-    A relative path begins at the path that strace shows for a descriptor before it. None if strace
-    shows no such path, or cut the string. LogError if a path isn't as strace writes it."""
+    followed. A relative path begins at the path that strace shows for a descriptor before it. None
+    if strace shows no such path, or cut the string. LogError if a path isn't as strace writes it.
+    """
     paths: Set[str] = set()
     base: Optional[str] = None
     for word in words:

@@ -4,7 +4,7 @@ LogError if an argument isn't as strace writes it."""
 
 from __future__ import annotations
 
-from typing import Optional
+from typing import Dict, Optional
 
 from crashfs_tools.common.trace import Chmod, Chown
 from crashfs_tools.recorder import acl, arguments
@@ -122,14 +122,20 @@ def on_attribute(files: LiveFiles, process: Process, call: Call) -> None:
     path = path_in_trace(node)
     if path is None:
         return
-    if call.name.endswith('setxattr') and arguments.parse_path(call.argument(1)) == acl.NAME:
-        rights = acl.parse_rights(arguments.parse_bytes(call.argument(2)) or b'')
-        if rights is not None:
-            if rights:
-                set_mode(files, node, f'{acl.mode_of_rights(rights):o}')
-            if acl.has_only_mode(rights):
-                return
-    files.recording.report_note('its extended attributes change, which no trace has', path)
+    rights = rights_of_list(call)
+    if rights:
+        set_mode(files, node, f'{acl.mode_of_rights(rights):o}')
+    if rights is None or not acl.has_only_mode(rights):
+        files.recording.report_note('its extended attributes change, which no trace has', path)
+
+
+def rights_of_list(call: Call) -> Optional[Dict[int, int]]:
+    """The rights of the access control list that a call sets, by the tags of its entries. None if
+    it sets another attribute, removes one, or sets what parse_rights() doesn't take for a list."""
+    is_set = call.name.endswith('setxattr')
+    if not is_set or arguments.parse_path(call.argument(1)) != acl.NAME:
+        return None
+    return acl.parse_rights(arguments.parse_bytes(call.argument(2)) or b'')
 
 
 def node_with_attributes(files: LiveFiles, process: Process, call: Call) -> Optional[Node]:
