@@ -49,7 +49,11 @@ class ReportText:
         accepted = [group for group in groups if group.accepted_entry is not None]
         # Entries that the syncs of accepted entries remove are shown as any others.
         covered = [group for group in groups if group.is_covered and not accepted]
-        shown = [group for group in groups if group not in accepted and group not in covered]
+        shown = [
+            group
+            for group in groups
+            if group.accepted_entry is None and (accepted or not group.is_covered)
+        ]
         return self.first_lines() + [
             cut_text(escape_unprintable(line))
             for line in [
