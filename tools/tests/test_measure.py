@@ -26,6 +26,7 @@ from measuring.memory import (
 )
 from measuring.programs import Programs, Tally
 from measuring.servers import free_address, processor_halves, running_server
+from measuring.serving import add_serving_rows
 from measuring.sets import ROWS as SET_ROWS
 from measuring.sets import add_set_rows
 
@@ -293,6 +294,17 @@ class EndedServers(WithPrograms):
             out.getvalue(), r'^(memory failed: the server, process \d+, has ended\n){3}$'
         )
         self.assertEqual((tally.failed, tally.within_count), (['memory'] * 3, 0))
+
+
+class NoPort(unittest.TestCase):
+    def test_a_server_that_finds_no_port_is_a_failure_of_its_setting(self) -> None:
+        tally = Tally(benchmark='serve_bench')
+        no_port = mock.Mock(side_effect=OSError('no port is free'))
+        with mock.patch('measuring.serving.free_address', no_port):
+            with contextlib.redirect_stdout(io.StringIO()) as out:
+                add_serving_rows(Programs(TOOLS.parent), tally)
+        self.assertEqual(out.getvalue().count('serve_bench failed: no port is free\n'), 3)
+        self.assertEqual(tally.failed, ['serve_bench'] * 3)
 
 
 class Servers(unittest.TestCase):
