@@ -42,7 +42,7 @@ class CheckReport:
         has_states: bool = False,
         accept_list: Optional[AcceptedFailures] = None,
     ) -> None:
-        """The time that the check takes is counted from here on."""
+        """A report without findings. The time that the check takes is counted from here on."""
         self.head = head
         self.accept_list = accept_list
         self.has_states = has_states
