@@ -21,7 +21,8 @@ from crashfs_tools.common.trace import WRITTEN_VERSION, Creat, Header, Mkdir, St
 from crashfs_tools.recorder.directory import Scan
 from crashfs_tools.recorder.log_filter import LogFilter
 from crashfs_tools.recorder.mapped_files import FileCopies
-from crashfs_tools.recorder.live_files import files_at_start, StartConditions
+from crashfs_tools.recorder.live_files import StartConditions
+from crashfs_tools.recorder.start_tree import files_at_start
 from crashfs_tools.recorder.recording import Recording, TraceSettings
 from crashfs_tools.recorder.strace_log import Call, read_log
 from crashfs_tools.recorder.translate import Translator
@@ -71,7 +72,8 @@ def recording_of(
     recording = Recording(scan.header, TraceSettings(acknowledged, version=version))
     recording.streams.add_text_of_output(output)
     conditions = StartConditions('/d', 0o022, 'u', 'u')
-    files = files_at_start(recording, conditions, scan, ignored or (lambda path: False))
+    is_ignored, has_copies = ignored or (lambda path: False), copies is not None
+    files = files_at_start(recording, conditions, scan, is_ignored, has_copies=has_copies)
     numbers = [int(number) for number in acknowledged if number.isdigit()]
     needed = LogFilter(b'/d', numbers) if copies is None else None
     log = read_log(map(as_strace, lines), needed)

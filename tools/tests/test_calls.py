@@ -8,7 +8,8 @@ from typing import Dict, List, Set, Tuple
 
 from crashfs_tools.common.trace import Creat, Mkdir, Operation
 from crashfs_tools.recorder.directory import scan_directory
-from crashfs_tools.recorder.live_files import files_at_start, StartConditions
+from crashfs_tools.recorder.live_files import StartConditions
+from crashfs_tools.recorder.start_tree import files_at_start
 from crashfs_tools.recorder.log_filter import LogFilter
 from crashfs_tools.recorder.recording import Recording, TraceSettings
 from crashfs_tools.recorder.strace_log import read_log

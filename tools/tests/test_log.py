@@ -13,7 +13,8 @@ from crashfs_tools.recorder.arguments import LogError
 from crashfs_tools.recorder.directory import Scan
 from crashfs_tools.recorder.log_filter import LogFilter
 from crashfs_tools.recorder.pipe_lines import PipeLines
-from crashfs_tools.recorder.live_files import files_at_start, StartConditions
+from crashfs_tools.recorder.live_files import StartConditions
+from crashfs_tools.recorder.start_tree import files_at_start
 from crashfs_tools.recorder.recording import Recording, TraceSettings
 from crashfs_tools.recorder.strace_log import read_log
 from crashfs_tools.recorder.translate import Translator

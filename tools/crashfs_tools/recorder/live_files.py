@@ -24,13 +24,12 @@ from crashfs_tools.common.trace import (
 )
 
 from . import arguments
-from .directory import IsIgnored, Scan
+from .directory import IsIgnored
 from .live_tree import Change, LiveTree, Node
 from .output_streams import OutputStream
 from .processes import Descriptors, OpenFile, PathContext, Process
 from .recording import Recording
 from .resolving import ReadLink, Resolver
-from .start_tree import add_start_tree
 from .strace_log import Call
 
 UNKNOWN = 'by something that the log has not'
@@ -69,9 +68,9 @@ class LateSync(NamedTuple):
 
 class LiveFiles:
     """The files, processes and streams that the calls change, with the recording. The handlers of
-    calls, in the modules of `calls`, change these. has_copies, which the Translator sets, means
-    that copies show what is stored through mappings (--mapped). A method that reads a call's
-    argument raises LogError if this argument isn't as strace writes it."""
+    calls, in the modules of `calls`, change these. has_copies means that copies show what is stored
+    through mappings (--mapped). A method that reads a call's argument raises LogError if this
+    argument isn't as strace writes it."""
 
     def __init__(
         self,
@@ -79,6 +78,8 @@ class LiveFiles:
         conditions: StartConditions,
         is_ignored: IsIgnored,
         tree: LiveTree,
+        *,
+        has_copies: bool,
     ) -> None:
         """The files in a live tree; no process is known yet."""
         self.recording = recording
@@ -90,7 +91,7 @@ class LiveFiles:
         # The files of O_TMPFILE, until nothing refers to them.
         self.temporary_files: WeakSet[Node] = WeakSet()
         self.late_syncs: List[LateSync] = []
-        self.has_copies = False
+        self.has_copies = has_copies
 
     def first_process(self) -> Process:
         """COMMAND's first process as it starts: in the directory, with the umask of the start
@@ -381,15 +382,3 @@ class LiveFiles:
             late_sync = self.late_syncs.pop(0)
             self.recording.current_call = late_sync.call
             self.sync_range(late_sync.node, late_sync.offset, late_sync.length)
-
-
-def files_at_start(
-    recording: Recording, conditions: StartConditions, scan: Scan, is_ignored: IsIgnored
-) -> LiveFiles:
-    """The files at the start of a session, from a scan. Adds the scan to the recording's start tree
-    too, which must be empty, and reports what that leaves out."""
-    root = Node.directory(scan.header.mode)
-    root.traced_paths = {'/'}
-    files = LiveFiles(recording, conditions, is_ignored, LiveTree(root))
-    add_start_tree(recording, files.tree, scan)
-    return files

@@ -22,7 +22,7 @@ from .begin_after import LateStart
 from .arguments import LogError
 from .directory import NEWEST, Scan, group_name, scan_directory, user_name
 from .log_filter import LogFilter
-from .live_files import LiveFiles, StartConditions, files_at_start, no_target
+from .live_files import LiveFiles, StartConditions, no_target
 from .log_stream import LogStream
 from .mapped_files import FileCopies, MappedFiles
 from .options import NAME, RecordOptions, prepare_options, read_options
@@ -30,6 +30,7 @@ from .output_streams import SayEach, numbered_descriptors
 from .own_path import NOTE as OWN_PATH
 from .own_path import files_with_path
 from .recording import Recording, TraceSettings, is_private
+from .start_tree import files_at_start
 from .strace_log import Call, Log, read_log
 from .translate import Translator
 
@@ -150,7 +151,13 @@ def record(options: RecordOptions) -> int:
     Crashfs.find(options.crashfs)
     start_scan = scan_directory(options.directory, options.is_ignored, options.version or NEWEST)
     recording = Recording(start_scan.header, trace_settings(options))
-    files = files_at_start(recording, start_conditions(options), start_scan, options.is_ignored)
+    files = files_at_start(
+        recording,
+        start_conditions(options),
+        start_scan,
+        options.is_ignored,
+        has_copies=options.mapped,
+    )
     run = run_or_load_log(options, files)
     translate_run(options, files, run)
     write_trace(options, recording)

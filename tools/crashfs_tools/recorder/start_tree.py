@@ -7,9 +7,28 @@ from typing import List
 from crashfs_tools.common import limits
 from crashfs_tools.common.trace import StartLine, StartLink
 
-from .directory import Scan, ScannedEntry
+from .directory import IsIgnored, Scan, ScannedEntry
+from .live_files import LiveFiles, StartConditions
 from .live_tree import LiveTree, Node, new_node
 from .recording import Recording
+
+
+def files_at_start(
+    recording: Recording,
+    conditions: StartConditions,
+    scan: Scan,
+    is_ignored: IsIgnored,
+    *,
+    has_copies: bool = False,
+) -> LiveFiles:
+    """The files at the start of a session, from a scan. Adds the scan to the recording's start tree
+    too, which must be empty, and reports what that leaves out."""
+    root = Node.directory(scan.header.mode)
+    root.traced_paths = {'/'}
+    tree = LiveTree(root)
+    files = LiveFiles(recording, conditions, is_ignored, tree, has_copies=has_copies)
+    add_start_tree(recording, tree, scan)
+    return files
 
 
 def add_start_tree(recording: Recording, tree: LiveTree, scan: Scan) -> None:

@@ -57,13 +57,11 @@ class Translator:
     def __init__(
         self, files: LiveFiles, log: Log, file_copies: Optional[FileCopies] = None
     ) -> None:
-        """Sets has_copies of the files; translates nothing yet. file_copies is None without
-        --mapped."""
+        """Translates nothing yet. file_copies is None without --mapped."""
         self.files = files
         self.recording = files.recording
         self.log = log
         self.file_copies = file_copies or FileCopies()
-        self.files.has_copies = file_copies is not None
         self.call_copies: Dict[int, List[FileCopy]] = {}
         self.mapped_nodes: Dict[int, Node] = {}
         self.early_bytes: Dict[int, Bytes] = {}
