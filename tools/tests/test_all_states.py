@@ -11,7 +11,7 @@ from crashfs_tools.checker.states.plan import PlannedTrace, Trial
 from crashfs_tools.checker.states.planning import Planner
 from crashfs_tools.common import limits
 from crashfs_tools.common.program import Crashfs
-from crashfs_tools.reading import ReadingFault, StateList, make_plan, parse_trace
+from crashfs_tools.reading import ReadingFault, StatePlan, make_plan, parse_trace
 from crashfs_tools.reading.every import every_set
 from crashfs_tools.reading.order import Order
 
@@ -43,7 +43,7 @@ def wanted_trials(text: str) -> Set[Tuple[object, int]]:
     lines are acknowledged."""
     reading = parse_trace(text.encode())
     order = Order(reading).with_earlier_lines(reading)
-    trees = StateList(reading).trees
+    trees = StatePlan(reading).trees
     return {(trees.digest(one), trees.count_says(one)) for one in every_set(order)}
 
 
@@ -61,7 +61,7 @@ class Listing(InFolder):
 
     def trials(self, text: str, planned: PlannedTrace) -> List[Tuple[object, int]]:
         """What is tried of a plan, once for each trial."""
-        trees = StateList(parse_trace(text.encode())).trees
+        trees = StatePlan(parse_trace(text.encode())).trees
         firsts: Dict[Trial, int] = {}
         for state in planned.plan.states:
             firsts.setdefault(state.trial, state.number)
@@ -111,7 +111,7 @@ class AllListed(Listing):
         self.assertGreater(len(planned.parts), 1)
         program, trees = (
             Crashfs(FAKE, is_unproved=True),
-            StateList(parse_trace(text.encode())).trees,
+            StatePlan(parse_trace(text.encode())).trees,
         )
         found = {}
         for request in planned.requests(one.number for one in planned.plan.listed):

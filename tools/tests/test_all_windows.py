@@ -14,7 +14,7 @@ from crashfs_tools.checker.states.plan import AllStates
 from crashfs_tools.checker.states.planning import Planner
 from crashfs_tools.checker.states.steps import Session
 from crashfs_tools.checker.states.windows import Windows, with_probe
-from crashfs_tools.reading import ReadingFault, StateList, parse_trace
+from crashfs_tools.reading import ReadingFault, StatePlan, parse_trace
 from crashfs_tools.reading.order import Order
 
 from .random_traces import RandomTrace
@@ -58,7 +58,7 @@ class Pending(unittest.TestCase):
             lines = text.splitlines()[: None if text == renamed else -1]
             while lines and lines[-1].startswith('{"op"'):
                 reading = parse_trace(with_probe('\n'.join(lines) + '\n').encode())
-                order, says = Order(reading), StateList(reading).trees.says
+                order, says = Order(reading), StatePlan(reading).trees.says
                 last = order.count - 1
                 needed = order.needs[last] | says
                 self.assertEqual(order.pending_set(last) & ~says, (1 << last) - 1 & ~needed)
@@ -80,7 +80,7 @@ class AllWindows(InFolder):
         guard: Any = SimpleNamespace(directory=self.temporary, environment=None)
         program: Any = Reader()
         windows = Windows(Planner(options, program, guard), Session('w', text), size)
-        trees = StateList(parse_trace(text.encode())).trees
+        trees = StatePlan(parse_trace(text.encode())).trees
         count, found = 0, set()
         self.unlisted = 0
         self.sizes: List[int] = []

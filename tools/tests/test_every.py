@@ -7,7 +7,7 @@ import unittest
 from itertools import product
 from typing import Dict, List, Tuple
 
-from crashfs_tools.reading import StateList, ReadingFault, Reading, make_plan, parse_trace
+from crashfs_tools.reading import StatePlan, ReadingFault, Reading, make_plan, parse_trace
 from crashfs_tools.reading.classes import SetClasses
 from crashfs_tools.reading.every import count_sets, drawn_sets, every_set
 from crashfs_tools.reading.order import Order
@@ -81,7 +81,7 @@ def by_hand(reading: Reading, order: Order) -> List[int]:
     return [places for places in sets if order.is_allowed(places)]
 
 
-def first_of_each(plan: StateList, sets: List[int]) -> List[int]:
+def first_of_each(plan: StatePlan, sets: List[int]) -> List[int]:
     """The sets with whose states no earlier one agrees, by the trees of all."""
     seen: Dict[Tuple[int, object], int] = {}
     for places in sets:

@@ -13,7 +13,7 @@ from crashfs_tools.checker.states.plan import PlannedTrace, PlanError, SetProfil
 from crashfs_tools.checker.states.planning import Planner
 from crashfs_tools.checker.states.read_plan import read_plan
 from crashfs_tools.common.command import Refused
-from crashfs_tools.reading import StateList, parse_trace
+from crashfs_tools.reading import StatePlan, parse_trace
 from crashfs_tools.reading.every import every_set
 from crashfs_tools.reading.order import order_under, profile_names
 
@@ -34,7 +34,7 @@ TreeAndCount = Tuple[object, int]
 def allowed_trees(text: str) -> Dict[TreeAndCount, Set[str]]:
     """The profiles of each tree and number of lines, by all sets."""
     reading = parse_trace(text.encode())
-    trees = StateList(reading).trees
+    trees = StatePlan(reading).trees
     found: Dict[TreeAndCount, Set[str]] = {}
     for name in profile_names(reading):
         order = order_under(reading, name)
@@ -57,7 +57,7 @@ class Planning(InFolder):
         return self.planner(profile, program or Reader()).plan(self.write('a.trace', text))
 
     def trees_of(self, text: str, planned: PlannedTrace) -> Dict[TreeAndCount, Set[str]]:
-        trees, plan = StateList(parse_trace(text.encode())).trees, planned.plan
+        trees, plan = StatePlan(parse_trace(text.encode())).trees, planned.plan
         return {
             (trees.digest(plan.kept[one.number]), one.says): set(plan.profile_names_of(one))
             for one in plan.states

@@ -8,7 +8,7 @@ is no program, and the tests compare the two.
 from __future__ import annotations
 
 from .faults import ReadingFault
-from .plan import StateList, make_plan
+from .plan import StatePlan, make_plan
 from .trace import Reading, parse_trace
 
-__all__ = ['Reading', 'ReadingFault', 'StateList', 'make_plan', 'parse_trace']
+__all__ = ['Reading', 'ReadingFault', 'StatePlan', 'make_plan', 'parse_trace']

@@ -8,7 +8,7 @@ from io import BytesIO
 from typing import BinaryIO, Dict, List, Optional
 
 from .data import Data
-from .plan import StateList
+from .plan import StatePlan
 from .sparse import Extent, data_extents, extent_map, has_many_zeros
 from .states import Item
 
@@ -21,7 +21,7 @@ class ArchiveWriter:
     method that writes raises an OSError of the stream, and IndexError if it gets a number that no
     state of the plan has."""
 
-    def __init__(self, plan: StateList, stream: BinaryIO, *, is_sparse: bool = False) -> None:
+    def __init__(self, plan: StatePlan, stream: BinaryIO, *, is_sparse: bool = False) -> None:
         """Writes nothing yet."""
         self.plan = plan
         self.is_sparse = is_sparse

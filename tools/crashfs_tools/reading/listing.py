@@ -9,12 +9,12 @@ from typing import Any, Dict, Iterator
 from .micro import MicroOperation
 from .order import Profiles
 from .place_sets import places_of
-from .plan import StateList
+from .plan import StatePlan
 from .states import Digest
 
 
 def plain_listing(
-    plan: StateList, *, has_lines: bool = False, has_same: bool = False
+    plan: StatePlan, *, has_lines: bool = False, has_same: bool = False
 ) -> Iterator[str]:
     """The lines that `list` prints of a plan: one for each micro-operation, then one for each
     state. With has_lines a micro-operation has what --lines adds. With has_same a state has the
@@ -24,7 +24,7 @@ def plain_listing(
     yield from plain_state_lines(plan, has_same=has_same)
 
 
-def plain_state_lines(plan: StateList, *, has_same: bool) -> Iterator[str]:
+def plain_state_lines(plan: StatePlan, *, has_same: bool) -> Iterator[str]:
     """The lines of plain_listing() for the states."""
     same_texts = map(' same {}'.format, first_equal_states(plan)) if has_same else repeat('')
     for number, (state, same_text) in enumerate(zip(plan.states, same_texts)):
@@ -39,7 +39,7 @@ def origin_text(operation: MicroOperation) -> str:
     return f' line {operation.line_number}{path_text}'
 
 
-def first_equal_states(plan: StateList) -> Iterator[int]:
+def first_equal_states(plan: StatePlan) -> Iterator[int]:
     """For each state of a plan the number of the first state that has an equal tree, which may be
     its own. How many lines are acknowledged doesn't count."""
     first_states: Dict[Digest, int] = {}
@@ -47,13 +47,13 @@ def first_equal_states(plan: StateList) -> Iterator[int]:
         yield first_states.setdefault(plan.trees.digest(state.place_set), number)
 
 
-def json_listing(plan: StateList) -> Iterator[str]:
+def json_listing(plan: StatePlan) -> Iterator[str]:
     """The lines that `list --json` prints of a plan: one for each micro-operation, then one for
     each state."""
     return map(json_line, chain(operation_objects(plan), state_objects(plan)))
 
 
-def operation_objects(plan: StateList) -> Iterator[Dict[str, Any]]:
+def operation_objects(plan: StatePlan) -> Iterator[Dict[str, Any]]:
     """The fields of each micro-operation in `list --json`. `needs` has the places of those that it
     needs, and its own."""
     for place, operation in enumerate(plan.reading.operations):
@@ -66,7 +66,7 @@ def operation_objects(plan: StateList) -> Iterator[Dict[str, Any]]:
         }
 
 
-def state_objects(plan: StateList) -> Iterator[Dict[str, Any]]:
+def state_objects(plan: StatePlan) -> Iterator[Dict[str, Any]]:
     """The fields of each state in `list --json`, with the profiles that allow its set, and the
     first state that has an equal tree."""
     profiles = Profiles(plan.reading)

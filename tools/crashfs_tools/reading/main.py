@@ -9,7 +9,7 @@ from typing import List
 from .faults import ReadingFault
 from .listing import json_listing, plain_listing
 from .picking import Options, UsageFault, is_number_text, picks_lines, refuse_options
-from .plan import StateList, add_families, make_plan, read_picks
+from .plan import StatePlan, add_families, make_plan, read_picks
 from .trace import parse_trace
 
 FLAGS = {
@@ -121,7 +121,7 @@ def read_file(path: str) -> bytes:
         raise ReadingFault(f'{path}: cannot read') from error
 
 
-def write_archive(plan: StateList, options: Options) -> None:
+def write_archive(plan: StatePlan, options: Options) -> None:
     """Writes the archive that the options of `tar` ask for to standard output. Errors as
     state_numbers(), before anything is written. An OSError of standard output is raised."""
     # `list` begins faster without tarfile.
@@ -137,7 +137,7 @@ def write_archive(plan: StateList, options: Options) -> None:
             archive.write_states(numbers)
 
 
-def state_numbers(plan: StateList, options: Options) -> List[int]:
+def state_numbers(plan: StatePlan, options: Options) -> List[int]:
     """The numbers of the states that --state or, without that, --states names, in the order of its
     list; a number may come twice. ReadingFault if the plan has no such state. UsageFault if the
     text is no number or list, or if neither option is given."""

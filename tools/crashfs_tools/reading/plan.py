@@ -33,9 +33,9 @@ class PlannedState(NamedTuple):
         return ' '.join([kind, *map(str, numbers)])
 
 
-class StateList:
-    """The states of a plan, by their numbers; at first none. `order` and `trees` are those of the
-    trace, under its own profile."""
+class StatePlan:
+    """A plan: the states that are tried, by their numbers; at first none. `order` and `trees` are
+    those of the trace, under its own profile."""
 
     def __init__(self, reading: Reading) -> None:
         self.reading = reading
@@ -87,11 +87,11 @@ class StateList:
 
 def make_plan(
     reading: Reading, *, has_holes: bool = False, picks: Sequence[Sequence[int]] = ()
-) -> StateList:
+) -> StatePlan:
     """A plan of the prefixes, the holes if has_holes is set, and the picks, in this order; a set
     may come several times. ReadingFault if there are too many states, or else as
     refuse_bad_pick()."""
-    plan = StateList(reading)
+    plan = StatePlan(reading)
     plan.add_prefixes()
     if has_holes:
         plan.add_holes()
@@ -103,7 +103,7 @@ def make_plan(
     return plan
 
 
-def add_families(plan: StateList, *, has_lost: bool, has_files: bool) -> None:
+def add_families(plan: StatePlan, *, has_lost: bool, has_files: bool) -> None:
     """Adds the sets of the families --lost and --files to a plan, as picks, in this order. Each set
     is added once, and only if the plan lacks it. ReadingFault if the plan is full; the sets added
     before stay."""
