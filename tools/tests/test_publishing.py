@@ -12,7 +12,7 @@ from contextlib import contextmanager
 from typing import IO, Iterator, Tuple
 
 from crashfs_tools.common.program import Crashfs
-from measuring.client import Client, Refused, write_request
+from measuring.client import Client, ServerRefused, write_request
 
 from .support import PATIENCE, InFolder, needed
 
@@ -41,7 +41,7 @@ def attached(client: Client, fid: int, name: str) -> None:
     while True:
         try:
             return client.attach(fid, name)
-        except Refused as refused:
+        except ServerRefused as refused:
             if str(refused) != 'A4 state not published' or time.monotonic() > end:
                 raise
 
@@ -108,7 +108,7 @@ class Publishing(InFolder):
             attached(client, 0, '0/x')
             client.open(0, 1, 'f')
             client.ask(write_request(1, b'HI'))
-            with self.assertRaisesRegex(Refused, '^A4 state not published$'):
+            with self.assertRaisesRegex(ServerRefused, '^A4 state not published$'):
                 client.attach(2, f'{LAST}/x')
             termios.tcflow(terminal, termios.TCOON)
             self.assertRegex(line(printed), rb'^published \d+ of 1276\r\n')
