@@ -1,5 +1,5 @@
 -- What is kept of a list of sets.
-use Rattle.std.proofs.Common.{◌≡◌, ℕ, ◌+◌, ◌<◌, ◌≤◌, ◌||◌, Bool, true, false, cond, List, [], ◌∷◌, ◌++◌, refl, sym, ap, ◌∙◌, arith, ⊎_elim}
+use Rattle.std.proofs.Common.{◌≡◌, ℕ, ◌+◌, ◌<◌, ◌≤◌, ◌||◌, not, Bool, true, false, cond, List, [], ◌∷◌, ◌++◌, refl, sym, ap, ◌∙◌, arith, ⊎_elim}
 use Rattle.std.proofs.Common.{fold, get_or, length, length-append, map, subst, take, drop}
 use Rattle.std.proofs.lemmas.Bool.{cases_Bool}
 use Rattle.std.proofs.lemmas.List.{length-map, map_more, take-append-drop}
@@ -16,7 +16,7 @@ any_mapped : {X Y : Type 0} (p : Y → Bool) (f : X → Y) (xs : List X) → lis
 any_mapped p f [] = refl
 any_mapped p f (x ∷ xs) = ap (λ b. p (f x) || b) (any_mapped p f xs)
 
-map_push : {X Y : Type 0} (f : X → Y) (xs : List X) (x : X) → map f (xs ++ x ∷ []) ≡ map f xs ++ f x ∷ []
+pub map_push : {X Y : Type 0} (f : X → Y) (xs : List X) (x : X) → map f (xs ++ x ∷ []) ≡ map f xs ++ f x ∷ []
 map_push f [] x = refl
 map_push f (y ∷ xs) x = ap (λ v. f y ∷ v) (map_push f xs x)
 
@@ -37,6 +37,13 @@ module _ (s : Scene) (kept slice : List Found) where
       ∙ sym (ap (λ b. cond b (sets_of kept) (sets_of kept ++ places_of found.set ∷ []))
       (any_mapped (λ y. leave_same s y (places_of found.set)) (λ (f : Found). places_of f.set) kept
       ∙ ap (list_any (λ (f : Found). leave_same s (places_of f.set) (places_of found.set))) (sym same) ∙ sym is ∙ f))
+
+  pub kept_told : (places : List ℕ) (met new : Bool) → slice ≡ kept
+      → met ≡ list_any (λ f. leave_same s (places_of f.set) places) slice → new ≡ not met
+      → new ≡ not (list_any (λ y. leave_same s y places) (sets_of kept))
+  kept_told places met new same is told =
+      told ∙ ap not (is ∙ ap (list_any (λ (f : Found). leave_same s (places_of f.set) places)) same
+      ∙ sym (any_mapped (λ y. leave_same s y places) (λ (f : Found). places_of f.set) kept))
 
 -- ---- one set after the other
 
@@ -73,10 +80,10 @@ fewer_before like rows k =
     let g = grows like (map places_of (drop k rows)) (firsts like (map places_of (take k rows))) in
     omega (arith, e, f, g)
 
-pub more_found : (like : List ℕ → List ℕ → Bool) (rows : List Row) (kept : List Found) (k most : ℕ)
-    → sets_of kept ≡ firsts like (map places_of (take k rows)) → most < length kept → most < length (firsts like (map places_of rows))
+pub more_found : (like : List ℕ → List ℕ → Bool) (rows kept : List Row) (k most : ℕ)
+    → map places_of kept ≡ firsts like (map places_of (take k rows)) → most < length kept → most < length (firsts like (map places_of rows))
 more_found like rows kept k most e low =
-    let long = length-map kept (λ (f : Found). places_of f.set) in
+    let long = length-map kept places_of in
     let same = ap length e in
     let fewer = fewer_before like rows k in
     omega (arith, long, same, fewer, low)

@@ -1,27 +1,31 @@
 -- Levels of classes lead to the different members.
 use Rattle.std.proofs.Common.{◌≡◌, ℕ, zero, suc, ◌+◌, ◌-◌, ◌<◌, ◌≤◌, ◌==◌, ◌&&◌, ◌||◌, not, Bool, true, false, cond}
 use Rattle.std.proofs.Common.{List, [], ◌∷◌, ◌++◌, refl, sym, ap, ◌∙◌, arith, ⊎_elim, length, get_or, subst, subst₂}
-use Rattle.std.proofs.Common.{fold, map, take, append_assoc}
-use Rattle.std.proofs.lemmas.Bool.{cases_Bool, and_parts, and_from, or_left, or_right, eq-eqb, ne_eqb}
-use Rattle.std.proofs.lemmas.List.{append-nil, take_more}
+use Rattle.std.proofs.Common.{fold, map}
+use Rattle.std.proofs.Common.{None, Option, Some}
+use Rattle.std.proofs.lemmas.Bool.{cases_Bool, cases_eq, cases_lt, and_parts, and_from, or_from, or_left, or_right, eq-eqb, ne_eqb}
+use Rattle.std.proofs.lemmas.Bool.{false≢true, not-false, not-true}
+use Rattle.std.proofs.lemmas.Bool.Decides.{Decides-eqb}
+use Rattle.std.proofs.lemmas.List.{append-nil}
 use Rattle.std.proofs.lemmas.List.Concat.{flat_map-append, flat_map_single}
-use Rattle.std.proofs.lemmas.List.Elements.{All-head, All-tail, All-push, Contains-append_cases, filter-append}
+use Rattle.std.proofs.lemmas.List.Elements.{All-head, All-nil, All-tail, All-push, Contains-append_cases, filter-append}
 use Rattle.std.proofs.lemmas.List.Folds.{list_any-append}
 use Rattle.std.proofs.lemmas.List.Sums.{fold_push}
-use Rattle.std.proofs.lemmas.Map.Lookups.{CmpEqualImpliesEq, exact_pairs, exact_bytes}
-use Rattle.std.proofs.lemmas.Map.Views.{tells_apart}
+use Rattle.std.proofs.lemmas.Slice.Eq.{slice_eq-Decides}
 use Rattle.std.specs.BTreeMap.{is_at}
-use Rattle.std.specs.Ordering.{nat_cmp}
-use Rattle.cs_different.specs.declared.classes.Key.{Key}
-use Rattle.std.specs.Cmp.Lexicographic.{slice_cmp}
+use Rattle.std.specs.Cmp.{nat_cmp_is}
+use Rattle.std.specs.Option.{is_some}
+use Rattle.std.specs.Ordering.{is_eq, nat_cmp}
+use Rattle.std.specs.declared.cmp.Ordering.TheVariants.{Equal}
+use Rattle.cs_sets.specs.declared.row.Row.{Row}
 use Rattle.std.specs.List.{All, Contains, filter, flat_map, list_any, range_with_len}
 use Rattle.cs_different.specs.declared.classes.Class.{Class}
 use Rattle.cs_sets.specs.Bits.{has_place}
 use Rattle.cs_sets.specs.Every.{may, choices, extending, lacking}
 use Rattle.cs_sets.specs.Different.{IsLike, add_first, different, firsts, leave_alike, state_of, same_future, one_class}
-use Rattle.cs_different.specs.Classing.{AreMet, IsClass, Leads, extensions, key_cmp, key_of, members_at, one_key}
+use Rattle.cs_different.specs.Classing.{AreGrown, AreMet, IsClass, Leads, digest_of_row, extensions, members_at, one_key}
 use Rattle.cs_sets.specs.Laws.Lists.{range_more}
-use Rattle.cs_sets.specs.Laws.Counts.{below_more, below_push, every_is, extending_with, extending_without, future_with, future_without}
+use Rattle.cs_sets.specs.Laws.Counts.{below_more, below_push, extending_with, extending_without, future_with, future_without}
 use Rattle.cs_sets.specs.Chains.{IsBackward}
 use Rattle.cs_sets.specs.Sets.{IsAllowed}
 use Rattle.cs_sets.specs.Laws.Complete.{joins, no_places, stays}
@@ -84,29 +88,66 @@ module _ {S : Type 0} (same : S → S → Bool) (act : S → ℕ → S) (start :
 
 -- ---- keys
 
--- keys that compare alike are one
-exact_keys : CmpEqualImpliesEq key_cmp
-exact_keys a b h =
-    ap (λ (p : List ℕ × List ℕ). (let k : Key = record { seen = record { words = p.0 }; left = record { words = p.1 } } in k))
-    (exact_pairs (slice_cmp nat_cmp) (slice_cmp nat_cmp) exact_bytes exact_bytes (a.seen.words, a.left.words) (b.seen.words, b.left.words)
-    h)
+-- classes of one key have the same in common
+same_key : (a b : Class) → one_key a b ≡ true → a.common ≡ b.common
+same_key a b t =
+    ap (λ (w : List ℕ). (let r : Row = record { words = w } in r))
+    ((slice_eq-Decides Decides-eqb a.common.words b.common.words (one_key a b) refl).0 t)
 
-same_key : (a b : Class) → one_key a b ≡ true → key_of a ≡ key_of b
-same_key a b t = tells_apart exact_keys (key_of a) (key_of b) t
+none_met : (end : ℕ) (index : ℕ → Option ℕ) (kept : List Class) (class : Class) → AreMet end index kept
+    → index (digest_of_row end class.common) ≡ None → list_any (λ y. one_key y class) kept ≡ false
+none_met end index [] class met none = refl
+none_met end index (y ∷ kept) class met none =
+    or_from (one_key y class) (list_any (λ z. one_key z class) kept)
+    (⊎_elim
+    (λ (t : one_key y class ≡ true). absurd (false≢true
+    (sym (ap is_some none) ∙ ap (λ r. is_some (index (digest_of_row end r))) (sym (same_key y class t))
+    ∙ All-head (λ z. is_some (index (digest_of_row end z.common)) ≡ true) y kept met)))
+    (λ (f : one_key y class ≡ false). f)
+    (cases_Bool (one_key y class)))
+    (none_met end index kept class (All-tail (λ z. is_some (index (digest_of_row end z.common)) ≡ true) y kept met) none)
 
--- one key more
-pub met_more : (has now : Key → Bool) (kept : List Class) (class : Class) → AreMet has kept
-    → ((q : Key) → now q ≡ cond (is_at (key_cmp (key_of class)) q) true (has q)) → AreMet now (kept ++ class ∷ [])
-met_more has now kept class met is q =
-    is q ∙ ap (cond (is_at (key_cmp (key_of class)) q) true) (met q)
-    ∙ turn (is_at (key_cmp (key_of class)) q) (list_any (λ y. is_at (key_cmp (key_of y)) q) kept)
-    ∙ sym (list_any-append (λ y. is_at (key_cmp (key_of y)) q) kept (class ∷ []))
+-- a class without a digest in the table is new
+pub new_class : (end : ℕ) (index : ℕ → Option ℕ) (kept : List Class) (class : Class) → AreMet end index kept
+    → index (digest_of_row end class.common) ≡ None → true ≡ not (list_any (λ y. one_key y class) kept)
+new_class end index kept class met none = sym (ap not (none_met end index kept class met none))
+
+pub any_at : (kept : List Class) (class : Class) (i : ℕ) (d : Class) → i < length kept → one_key (get_or kept i d) class ≡ true
+    → list_any (λ y. one_key y class) kept ≡ true
+any_at [] class i d low t = absurd (omega (arith, low))
+any_at (y ∷ kept) class zero d low t = or_left (one_key y class) (list_any (λ z. one_key z class) kept) t
+any_at (y ∷ kept) class (suc i) d low t =
+    or_right (one_key y class) (list_any (λ z. one_key z class) kept) (any_at kept class i d (omega (arith, low)) t)
+
+-- what is kept after one class more
+pub kept_met : (kept : List Class) (class : Class) (new : Bool) → new ≡ not (list_any (λ y. one_key y class) kept) → new ≡ false
+    → kept ≡ add_first one_key kept class
+kept_met kept class new is f =
+    sym (ap (λ b. cond b kept (kept ++ class ∷ [])) (not-false (list_any (λ y. one_key y class) kept) (sym is ∙ f)))
+
+pub kept_new : (kept : List Class) (class : Class) (new : Bool) → new ≡ not (list_any (λ y. one_key y class) kept) → new ≡ true
+    → kept ++ class ∷ [] ≡ add_first one_key kept class
+kept_new kept class new is t =
+    sym (ap (λ b. cond b kept (kept ++ class ∷ [])) (not-true (list_any (λ y. one_key y class) kept) (sym is ∙ t)))
+
+-- one digest more
+pub met_more : (end : ℕ) (index now : ℕ → Option ℕ) (kept : List Class) (class : Class) (i : ℕ) → AreMet end index kept
+    → ((q : ℕ) → now q ≡ cond (is_at (nat_cmp (digest_of_row end class.common)) q) (Some i) (index q))
+    → AreMet end now (kept ++ class ∷ [])
+met_more end index now kept class i met is =
+    All-push (λ y. is_some (now (digest_of_row end y.common)) ≡ true) kept class
+    (λ k d low. still (digest_of_row end (get_or kept k d).common) (met k d low))
+    (ap is_some (is (digest_of_row end class.common))
+    ∙ ap (λ b. is_some (cond b (Some i) (index (digest_of_row end class.common)))) (at_itself (digest_of_row end class.common)))
   where
-    turn : (a b : Bool) → cond a true b ≡ (b || (a || false))
-    turn true true = refl
-    turn true false = refl
-    turn false true = refl
-    turn false false = refl
+    still : (q : ℕ) → is_some (index q) ≡ true → is_some (now q) ≡ true
+    still q t = ap is_some (is q) ∙ ⊎_elim
+        (λ (at : is_at (nat_cmp (digest_of_row end class.common)) q ≡ true). ap (λ b. is_some (cond b (Some i) (index q))) at)
+        (λ (off : is_at (nat_cmp (digest_of_row end class.common)) q ≡ false). ap (λ b. is_some (cond b (Some i) (index q))) off ∙ t)
+        (cases_Bool (is_at (nat_cmp (digest_of_row end class.common)) q))
+
+    at_itself : (q : ℕ) → is_at (nat_cmp q) q ≡ true
+    at_itself q = ap is_eq (sym (nat_cmp_is q q Equal refl))
 
 -- ---- classes in bits
 
@@ -123,13 +164,14 @@ module _ (act : (ℕ → Bool) → ℕ → ℕ → Bool) (start : ℕ → Bool) 
     key_is_class : (k : ℕ) (a b : Class) → IsClass act start needs n k a → IsClass act start needs n k b → one_key a b ≡ true
         → one_class (same_seen n) act start needs n k (members_at k a) (members_at k b) ≡ true
     key_is_class k a b ia ib t =
-        let keys = same_key a b t in
-        let seen : a.seen ≡ b.seen = ap (λ q. q.seen) keys in
-        let rows : a.left ≡ b.left = ap (λ q. q.left) keys in
+        let rows : a.common ≡ b.common = same_key a b t in
         and_from (same_seen n (state_of act start (members_at k a)) (state_of act start (members_at k b)))
         (same_future needs n k (members_at k a) (members_at k b))
         (seen_from n (state_of act start (members_at k a)) (state_of act start (members_at k b))
-        (λ i low. sym (ia.seen i) ∙ ap (λ r. has_place r i) seen ∙ ib.seen i))
+        (λ i low. ⊎_elim
+        (λ (l : i < k). sym (ia.seen i l) ∙ ap (λ r. has_place r i) rows ∙ ib.seen i l)
+        (λ (h : k ≤ i). ia.unseen i h ∙ sym (ib.unseen i h))
+        (cases_lt i k)))
         (future_from needs n k (members_at k a) (members_at k b)
         (λ j l u. sym (ia.at.future j l u) ∙ ap (λ r. has_place r j) rows ∙ ib.at.future j l u))
 
@@ -162,43 +204,65 @@ module _ (act : (ℕ → Bool) → ℕ → ℕ → Bool) (start : ℕ → Bool) 
 
   module _ (k : ℕ) (low : k < n) (class : Class) (ic : IsClass act start needs n k class) (out : Class)
       (members : (j : ℕ) → has_place out.members j ≡ has_place class.members j)
-      (left : (j : ℕ) → has_place out.left j ≡ (lacking needs k (has_place class.left) j && not (j == k)))
-      (seen : out.seen ≡ class.seen) where
+      (common : (j : ℕ) → has_place out.common j ≡ (lacking needs k (has_place class.common) j && not (j == k))) where
     without_members : members_at (k + 1) out ≡ members_at k class
     without_members =
         members_more k out ∙ ap (λ b. members_at k out ++ cond b (k ∷ []) []) (members k ∙ ic.none_later k (omega arith))
         ∙ append-nil (members_at k out) ∙ filter_below (has_place out.members) (has_place class.members) 0 k (λ i l. members i)
 
+    and_true : (b : Bool) → (b && true) ≡ b
+    and_true true = refl
+    and_true false = refl
+
+    and_false : (b : Bool) → (b && false) ≡ false
+    and_false true = refl
+    and_false false = refl
+
+    -- nothing before the place needs it
+    needed_not : (i : ℕ) → i < k → needs k i ≡ false
+    needed_not i l = ⊎_elim
+        (λ (t : needs k i ≡ true). (let after = back k i t in absurd (omega (arith, l, after))))
+        (λ (f : needs k i ≡ false). f)
+        (cases_Bool (needs k i))
+
+    without_seen : (i : ℕ) → i < k + 1 → has_place out.common i ≡ state_of act start (members_at k class) i
+    without_seen i l = ⊎_elim
+        (λ (e : i ≡ k). common i ∙ ap (λ b. lacking needs k (has_place class.common) i && not b) (eq-eqb i k e)
+        ∙ and_false (lacking needs k (has_place class.common) i) ∙ sym (ic.unseen i (omega (arith, e))))
+        (λ (ne : i ≡ k → ⊥). (let below : i < k = omega (arith, l, ne) in
+        common i ∙ ap (λ b. has_place class.common i && not b && not (i == k)) (needed_not i below)
+        ∙ ap (λ b. has_place class.common i && true && not b) (ne_eqb i k ne)
+        ∙ and_true (has_place class.common i && true) ∙ and_true (has_place class.common i) ∙ ic.seen i below))
+        (cases_eq i k)
+
     pub without_is : IsClass act start needs n (k + 1) out
     without_is = record {
-      seen = λ i. ap (λ r. has_place r i) seen ∙ ic.seen i ∙ ap (λ v. state_of act start v i) (sym without_members);
+      seen = λ i l. without_seen i l ∙ ap (λ v. state_of act start v i) (sym without_members);
+      unseen = λ i l. ap (λ v. state_of act start v i) without_members ∙ ic.unseen i (omega (arith, l));
       allowed = subst₂ (IsAllowed needs) (add-one' k) (sym without_members) (stays needs back k (members_at k class) ic.allowed);
-      at = subst (λ v. IsAt needs n (k + 1) v (has_place out.left)) (sym without_members) (record {
+      at = subst (λ v. IsAt needs n (k + 1) v (has_place out.common)) (sym without_members) (record {
         below = below_more k (members_at k class) ic.at.below;
-        future = λ j l u. left j
-            ∙ ap (λ b. lacking needs k (has_place class.left) j && not b) (ne_eqb j k (λ e. omega (arith, l, e)))
-            ∙ and_true (lacking needs k (has_place class.left) j)
-            ∙ future_without needs n k (members_at k class) (has_place class.left) ic.at.below ic.at.future j l u;
+        future = λ j l u. common j
+            ∙ ap (λ b. lacking needs k (has_place class.common) j && not b) (ne_eqb j k (λ e. omega (arith, l, e)))
+            ∙ and_true (lacking needs k (has_place class.common) j)
+            ∙ future_without needs n k (members_at k class) (has_place class.common) ic.at.below ic.at.future j l u;
       });
       none_later = λ j l. members j ∙ ic.none_later j (omega (arith, l));
     }
-      where
-        and_true : (b : Bool) → (b && true) ≡ b
-        and_true true = refl
-        and_true false = refl
 
     -- the place can't be taken
-    pub one_extends : has_place class.left k ≡ false → extensions needs n (k + 1) out ≡ extensions needs n k class
+    pub one_extends : has_place class.common k ≡ false → extensions needs n (k + 1) out ≡ extensions needs n k class
     one_extends f =
         let m : n - k ≡ suc (n - (k + 1)) = omega (arith, low) in
         ap (extending needs (n - (k + 1)) (k + 1)) without_members
         ∙ sym (extending_without needs (n - (k + 1)) k (members_at k class) (sym (ic.at.future k (omega arith) low) ∙ f))
         ∙ ap (λ v. extending needs v k (members_at k class)) (sym m)
 
-    module _ (more : Class) (free : has_place class.left k ≡ true) (with_members : (j : ℕ) → has_place more.members j ≡ (j == k ||
+    module _ (more : Class) (free : has_place class.common k ≡ true) (with_members : (j : ℕ) → has_place more.members j ≡ (j == k ||
         has_place class.members j))
-        (kept : (j : ℕ) → has_place more.left j ≡ (has_place class.left j && not (j == k)))
-        (after : (i : ℕ) → has_place more.seen i ≡ act (has_place class.seen) k i) where
+        (kept : (j : ℕ) → (j ≡ k → ⊥) → has_place more.common j ≡ has_place class.common j)
+        (after : (i : ℕ) → i < k + 1 → has_place more.common i ≡ act (state_of act start (members_at k class)) k i)
+        (later : (i : ℕ) → k + 1 ≤ i → act (state_of act start (members_at k class)) k i ≡ false) where
       members_with : members_at (k + 1) more ≡ members_at k class ++ k ∷ []
       members_with =
           members_more k more
@@ -207,29 +271,23 @@ module _ (act : (ℕ → Bool) → ℕ → ℕ → Bool) (start : ℕ → Bool) 
           ∙ ap (λ v. v ++ k ∷ []) (filter_below (has_place more.members) (has_place class.members) 0 k
           (λ i l. with_members i ∙ ap (λ b. b || has_place class.members i) (ne_eqb i k (λ e. omega (arith, l, e)))))
 
+      with_state : (i : ℕ) → state_of act start (members_at (k + 1) more) i ≡ act (state_of act start (members_at k class)) k i
+      with_state i = ap (λ v. state_of act start v i) members_with ∙ ap (λ s. s i) (fold_push act start (members_at k class) k)
+
       pub with_is : IsClass act start needs n (k + 1) more
       with_is = record {
-        seen = λ i. after i ∙ ap (λ s. act s k i) before ∙ ap (λ s. s i) (sym (fold_push act start (members_at k class) k))
-            ∙ ap (λ v. state_of act start v i) (sym members_with);
+        seen = λ i l. after i l ∙ sym (with_state i);
+        unseen = λ i l. with_state i ∙ later i l;
         allowed = subst₂ (IsAllowed needs) (add-one' k) (sym members_with)
             (joins needs back k (members_at k class) ic.allowed (sym (ic.at.future k (omega arith) low) ∙ free));
-        at = subst (λ v. IsAt needs n (k + 1) v (has_place more.left)) (sym members_with) (record {
+        at = subst (λ v. IsAt needs n (k + 1) v (has_place more.common)) (sym members_with) (record {
           below = below_push k (members_at k class) ic.at.below;
-          future = λ j l u. kept j
-              ∙ ap (λ b. has_place class.left j && not b) (ne_eqb j k (λ e. omega (arith, l, e)))
-              ∙ and_true (has_place class.left j)
-              ∙ future_with needs n k (members_at k class) (has_place class.left) ic.at.future j l u;
+          future = λ j l u. kept j (λ e. omega (arith, l, e))
+              ∙ future_with needs n k (members_at k class) (has_place class.common) ic.at.future j l u;
         });
         none_later = λ j l. with_members j ∙ ap (λ b. b || has_place class.members j) (ne_eqb j k (λ e. omega (arith, l, e)))
             ∙ ic.none_later j (omega (arith, l));
       }
-        where
-          before : has_place class.seen ≡ state_of act start (members_at k class)
-          before = λ w i. ic.seen i w
-
-          and_true : (b : Bool) → (b && true) ≡ b
-          and_true true = refl
-          and_true false = refl
 
       pub both_extend : extensions needs n (k + 1) out ++ extensions needs n (k + 1) more ≡ extensions needs n k class
       both_extend =
@@ -242,19 +300,15 @@ module _ (act : (ℕ → Bool) → ℕ → ℕ → Bool) (start : ℕ → Bool) 
 -- ---- the first level and the last
 
 pub first_class : (act : (ℕ → Bool) → ℕ → ℕ → Bool) (start : ℕ → Bool) (needs : ℕ → ℕ → Bool) → IsBackward needs → (n : ℕ) (class : Class)
-    → ((i : ℕ) → has_place class.seen i ≡ start i)
-    → ((j : ℕ) → has_place class.members j ≡ false) → IsAt needs n 0 [] (has_place class.left) → IsClass act start needs n 0 class
-first_class act start needs back n class seen none at =
-    record { seen = seen; allowed = no_places needs back; at = at; none_later = λ j l. none j }
-
-pub first_leads : (act : (ℕ → Bool) → ℕ → ℕ → Bool) (start : ℕ → Bool) (needs : ℕ → ℕ → Bool) (n : ℕ)
-    (like : (ℕ → Bool) → (ℕ → Bool) → Bool) (class : Class) (level : List Class)
-    → level ≡ [] ++ class ∷ [] → Leads like act start needs n 0 level
-first_leads act start needs n like class level e =
-    let z : n - 0 ≡ n = omega arith in
-    ap (firsts (leave_alike like act start))
-    (ap (flat_map (extensions needs n 0)) e ∙ append-nil (extending needs (n - 0) 0 []) ∙ ap (λ m. extending needs m 0 []) z ∙ sym
-    (every_is needs n))
+    → ((i : ℕ) → start i ≡ false) → ((j : ℕ) → has_place class.members j ≡ false) → IsAt needs n 0 [] (has_place class.common)
+    → IsClass act start needs n 0 class
+first_class act start needs back n class unseen none at = record {
+  seen = λ i l. absurd (omega (arith, l));
+  unseen = λ i l. unseen i;
+  allowed = no_places needs back;
+  at = at;
+  none_later = λ j l. none j;
+}
 
 pub grown_leads : (act : (ℕ → Bool) → ℕ → ℕ → Bool) (start : ℕ → Bool) (needs : ℕ → ℕ → Bool) (n : ℕ)
     (like : (ℕ → Bool) → (ℕ → Bool) → Bool) (k : ℕ) (level next : List Class)
@@ -286,21 +340,24 @@ firsts_all P like (x ∷ xs) kept all h = ⊎_elim
     (firsts_all P like xs (kept ++ x ∷ []) (All-tail P x xs all) (All-push P kept x h (All-head P x xs all))))
     (cases_Bool (list_any (λ y. like y x) kept))
 
-pub firsts_more : {X : Type 0} (like : X → X → Bool) (xs : List X) (i : ℕ) (d : X) → i < length xs
-    → firsts like (take (i + 1) xs) ≡ add_first like (firsts like (take i xs)) (get_or xs i d)
-firsts_more like xs i d low = ap (firsts like) (take_more xs i d low) ∙ fold_push (add_first like) [] (take i xs) (get_or xs i d)
+-- one class more is made, and kept if it is the first of its key
+pub grown_more : (act : (ℕ → Bool) → ℕ → ℕ → Bool) (start : ℕ → Bool) (needs : ℕ → ℕ → Bool) (n k : ℕ) (sets : List (List ℕ))
+    (kept now : List Class) (class : Class) → now ≡ add_first one_key kept class → IsClass act start needs n k class
+    → AreGrown act start needs n k sets kept → AreGrown act start needs n k (sets ++ extensions needs n k class) now
+grown_more act start needs n k sets kept now class is right grown = record {
+  made = grown.made ++ class ∷ [];
+  of_each = is ∙ ap (λ v. add_first one_key v class) grown.of_each ∙ sym (fold_push (add_first one_key) [] grown.made class);
+  are = All-push (IsClass act start needs n k) grown.made class grown.are right;
+  extend = flat_map-append (extensions needs n k) grown.made (class ∷ [])
+      ∙ ap (λ v. flat_map (extensions needs n k) grown.made ++ v) (append-nil (extensions needs n k class))
+      ∙ ap (λ v. v ++ extensions needs n k class) grown.extend;
+}
 
--- ---- pushes
+pub none_grown : (act : (ℕ → Bool) → ℕ → ℕ → Bool) (start : ℕ → Bool) (needs : ℕ → ℕ → Bool) (n k : ℕ) (kept : List Class) → kept ≡ []
+    → AreGrown act start needs n k [] kept
+none_grown act start needs n k kept none =
+    record { made = []; of_each = none; are = All-nil (IsClass act start needs n k); extend = refl }
 
-pub flat_pushed : {X Y : Type 0} (f : X → List Y) (old new : List X) (x : X) (rest : List Y) → new ≡ old ++ x ∷ [] → f x ≡ rest
-    → flat_map f new ≡ flat_map f old ++ rest
-flat_pushed f old new x rest e is =
-    ap (flat_map f) e ∙ flat_map-append f old (x ∷ []) ∙ ap (λ v. flat_map f old ++ v) (append-nil (f x) ∙ is)
-
-pub flat_pushed_two : {X Y : Type 0} (f : X → List Y) (old one two : List X) (x y : X) (rest : List Y) → one ≡ old ++ x ∷ [] → two ≡ one ++
-    y ∷ []
-    → f x ++ f y ≡ rest → flat_map f two ≡ flat_map f old ++ rest
-flat_pushed_two f old one two x y rest e g is =
-    flat_pushed f one two y (f y) g refl ∙ ap (λ v. v ++ f y) (flat_pushed f old one x (f x) e refl) ∙ append_assoc (flat_map f old) (f x)
-    (f y)
-    ∙ ap (λ v. flat_map f old ++ v) is
+pub none_met_yet : (end : ℕ) (index : ℕ → Option ℕ) (kept : List Class) → kept ≡ [] → AreMet end index kept
+none_met_yet end index kept none =
+    subst (AreMet end index) (sym none) (All-nil (λ y. is_some (index (digest_of_row end y.common)) ≡ true))

@@ -10,6 +10,9 @@ pub mod Leading
 pub mod Chosen
 pub mod Alike
 pub mod Kept
+pub mod RootNames
+pub mod Shaping
+pub mod Shaped
 pub mod Gluing
 pub mod Running
 pub mod Unnamed

@@ -1,5 +1,5 @@
 -- A file that has a path is held by an entry.
-use Rattle.std.proofs.Common.{◌≡◌, ℕ, ◌⊎◌, [], ◌∷◌, Some, sym, ap, ◌∙◌, ⊎_elim}
+use Rattle.std.proofs.Common.{◌≡◌, ℕ, [], ◌∷◌, Some, sym, ap, ◌∙◌, ⊎_elim}
 use Rattle.std.specs.FinMap.{entries, get, get-from_entries}
 use Rattle.cs_tree_model.specs.Laws.Paths.{path_exact, path_total}
 use Rattle.cs_tree_model.specs.Tree.{Path}

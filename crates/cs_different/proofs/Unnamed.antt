@@ -13,7 +13,6 @@ use Rattle.cs_entries.specs.declared.node.FileKind.{FileKind}
 use Rattle.cs_entries.specs.declared.node.Node.{Node}
 use Rattle.cs_entries.specs.declared.node.Node.TheVariants.{Directory, File}
 use Rattle.cs_tree_model.specs.Maps.Changes.{get-insert_same, get-insert_other, get-remove_same, get-remove_other, key_cases}
-use Rattle.cs_trace.specs.declared.operation.Target.TheVariants as targets
 use Rattle.cs_micro.specs.declared.micro_op.MicroOp.{MicroOp}
 use Rattle.cs_micro.specs.declared.micro_op.MicroOp.TheVariants.{CreateDirEntry, DeleteDirEntry, MoveDirEntry, LinkDirEntry, ChangeFileSize}
 use Rattle.cs_micro.specs.declared.micro_op.MicroOp.TheVariants.{WriteBlock, SetAttr, Say}

@@ -1,12 +1,12 @@
 -- Classes of sets in bits.
-use Rattle.std.specs.Prelude.{◌≡◌, ℕ, ◌-◌, ◌≤◌, Bool, false, List}
-use Rattle.std.specs.Cmp.Lexicographic.{slice_cmp}
-use Rattle.std.specs.List.{filter, flat_map, list_any, range_with_len}
-use Rattle.std.specs.BTreeMap.{is_at}
-use Rattle.std.specs.Ordering.{nat_cmp, ordering_then}
-use Rattle.std.specs.declared.cmp.Ordering.{Ordering}
+use Rattle.std.specs.Prelude.{◌≡◌, ℕ, ◌-◌, ◌<◌, ◌≤◌, Bool, true, false, List, cond, fold, nat_eq}
+use Rattle.std.specs.Prelude.{Option, is_some}
+use Rattle.std.specs.Cmp.Lexicographic.{pointwise}
+use Rattle.std.specs.List.{All, filter, flat_map, range_with_len}
 use Rattle.cs_different.specs.declared.classes.Class.{Class}
-use Rattle.cs_different.specs.declared.classes.Key.{Key}
+use Rattle.cs_different.specs.declared.classes.TheConstants.{NO_PLACES}
+use Rattle.cs_different.specs.Digests.{with_part}
+use Rattle.cs_sets.specs.declared.row.Row.{Row}
 use Rattle.cs_sets.specs.Bits.{has_place}
 use Rattle.cs_sets.specs.Every.{extending}
 use Rattle.cs_sets.specs.Sets.{IsAllowed}
@@ -25,27 +25,37 @@ extensions needs n k class = extending needs (n - k) k (members_at k class)
 pub record IsClass (act : (ℕ → Bool) → ℕ → ℕ → Bool) (start : ℕ → Bool) (needs : ℕ → ℕ → Bool) (n k
     : ℕ) (class : Class)
     : Type 0 where
-  pub seen : (i : ℕ) → has_place class.seen i ≡ state_of act start (members_at k class) i
+  pub seen : (i : ℕ) → i < k → has_place class.common i ≡ state_of act start (members_at k class) i
+  pub unseen : (i : ℕ) → k ≤ i → state_of act start (members_at k class) i ≡ false
   pub allowed : IsAllowed needs k (members_at k class)
-  pub at : IsAt needs n k (members_at k class) (has_place class.left)
+  pub at : IsAt needs n k (members_at k class) (has_place class.common)
   pub none_later : (j : ℕ) → k ≤ j → has_place class.members j ≡ false
 
--- keys by the words of what is seen, and then of the future
-abbrev pub key_cmp : Key → Key → Ordering
-key_cmp a b =
-    ordering_then (slice_cmp nat_cmp a.seen.words b.seen.words) (slice_cmp nat_cmp a.left.words
-    b.left.words)
-
-abbrev pub key_of : Class → Key
-key_of class = record { seen = class.seen; left = class.left }
-
--- the same is seen of both, and their futures are equal: their keys are equal
+-- the same is seen of both, and their futures are equal
 abbrev pub one_key : Class → Class → Bool
-one_key a b = is_at (key_cmp (key_of a)) (key_of b)
+one_key a b = pointwise nat_eq a.common.words b.common.words
 
--- a table has the keys of what was kept
-abbrev pub AreMet : (Key → Bool) → List Class → Type 0
-AreMet has kept = (q : Key) → has q ≡ list_any (λ y. is_at (key_cmp (key_of y)) q) kept
+-- the digest of a sequence with one more place if there is one
+abbrev pub with_place : (ℕ → Bool) → ℕ → ℕ → ℕ
+with_place has digest place = cond (has place) (with_part digest place) digest
+
+-- the digest of the first places of a row
+unfoldable pub digest_of_row : ℕ → Row → ℕ
+digest_of_row end row = fold (with_place (has_place row)) NO_PLACES (range_with_len 0 end)
+
+-- a table has the digests of what was kept
+abbrev pub AreMet : ℕ → (ℕ → Option ℕ) → List Class → Type 0
+AreMet end index kept = All (λ y. is_some (index (digest_of_row end y.common)) ≡ true) kept
+
+-- some classes were made, the first of each key was kept, and what extends those made are these
+-- sets
+pub record AreGrown (act : (ℕ → Bool) → ℕ → ℕ → Bool) (start : ℕ → Bool) (needs : ℕ → ℕ → Bool) (n k
+    : ℕ) (sets : List (List ℕ)) (kept : List Class)
+    : Type 0 where
+  pub made : List Class
+  pub of_each : kept ≡ firsts one_key made
+  pub are : All (IsClass act start needs n k) made
+  pub extend : flat_map (extensions needs n k) made ≡ sets
 
 -- of the sets that extend these, the first that differ are those of all sets
 abbrev pub Leads : ((ℕ → Bool) → (ℕ → Bool) → Bool) → ((ℕ → Bool) → ℕ → ℕ → Bool) → (ℕ → Bool) → (ℕ

@@ -4,6 +4,7 @@ pub mod Telling
 pub mod Seen
 pub mod Classing
 pub mod Sets
+pub mod Shapes
 pub mod Refusals
 pub mod Wants
 pub mod Members

@@ -1,11 +1,9 @@
 //! What a set of micro-operations leaves: a tree, and a number of acknowledged lines.
-ghost use Rattle.std.specs.Prelude.{◌≡◌, ◌≤◌, ◌<◌, ◌↔◌, ◌++◌, ◌∷◌, [], cond, length};
-ghost use Rattle.std.specs.Prelude.{IfOk, IsTrue, OnOk};
+ghost use Rattle.std.specs.Prelude.{◌≡◌, ◌≤◌, ◌<◌, ◌↔◌, length, IfOk, IsTrue};
 ghost use Rattle.std.specs.List.{All};
 ghost use Rattle.cs_apm.specs.Rules.{op_at};
 ghost use Rattle.cs_plan.specs.Scenes.{is_say, says_of};
 ghost use Rattle.cs_same_states.specs.Parts.{AreParts};
-ghost use Rattle.cs_sets.specs.Bits.{has_place};
 ghost use Rattle.cs_sets.specs.Places.{places_of};
 ghost use Rattle.cs_different.specs.Sets.{IsLeavable, IsLeft, tree_left};
 
@@ -30,26 +28,15 @@ pub struct Left {
     pub digest: u64,
 }
 
-/// Appends the place if the set has it; if not, nothing changes. After an error the places are
-/// unchanged.
-fn add_member(places: &mut Vec<u32>, set: &Row, place: usize) -> Result<(), AllocError>
-    requires { place < MICRO_OPERATIONS }
-    ensures { OnOk result (places.new.items
-        ≡ places.old.items ++ cond (has_place set.now place) (place ∷ []) []) }
-{
-    if set.has_place(place) {
-        places.push(place as u32)?;
-    }
-    Ok(())
-}
-
 /// The places of a set, ascending.
-fn places_in(alloc: Global, set: &Row) -> Result<Vec<u32>, AllocError>
+pub fn places_in(alloc: Global, set: &Row) -> Result<Vec<u32>, AllocError>
     ensures { IfOk result (λ places. places.items ≡ places_of set.now) }
 {
     let mut places = Vec::new(alloc);
-    for place in 0..MICRO_OPERATIONS {
-        add_member(&mut places, set, place)?;
+    let mut from = 0;
+    while let Some(place) = set.next_from(from, MICRO_OPERATIONS) {
+        places.push(place as u32)?;
+        from = place + 1;
     }
     Ok(places)
 }

@@ -18,6 +18,7 @@ mod finding;
 mod leaving;
 pub mod members;
 mod searching;
+mod shapes;
 mod under;
 mod wanting;
 

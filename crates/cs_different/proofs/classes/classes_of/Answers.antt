@@ -29,16 +29,16 @@ loop-place-preserved c =
     let n = length c.args.needed.now in
     let k = c.loop-place.place in
     let P = IsClass act none_seen needs n (k + 1) in
-    let next = c.in_ok-next.next.items in
-    let kept = c.in_ok-kept.ensures ∙ ap (firsts one_key) c.as_slice-in-loop-place.ensures.value in
-    let grown = c.in_ok-next.ensures.extends ∙ ap (flat_map (extensions needs n k)) c.as_slice.ensures.value in
+    let made = c.in_ok-kept.ensures.made in
+    let kept = c.in_ok-kept.ensures.of_each in
+    let grown = c.in_ok-kept.ensures.extend ∙ ap (flat_map (extensions needs n k)) c.as_slice.ensures.value in
     record {
-      classes = subst (All P) (sym kept) (firsts_all P one_key next [] c.in_ok-next.ensures.classes (All-nil P));
+      classes = subst (All P) (sym kept) (firsts_all P one_key made [] c.in_ok-kept.ensures.are (All-nil P));
       leads = λ like fine coarser. subst (Leads like act none_seen needs n (k + 1)) (sym kept)
           (leads_pruned act none_seen needs n
-          (λ s t j. sees_alike n (bit_in c.args.wanted.now) s t j) like fine coarser (k + 1) next (omega arith) c.in_ok-next.ensures.classes
-          (grown_leads act none_seen needs n like k c.loop-place.level.items next grown (c.loop-place.invariant.leads like fine coarser)));
-      few = fewer_firsts needs n k c.loop-place.level.items next c.in_ok-kept.kept.items kept grown c.loop-place.invariant.few;
+          (λ s t j. sees_alike n (bit_in c.args.wanted.now) s t j) like fine coarser (k + 1) made (omega arith) c.in_ok-kept.ensures.are
+          (grown_leads act none_seen needs n like k c.loop-place.level.items made grown (c.loop-place.invariant.leads like fine coarser)));
+      few = fewer_firsts needs n k c.loop-place.level.items made c.in_ok-kept.kept.items kept grown c.loop-place.invariant.few;
     }
 
 pub returns-clause-firsts : goal.returns-clause-firsts
@@ -63,9 +63,9 @@ returns-then-len-gt-CLASSES-clause-refused c =
     let needs = needed_in c.args.needed.now in
     let n = length c.args.needed.now in
     let k = c.loop-place.place in
-    let next = c.in_ok-next.next.items in
-    let kept = c.in_ok-kept.ensures ∙ ap (firsts one_key) c.as_slice-in-loop-place.ensures.value in
-    let grown = c.in_ok-next.ensures.extends ∙ ap (flat_map (extensions needs n k)) c.as_slice.ensures.value in
-    let few = fewer_firsts needs n k c.loop-place.level.items next c.in_ok-kept.kept.items kept grown c.loop-place.invariant.few in
+    let made = c.in_ok-kept.ensures.made in
+    let kept = c.in_ok-kept.ensures.of_each in
+    let grown = c.in_ok-kept.ensures.extend ∙ ap (flat_map (extensions needs n k)) c.as_slice.ensures.value in
+    let few = fewer_firsts needs n k c.loop-place.level.items made c.in_ok-kept.kept.items kept grown c.loop-place.invariant.few in
     let one = one_each needs n (k + 1) c.in_ok-kept.kept.items in
     inr (refl, omega (arith, few, one, c.if-len-gt-CLASSES.true, c.len.ensures))

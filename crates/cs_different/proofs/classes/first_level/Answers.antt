@@ -1,4 +1,4 @@
-use Rattle.std.proofs.Common.{length, sym, ap, ◌∙◌, ◌++◌, ◌∷◌, [], subst, ◌≡◌}
+use Rattle.std.proofs.Common.{length, refl, sym, ap, ◌∙◌, ◌++◌, ◌∷◌, [], subst, ◌≡◌}
 use Rattle.std.proofs.lemmas.List.Elements.{All-nil, All-cons}
 use Rattle.std.specs.List.{All}
 use Rattle.cs_sets.specs.Rows.{needed_in}
@@ -12,7 +12,7 @@ use Rattle.cs_different.proofs.classes.first_level.Goals as goal
 
 pub returns-clause-extends : goal.returns-clause-extends
 returns-clause-extends c =
-    let class : Class = record { members = c.empty-members.result; left = c.below-left.result; seen = c.empty-seen.result } in
+    let class : Class = record { members = c.empty-members.result; common = c.below-common.result } in
     first_extends (needed_in c.args.needed.now) (length c.args.needed.now) class c.push.new.self.items c.empty-members.ensures
     (c.in_ok-push.ensures.items ∙ ap (λ v. v ++ class ∷ []) c.new-level.ensures.items)
 
@@ -20,12 +20,12 @@ pub returns-clause-classes : goal.returns-clause-classes
 returns-clause-classes c = λ wants.
     let needs = needed_in c.args.needed.now in
     let n = length c.args.needed.now in
-    let class : Class = record { members = c.empty-members.result; left = c.below-left.result; seen = c.empty-seen.result } in
+    let class : Class = record { members = c.empty-members.result; common = c.below-common.result } in
     let P = IsClass (see wants) none_seen needs n 0 in
     let items : c.push.new.self.items ≡ [] ++ class ∷ [] = c.in_ok-push.ensures.items ∙ ap (λ v. v ++ class ∷ []) c.new-level.ensures.items
     in
     subst (All P) (sym items)
     (All-cons P class []
-    (first_class (see wants) none_seen needs c.requires.backward n class c.empty-seen.ensures c.empty-members.ensures
-    (at_first needs n c.below-left.result c.below-left.ensures))
+    (first_class (see wants) none_seen needs c.requires.backward n class (λ i. refl) c.empty-members.ensures
+    (at_first needs n c.below-common.result c.below-common.ensures))
     (All-nil P))

@@ -1,10 +1,10 @@
-use Rattle.std.proofs.Common.{sym, subst}
+use Rattle.std.proofs.Common.{ap, false, not, sym, subst, true}
 use Rattle.std.proofs.lemmas.List.Elements.{All-push}
 use Rattle.std.specs.List.{All}
 use Rattle.cs_sets.specs.Places.{places_of}
 use Rattle.cs_different.specs.Sets.{IsFound}
 use Rattle.cs_different.specs.declared.finding.Found.{Found}
-use Rattle.cs_different.proofs.Kept.{kept_met, kept_new}
+use Rattle.cs_different.proofs.Kept.{kept_met, kept_new, kept_told}
 use Rattle.cs_different.proofs.finding.keep.Goals as goal
 
 pub returns-then-branch-clause-sets : goal.returns-then-branch-clause-sets
@@ -26,3 +26,13 @@ returns-clause-kept c =
     subst (All (IsFound c.args.scene.now)) (sym c.in_ok-push.ensures.items)
     (All-push (IsFound c.args.scene.now) c.args.kept.now.items found c.requires.kept
     (record { set = c.requires.set; digest = c.in_ok-left.ensures.digest }))
+
+pub returns-then-branch-clause-new : goal.returns-then-branch-clause-new
+returns-then-branch-clause-new c =
+    kept_told c.args.scene.now c.args.kept.now.items c.as_slice.result.now (places_of c.args.set.now) c.in_ok-is_met.field-0 false
+    c.as_slice.ensures.value c.in_ok-is_met.ensures (ap not (sym c.if-branch.true))
+
+pub returns-clause-new : goal.returns-clause-new
+returns-clause-new c =
+    kept_told c.args.scene.now c.args.kept.now.items c.as_slice.result.now (places_of c.args.set.now) c.in_ok-is_met.field-0 true
+    c.as_slice.ensures.value c.in_ok-is_met.ensures (ap not (sym c.if-branch.false))

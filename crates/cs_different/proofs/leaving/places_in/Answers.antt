@@ -1,15 +1,22 @@
-use Rattle.std.proofs.Common.{arith, sym, ap, ◌∙◌, ◌++◌, ◌≡◌, cond, ◌∷◌, []}
+use Rattle.std.proofs.Common.{arith, ap, ◌∙◌, ◌++◌, ◌∷◌, [], sym}
 use Rattle.cs_sets.specs.Bits.{has_place}
-use Rattle.cs_different.proofs.Chosen.{all_chosen, chosen_next}
+use Rattle.cs_sets.specs.Finding.{IsNext}
+use Rattle.cs_different.proofs.Chosen.{place_chosen, rest_unchosen}
 use Rattle.cs_different.proofs.leaving.places_in.Goals as goal
 
 pub loop-place-preserved : goal.loop-place-preserved
 loop-place-preserved c =
-    let k = c.loop-place.place in
     let has = has_place c.args.set.now in
-    c.in_ok-add_member.ensures ∙ ap (λ v. v ++ cond (has k) (k ∷ []) []) c.loop-place.invariant ∙ sym (chosen_next has k)
+    let place = c.in-Some.place in
+    let next : IsNext has c.loop-place.from 1024 place = c.in-Some.ensures in
+    let to = next.before_end in
+    record {
+      low = omega (arith, to);
+      places = c.in_ok-push.ensures.items ∙ ap (λ v. v ++ place ∷ []) c.loop-place.invariant.places
+          ∙ sym (place_chosen has c.loop-place.from place next);
+    }
 
 pub returns : goal.returns
 returns c =
-    let all : c.loop-place.place ≡ 1024 = omega arith in
-    c.loop-place.invariant ∙ all_chosen c.args.set.now c.loop-place.place all
+    c.loop-place.invariant.places
+    ∙ rest_unchosen c.args.set.now c.loop-place.from c.loop-place.invariant.low c.in_default.ensures
