@@ -19,7 +19,7 @@ DOCS = TOP / 'docs'
 READMES = sorted((TOP / 'helpers').glob('*/README.md'))
 PAGES = [TOP / 'README.md', *sorted(DOCS.rglob('*.md')), *READMES]
 README = (TOP / 'README.md').read_text('utf-8')
-MOST_LINES = 120
+MOST_LINES = 125
 BLOCK = re.compile(r'(?<=\n\n)(?:    .*\n|\n+(?=    ))+')
 UNPROVED = re.compile(r'^unproved: .*\n', re.M)
 # What a reader has in the place of these two: here the store of the tutorial, and its check.
