@@ -16,7 +16,7 @@ from crashfs_tools.recorder.pipe_lines import PipeLines
 from crashfs_tools.recorder.live_files import StartConditions
 from crashfs_tools.recorder.start_tree import files_at_start
 from crashfs_tools.recorder.recording import Recording, TraceSettings
-from crashfs_tools.recorder.strace_log import read_log
+from crashfs_tools.recorder.strace_log import SUPERSEDE, read_log
 from crashfs_tools.recorder.translate import Translator
 
 from .support import as_strace, numbers
@@ -218,6 +218,36 @@ class Lines(unittest.TestCase):
             [(call.thread, call.name, call.arguments, call.begin, call.end) for call in log.calls],
             [(8, 'close', ['4'], 2, 2), (7, 'read', ['0x3', '0x7ffc', '0x2'], 1, 3)],
         )
+
+    def test_an_exec_by_another_thread_than_the_first_is_an_event(self):
+        execs = '8 execve("/bin/sh", ["sh"], 0x7ffc /* 3 vars */ '
+        for begun in (execs + '<pid changed to 7 ...>', execs + '<unfinished ...>'):
+            lines = [
+                '7 close(5) = 0',
+                begun,
+                '7 +++ superseded by execve in pid 8 +++',
+                '7 <... execve resumed>)             = 9',
+                '7 close(4) = 0',
+            ]
+            log = read_log(map(as_strace, lines))
+            self.assertEqual(
+                [(call.thread, call.name, call.result, call.end) for call in log.calls],
+                [(7, 'close', 0, 1), (7, SUPERSEDE, 8, 3), (7, 'close', 0, 5)],
+            )
+            self.assertIsNone(log.cut_line)
+
+    def test_a_call_that_another_thread_s_exec_cuts_is_not_the_exec(self):
+        lines = [
+            '7 write(4</d/f>, "a", 1 <unfinished ...>',
+            '8 execve("/bin/sh", ["sh"], 0x7ffc /* 3 vars */ <pid changed to 7 ...>',
+            '7 +++ superseded by execve in pid 8 +++',
+            '7 <... execve resumed>)             = 9',
+        ]
+        _, write = read_log(map(as_strace, lines)).calls
+        self.assertEqual((write.name, write.is_cut, write.begin, write.end), ('write', True, 1, 4))
+
+    def test_a_line_that_only_begins_a_call_is_reported(self):
+        self.assertEqual(read_log(['7 close(5) = 0\n', '7 close(4']).cut_line, 2)
 
 
 if __name__ == '__main__':

@@ -178,6 +178,18 @@ class Frames(unittest.TestCase):
             ['a.py:3 put', 'a.py:3 put', 'put (store)', 'a.py:3 put', 'a.py:3 put', '', ''],
         )
 
+    def test_no_mark_counts_after_an_exec_by_another_thread(self):
+        lines = [
+            '1 access("/proc/crashfs-frame/a.py:3 put", F_OK) = -1 ENOENT (No such file)',
+            '2 execve("/bin/x", ["x"], 0x7ffc /* 3 vars */ <pid changed to 1 ...>',
+            '1 +++ superseded by execve in pid 2 +++',
+            '1 <... execve resumed>) = 9',
+            '1 fsync(3</d/f>) = 0',
+        ]
+        calls = read_log(map(as_strace, lines)).calls
+        stacks.note_calls(calls)
+        self.assertEqual([call.note for call in calls], ['a.py:3 put', '', ''])
+
 
 @needs_strace
 @needs_version_3

@@ -84,6 +84,21 @@ CASES = [
         ],
         ['write /f 0 a', 'write /f 1 b'],
     ),
+    (
+        'an exec by another thread than the first closes and keeps what any exec does',
+        FILE,
+        [
+            '1 openat(AT_FDCWD</d>, "f", O_RDWR|O_CLOEXEC) = 8</d/f>',
+            '1 openat(AT_FDCWD</d>, "f", O_RDWR) = 3</d/f>',
+            '1 clone(child_stack=0x7f, flags=CLONE_VM|CLONE_FS|CLONE_FILES|CLONE_THREAD) = 2',
+            '2 execve("/bin/x", ["x"], 0x7ffc /* 3 vars */ <pid changed to 1 ...>',
+            '1 +++ superseded by execve in pid 2 +++',
+            '1 <... execve resumed>) = 9',
+            '1 write(8</etc/x>, "a", 1) = 1',
+            '1 write(3</d/f>, "J", 1) = 1',
+        ],
+        ['write /f 0 J'],
+    ),
     *[
         (
             f'a child of {name} has what its parent had then',

@@ -10,7 +10,7 @@ from typing import Dict, Iterator, List, NamedTuple, Optional
 
 from . import arguments
 from .source_lines import Address, Frame, source_frames
-from .strace_log import Call
+from .strace_log import SUPERSEDE, Call
 
 HOOK = os.path.join(os.path.dirname(os.path.realpath(__file__)), 'python_hook')
 # What the hook calls `access` with, before the line.
@@ -63,20 +63,26 @@ def note_calls(calls: List[Call]) -> List[str]:
     last exec, or else its stack_text(). Returns the programs, sorted, that have frames but no known
     source line. The calls must be in the log's order. OSError as in source_frames(), LogError as in
     parse_mark()."""
-    call_frames = {id(call): program_frames(call.frames) for call in calls}
-    addresses = [frame.address for frames in call_frames.values() for frame in frames]
+    frames_of_calls = [program_frames(call.frames) for call in calls]
+    addresses = [frame.address for frames in frames_of_calls for frame in frames]
     source_lines = source_frames(addresses)
     marks: Dict[int, str] = {}
-    for call in calls:
-        if call.name in ('execve', 'execveat') and call.result == 0:
+    for call, frames in zip(calls, frames_of_calls):
+        if is_exec(call):
             marks.pop(call.thread, None)
         mark = parse_mark(call)
         if mark is not None:
             marks[call.thread] = mark
-        note = marks.get(call.thread) or stack_text(call_frames[id(call)], source_lines)
+        note = marks.get(call.thread) or stack_text(frames, source_lines)
         # Bytes that aren't UTF-8 become `?`.
         call.note = note.encode('utf-8', 'replace').decode()
     return sorted({path for path, _ in addresses} - {path for path, _ in source_lines})
+
+
+def is_exec(call: Call) -> bool:
+    """Whether a call, or an event, is an exec that succeeded: SUPERSEDE, with the number that the
+    thread has from then on, is one of another thread than the first."""
+    return call.name == SUPERSEDE or call.name in ('execve', 'execveat') and call.result == 0
 
 
 def parse_mark(call: Call) -> Optional[str]:

@@ -13,6 +13,8 @@ from .log_filter import LogFilter
 LINE = re.compile(r'^(\d+)\s+(\w+)\((.*)\)\s+= (0x[0-9a-f]+|-?\d+|\?)(.*)$', re.S)
 BEGUN = re.compile(r'^(\d+)\s+(\w+)\(')
 UNFINISHED = '<unfinished ...>'
+# The end of an exec's first part if the thread gets another number, the process's, by the exec.
+RENUMBERED = re.compile(r' <pid changed to \d+ \.\.\.>$')
 RESUMED = re.compile(r'^(\d+)\s+<\.\.\. (\w+) resumed>(.*)$', re.S)
 ENDED = re.compile(r'^(\d+)\s+\+\+\+ (?:exited with|killed by) ')
 SUPERSEDED = re.compile(r'^(\d+)\s+\+\+\+ superseded by execve in pid (\d+) \+\+\+')
@@ -135,13 +137,15 @@ class LogReader:
 
     def read_resumed_line(self, number: int, resumed: re.Match[str]) -> None:
         """Reads the second part of a call, by the match of RESUMED, together with the first. If
-        that was needless, the second part and its frames are left out. LogError as in
-        read_line()."""
+        that was needless, or is of the number that the thread had before an exec, the second part
+        and its frames are left out. If the first part is of another call, an exec by another thread
+        cut that call: it is read as cut. LogError as in read_line()."""
         call = self.interrupted_calls.pop(resumed[1], None)
         if call is None:
             self.call_with_frames = None
         else:
-            whole_line = f'{resumed[1]} {call.name}({call.first_arguments}{resumed[3]}'
+            end = resumed[3] if call.name == resumed[2] else f'{UNFINISHED}) = ?'
+            whole_line = f'{resumed[1]} {call.name}({call.first_arguments}{end}'
             self.read_whole_line(call.begin, number, whole_line)
 
     def read_whole_line(self, begin: int, end: int, line: str) -> None:
@@ -183,8 +187,9 @@ class LogReader:
         self.log.calls.append(self.call_with_frames)
 
     def add_event(self, number: int, line: str) -> None:
-        """Adds the event that a line reports: a thread ended, or got another number. The number of
-        the first line that only begins a call becomes the log's cut_line. Any other line is left
+        """Adds the event that a line reports: a thread ended, or got another number by an exec. The
+        number of the first line that only begins a call becomes the log's cut_line, unless the line
+        ends as RENUMBERED: then the call is the exec of the next SUPERSEDE. Any other line is left
         out, and so are the frames after each of these lines."""
         self.call_with_frames = None
         ended, superseded = ENDED.match(line), SUPERSEDED.match(line)
@@ -193,7 +198,7 @@ class LogReader:
             self.add_event_call(number, int(ended[1]), EXIT, 0)
         elif superseded:
             self.add_event_call(number, int(superseded[1]), SUPERSEDE, int(superseded[2]))
-        elif self.log.cut_line is None and BEGUN.match(line):
+        elif self.log.cut_line is None and BEGUN.match(line) and not RENUMBERED.search(line):
             self.log.cut_line = number
 
     def add_event_call(self, number: int, thread: int, name: str, result: int) -> None:

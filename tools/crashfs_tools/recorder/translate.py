@@ -303,12 +303,13 @@ class Translator:
         return self.find_process(newest.thread, newest.begin - 1).forked_child(newest)
 
     def renumber_thread(self, call: Call) -> None:
-        """Gives the thread that called exec the number of its process, as the system does. The
-        thread that had this number is forgotten, and nothing has the old number any more. Nothing
-        changes if the thread that called exec isn't known."""
+        """Gives the thread that called exec the number of its process, as the system does, and does
+        what its exec does. The thread that had this number is forgotten, and nothing has the old
+        number any more. Nothing changes if the thread that called exec isn't known."""
         processes = self.files.processes
         if call.result in processes:
-            processes[call.thread] = processes.pop(call.result)
+            process = processes[call.thread] = processes.pop(call.result)
+            process_calls.on_execve(self.files, process, call)
 
     def report_untraced_names(self) -> None:
         """Reports each name that a file has at the end and that the trace lacks, if the trace has
