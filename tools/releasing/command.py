@@ -40,8 +40,8 @@ ATTESTATION, with the commit, the kit, the checksums of the object file and of t
 counts of the gate. Times are those of the commit (or SOURCE_DATE_EPOCH), so two runs on one machine
 give the same bytes. It needs gcc, git, rt and dpkg-deb.
 
-The log of the gate must be of this commit, of a clean tree and of this toolchain, and say status 0
-and 0 failed; any other is refused.
+The log of the gate must be of `.ci/run --all-edits`, of this commit, of a clean tree and of this
+toolchain, and say status 0 and 0 failed; any other is refused.
 
 Exit status 0: all is written. 1: something is missing, a program failed, or the log is refused. 2:
 the command line."""
@@ -49,10 +49,10 @@ OBJECT_FILE = TOP / 'crates' / 'crashfs' / 'out' / 'crashfs.o'
 
 
 def read_provenance(gate_log: Optional[Path], object_origin: str) -> Provenance:
-    """The provenance of a release from the tree and the tools as they are. The gate's counts are
-    from its log, or NOT_RUN without one; the time is SOURCE_DATE_EPOCH, else that of the commit.
-    ValueError if the log isn't of a gate of this commit and kit that passed, or SOURCE_DATE_EPOCH
-    is no number; OSError if the log can't be read; errors as kit_version()."""
+    """The provenance of a release from the tree and the tools as they are; object_origin is BUILT
+    or GIVEN. The gate's counts are from its log, or NOT_RUN without one; the time is
+    SOURCE_DATE_EPOCH, else that of the commit. ValueError as counts_of_passed_gate(), or if
+    SOURCE_DATE_EPOCH is no number; OSError if the log can't be read; errors as kit_version()."""
     commit, kit = commit_of_tree(), kit_version()
     seconds = int(os.environ.get('SOURCE_DATE_EPOCH') or seconds_of_commit())
     gate = NOT_RUN
@@ -108,7 +108,7 @@ def make_parser() -> argparse.ArgumentParser:
         '--gate',
         type=Path,
         metavar='FILE',
-        help='what .ci/run printed for this commit; ATTESTATION has its counts',
+        help='what .ci/run --all-edits printed for this commit; ATTESTATION has its counts',
     )
     parser.add_argument(
         '--objects',

@@ -23,7 +23,7 @@ from building.order import crates_below, library_uses, read_uses, uses_by_crate
 from crashfs_tools import VERSION
 from releasing import programs
 from releasing.archives import control_text, with_debian_files, write_package, write_tarball
-from releasing.command import main
+from releasing.command import main, make_parser
 from releasing.layout import Item, Items, release_items
 from releasing.programs import TOP, kit_version
 from releasing.statements import (
@@ -75,6 +75,11 @@ def packages_of(text: str) -> Dict[str, str]:
 
 
 class Statements(InFolder):
+    def test_the_help_names_the_gate_whose_log_is_accepted(self) -> None:
+        words = ' '.join(make_parser().format_help().split())
+        self.assertIn('The log of the gate must be of `.ci/run --all-edits`', words)
+        self.assertIn('what .ci/run --all-edits printed', words)
+
     def test_the_attestation_has_the_checksums_of_what_was_linked(self) -> None:
         text = attestation_text(MADE, b'object', PROGRAM)
         fields = dict(line.split(': ', 1) for line in text.splitlines())
