@@ -10,7 +10,7 @@ from inventory.made_files import outdated_lines, print_outdated_lines, write_out
 from .pictures import pictures
 
 ABOUT = """\
-Draws the pictures of docs/images from checks of the examples. It needs sqlite3.
+Draws the pictures of docs/images, most of them from checks of the examples. It needs sqlite3.
 
     tools/pictures [--check]
 
@@ -29,6 +29,7 @@ def main(words: Optional[List[str]] = None) -> int:
     options = parser.parse_args(words)
     texts = pictures()
     if options.check:
-        return print_outdated_lines(outdated_lines(texts, 'the examples', 'pictures'))
+        sources = 'the examples and tools/picturing'
+        return print_outdated_lines(outdated_lines(texts, sources, 'pictures'))
     write_outdated_files(texts)
     return 0

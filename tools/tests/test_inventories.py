@@ -136,8 +136,8 @@ class Inventories(unittest.TestCase):
     def test_a_line_names_the_command_that_writes_an_outdated_file(self):
         page, readme = TOP / 'docs' / 'absent.txt', (TOP / 'README.md').read_text('utf-8')
         self.assertEqual(
-            outdated_lines({page: 'text', TOP / 'README.md': readme}, 'a', 'b'),
-            ['docs/absent.txt is older than a: run tools/b'],
+            outdated_lines({page: 'text', TOP / 'README.md': readme}, 'the as', 'b'),
+            ['docs/absent.txt is missing, or not as the as make it: run tools/b'],
         )
 
 

@@ -2,15 +2,18 @@
 
 from __future__ import annotations
 
+import io
 import unittest
 from concurrent.futures import ProcessPoolExecutor
 from functools import lru_cache
 from multiprocessing import get_context
 from pathlib import Path
 from typing import Dict
+from unittest import mock
 from xml.dom import minidom
 
 from picturing.checked import check_example
+from picturing.command import main
 from picturing.pictures import EXAMPLES, TOP, pictures
 from picturing.states import RESULTS, rows_of_holes, runs_of
 from picturing.svg import COLOURS, WIDTH, Picture
@@ -25,6 +28,19 @@ def drawn() -> Dict[Path, str]:
     """Draws in a process of its own: a check ends all children of its process."""
     with ProcessPoolExecutor(1, get_context('fork')) as pool:
         return pool.submit(pictures).result()
+
+
+class Check(unittest.TestCase):
+    def test_what_differs_need_not_be_made_from_examples(self) -> None:
+        absent = {TOP / 'docs' / 'images' / 'absent.svg': 'text'}
+        with mock.patch('picturing.command.pictures', lambda: absent):
+            with mock.patch('sys.stdout', io.StringIO()) as out:
+                self.assertEqual(main(['--check']), 1)
+        self.assertEqual(
+            out.getvalue(),
+            'docs/images/absent.svg is missing, or not as the examples and tools/picturing make '
+            'it: run tools/pictures\n',
+        )
 
 
 @needs_sqlite
