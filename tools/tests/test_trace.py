@@ -84,6 +84,11 @@ LINKED = (
 """
 )
 HEADER_4 = HEADER_3.replace('3', '4', 1)
+# A start file of a length with one byte at an offset.
+START_OF_PARTS = (
+    '{"start":"file","path":"/f","owner":"a","group":"a","mode":"644","length":%s,'
+    '"parts":[{"at":%s,"text":"x"}]}'
+)
 # All that version 4 has and version 3 has not.
 MOVED = (
     (
@@ -186,6 +191,8 @@ class Traces(unittest.TestCase):
             (header.replace('1', '2', 1), 'line 1 '),
             (HEADER_2.replace('blocks', 'some'), 'line 1 '),
             ('[]', 'line 1 '),
+            (HEADER_4 + START_OF_PARTS % ('1e999', '0'), 'line 2 '),
+            (HEADER_4 + START_OF_PARTS % ('5', 'Infinity'), 'line 2 '),
         ]:
             with self.subTest(text), self.assertRaises(TraceError) as caught:
                 read_trace(text)

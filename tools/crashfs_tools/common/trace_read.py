@@ -80,7 +80,7 @@ def read_lines(lines: Iterable[str]) -> Iterator[Tuple[int, Trace]]:
                 trace = read_trace_header(fields)
             else:
                 read_line(trace, fields)
-        except (ValueError, KeyError, TypeError, AttributeError) as error:
+        except (ValueError, KeyError, TypeError, AttributeError, OverflowError) as error:
             raise TraceError(f'line {number} is no line of a trace ({error})') from error
         yield number, trace
     if trace is None:
@@ -111,8 +111,8 @@ def profiles_of_version(version: int) -> Tuple[str, ...]:
 
 def read_line(trace: Trace, fields: Dict[str, Any]) -> None:
     """Adds a start line or an operation to a trace, from its fields. From version 3 on `note` is
-    removed from these, and an operation's is kept. ValueError, KeyError, TypeError or
-    AttributeError if it isn't a line of the trace's version. Unknown keys aren't noticed."""
+    removed from these, and an operation's is kept. ValueError, KeyError, TypeError, AttributeError
+    or OverflowError if it isn't a line of the trace's version. Unknown keys aren't noticed."""
     note = fields.pop('note', None) if trace.version >= 3 else None
     line_class = class_of_line(fields)
     if not trace.has_kind(line_class):
@@ -136,8 +136,8 @@ def class_of_line(fields: Dict[str, Any]) -> Type[Any]:
 
 
 def read_line_values(fields: Dict[str, Any], line_class: Type[Any], version: int) -> Dict[str, Any]:
-    """The values of a line's fields by the attributes of its class. ValueError, KeyError or
-    TypeError if one is missing or can't be read."""
+    """The values of a line's fields by the attributes of its class. Errors as
+    read_line_value()."""
     return {
         attribute.name: read_line_value(attribute.name, fields, version)
         for attribute in dataclasses.fields(line_class)
@@ -145,9 +145,10 @@ def read_line_values(fields: Dict[str, Any], line_class: Type[Any], version: int
 
 
 def read_line_value(attribute: str, fields: Dict[str, Any], version: int) -> Any:
-    """The value of an attribute of a line; None for the bytes of a directory. KeyError if the line
-    has no such field; ValueError or TypeError if bytes, parts or a mode can't be read. Parts may be
-    in any order, and end past the length. Other values are kept as they are, of any type."""
+    """The value of an attribute of a line; None for the bytes of a directory. KeyError if the line,
+    or a part, has no such field; ValueError, TypeError or, for an infinite number, OverflowError if
+    bytes, parts or a mode can't be read. Parts may be in any order, and end past the length. Other
+    values are kept as they are, of any type."""
     if attribute == 'data':
         if fields.get('start') == 'dir':
             return None
