@@ -25,7 +25,7 @@ MADE_PART = re.compile(f'{re.escape(BEGIN)}.*?{re.escape(END)}', re.DOTALL)
 # The examples of these kinds print something, or are what was printed.
 EXAMPLES_PRINT = ('.py', '.report', '.sh', '.sql')
 # The place before the capital that begins a further word of a class name.
-CAPITAL_IN_NAME = re.compile(r'(?<=[a-z0-9])(?=[A-Z])')
+CAPITAL_IN_NAME = re.compile(r'(?<=[a-z0-9])(?=[A-Z])|(?<=[A-Z])(?=[A-Z][a-z])')
 TEXT_OF_RATTLE = re.compile(r'"((?:[^"\\]|\\.)*)"', re.DOTALL)
 
 
@@ -157,6 +157,11 @@ def may_have_retired_words(line: Line) -> bool:
     return any(line.file == file and text in line.text for file, text in ALLOWED)
 
 
+def without_allowed(lines: List[Line]) -> List[Line]:
+    """The lines that may_have_retired_words() doesn't accept."""
+    return [line for line in lines if not may_have_retired_words(line)]
+
+
 def word_faults(line: Line) -> List[str]:
     """A sentence for each retired word of a line, with what to write. ALLOWED isn't looked at."""
     return [
@@ -168,7 +173,9 @@ def word_faults(line: Line) -> List[str]:
 
 def name_faults(line: Line) -> List[str]:
     """A sentence for each retired word of a name, which is the text of the line. A word must be
-    whole: between underscores or, in the name of a class, from one capital to the next."""
+    whole: between underscores or, in the name of a class, from one capital that begins a word to
+    the next: of several capitals, as in IOError, the first, and the last if a small letter follows.
+    ALLOWED isn't looked at."""
     underscored_name = f'_{CAPITAL_IN_NAME.sub("_", line.text).strip("_").lower()}_'
     return [
         f'{line.file}:{line.number}: {line.text}: "{word}": {better}'
@@ -179,7 +186,7 @@ def name_faults(line: Line) -> List[str]:
 
 def unused_allowance_faults(lines: List[Line]) -> List[str]:
     """A sentence for each entry of ALLOWED whose text is in no line of its file any more. `lines`
-    must have those of all_lines()."""
+    must have those of all_lines() and names_of_tools()."""
     return [
         f'{file}: "{text}" is allowed, and no longer there'
         for file, text in ALLOWED
@@ -191,8 +198,7 @@ def retired_word_faults() -> List[str]:
     """A sentence for each retired word in the pages, in what is printed, and in documentation and
     names of Python, except in lines that may_have_retired_words() accepts; and for each entry of
     ALLOWED that nothing needs. Errors as all_lines()."""
-    lines = list(all_lines())
-    checked_lines = (line for line in lines if not may_have_retired_words(line))
-    faults = [fault for line in checked_lines for fault in word_faults(line)]
-    faults += [fault for line in names_of_tools() for fault in name_faults(line)]
-    return [*dict.fromkeys(faults), *unused_allowance_faults(lines)]
+    lines, names = list(all_lines()), list(names_of_tools())
+    faults = [fault for line in without_allowed(lines) for fault in word_faults(line)]
+    faults += [fault for name in without_allowed(names) for fault in name_faults(name)]
+    return [*dict.fromkeys(faults), *unused_allowance_faults([*lines, *names])]

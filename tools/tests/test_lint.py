@@ -10,7 +10,7 @@ from typing import Tuple
 from unittest import mock
 
 from inventory.pages import BEGIN, END
-from linting import python
+from linting import python, words
 from linting.command import LINTERS, Faults, run_linters
 from linting.crates_page import crate_page_faults
 from linting.layout import CODE_COLUMNS, long_function_faults, long_lines
@@ -24,6 +24,7 @@ from linting.words import (
     Line,
     name_faults,
     names_in_python,
+    retired_word_faults,
     texts_in_python,
     texts_in_rattle,
     without_made_parts,
@@ -72,10 +73,26 @@ class Words(unittest.TestCase):
         source = 'class A:\n    def b(self, c):\n        self.d = e = c.f\n'
         names = {name for _, name in names_in_python(source)}
         self.assertEqual(names, {'A', 'b', 'self', 'c', 'd', 'e'})
-        for name in 'told _told_path as_told go_on Told ToldPaths OldVoice ToGoOn'.split():
+        for (
+            name
+        ) in 'told _told_path as_told go_on Told ToldPaths OldVoice ToGoOn IOVoice ATold'.split():
             self.assertEqual(len(name_faults(Line('a.py', 1, name))), 1, name)
         for name in 'untold metre teller go_only UntoldPaths OldVoiced'.split():
             self.assertEqual(name_faults(Line('a.py', 1, name)), [], name)
+
+    def test_an_allowance_is_for_a_name_too_and_must_be_needed(self) -> None:
+        text, name = Line('a.py', 1, 'It was told.'), Line('a.py', 2, 'told')
+        allowed = {('a.py', 'told'): 'a test', ('b.py', 'told'): 'a test'}
+        unused = 'b.py: "told" is allowed, and no longer there'
+        for lines, names in (([text], []), ([], [name])):
+            with mock.patch.multiple(
+                words, all_lines=lambda: lines, names_of_tools=lambda: names, ALLOWED=allowed
+            ):
+                self.assertEqual(retired_word_faults(), [unused])
+            with mock.patch.multiple(
+                words, all_lines=lambda: lines, names_of_tools=lambda: names, ALLOWED={}
+            ):
+                self.assertEqual(len(retired_word_faults()), 1)
 
     def test_a_made_part_is_left_out(self) -> None:
         self.assertEqual(without_made_parts(f'a\n{BEGIN}\ntold\n{END}\nb'), 'a\n\n\n\nb')
