@@ -105,8 +105,8 @@ class StateWorkers:
         self.jobs = jobs
         self.on_outcome = on_outcome
         self.fail_fast = fail_fast
+        # With fail_fast: whether a state has failed.
         self.has_failed = False
-        self.is_ending = False
         self.workers: List[Worker] = []
         # Processes of commands that could not be ended, with the names of their programs.
         self.left_processes: Dict[int, str] = {}
@@ -119,7 +119,7 @@ class StateWorkers:
         Refused if a process was killed, OSError if one can't be started. Other processes may still
         run after a failure or an exception."""
         self.start_workers(sorted(wanted), line_counts)
-        while self.workers and not self.is_ending:
+        while self.workers and not self.has_failed:
             for worker in self.ready_workers():
                 if not self.read_outcomes(worker):
                     self.reap_worker(worker)
@@ -210,7 +210,7 @@ class StateWorkers:
 
     def handle_line(self, line: bytes) -> None:
         """Handles a line of an Outbox: passes an outcome to on_outcome, adds processes to
-        left_processes, or raises a fault. With fail_fast the first failure sets is_ending; later
+        left_processes, or raises a fault. With fail_fast the first failure sets has_failed; later
         failures are dropped."""
         if line.isdigit():
             self.on_outcome(int(line), GOOD_OUTCOME)
@@ -227,7 +227,6 @@ class StateWorkers:
         if not (is_last and self.has_failed):
             self.on_outcome(fields['state'], outcome)
         self.has_failed = self.has_failed or is_last
-        self.is_ending = self.is_ending or is_last
 
     def reap_worker(self, worker: Worker) -> None:
         """Waits for a process whose pipe is at its end, drops it from `workers`, and closes the
@@ -243,7 +242,6 @@ class StateWorkers:
         again and again to end their commands: that function must spare the processes whose numbers
         it gets. Processes that still run after ENDING_SECONDS are killed. on_outcome gets what they
         still send. After an exception some may be left, which end by themselves."""
-        self.is_ending = True
         os.close(self.life_writer)
         deadline = time.monotonic() + ENDING_SECONDS
         while self.workers:
