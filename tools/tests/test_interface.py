@@ -15,7 +15,9 @@ from typing import List
 
 import crashfs_tools
 from crashfs_tools import Refused, check, record, states
-from crashfs_tools.checker.running.recoveries import cause_text
+from crashfs_tools.api.checks import set_recovery
+from crashfs_tools.checker.options import Options
+from crashfs_tools.checker.running.recoveries import FunctionRecovery, cause_text
 
 from . import data_store
 from .data_store import recovery, session, synced_session
@@ -46,6 +48,16 @@ TWO_FILES = (
     f'{{"trace":3,"profile":"blocks","block":4096,{RIGHTS}}}\n'
     f'{{"op":"creat","path":"/a",{RIGHTS}}}\n{{"op":"creat","path":"/b",{RIGHTS}}}\n'
 )
+
+
+class Opening:
+    """A recovery that is an object, and one that is its method."""
+
+    def __call__(self, directory: Path, acknowledged: List[str]) -> None:
+        """Accepts each state."""
+
+    def reads(self, directory: Path, acknowledged: List[str]) -> None:
+        """Accepts each state."""
 
 
 class InterfaceCase(InFolder):
@@ -169,6 +181,18 @@ class Checks(InterfaceCase):
         report = check(STORE, hangs, timeout=5, prefixes=True)
         self.assertEqual(report.status, 3)
         self.assertEqual(report.entries[0].cause, 'it had not ended after 5 seconds')
+
+    def test_a_callable_is_named_by_its_function_or_its_class(self) -> None:
+        for named, name in (
+            (recovery, 'data_store.recovery'),
+            (functools.partial(functools.partial(recovery)), 'data_store.recovery'),
+            (Opening(), 'test_interface.Opening'),
+            (Opening().reads, 'test_interface.Opening.reads'),
+        ):
+            options = Options('t')
+            set_recovery(options, named)
+            assert options.function is not None
+            self.assertEqual(FunctionRecovery(options.function).words, [f'{__package__}.{name}'])
 
     def test_what_a_function_starts_can_be_ended_by_the_guard(self) -> None:
         outer = os.environ.get('CRASHFS_GUARD')

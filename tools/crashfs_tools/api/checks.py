@@ -6,7 +6,7 @@ import functools
 import io
 import os
 from pathlib import Path
-from typing import Callable, List, Optional, Sequence, Union
+from typing import Any, Callable, List, Optional, Sequence, Union
 
 from crashfs_tools.checker.checking import check_trace
 from crashfs_tools.checker.options import NAME, TIMEOUT, Options, processor_count
@@ -18,12 +18,12 @@ from .reports import PathLike, Report
 
 # Opens a state's directory, and compares it with the acknowledged lines. It raises what is wrong:
 # the text of an AssertionError is the cause, of another exception its type and text.
-RecoveryOf = Callable[[Path, List[str]], object]
+PathRecovery = Callable[[Path, List[str]], object]
 
 
 def check(
     trace: PathLike,
-    recovery: Union[RecoveryOf, Sequence[str]],
+    recovery: Union[PathRecovery, Sequence[str]],
     *,
     jobs: Optional[int] = None,
     every: Optional[int] = None,
@@ -42,9 +42,9 @@ def check(
 ) -> Report:
     """Runs a recovery in the crash states of a trace, and returns the report. No progress is shown.
 
-    recovery is a function (RecoveryOf), or a command: a list of words, not empty, or a text that is
-    one program. A command runs in a directory that has the files as the crash left them, with the
-    acknowledged lines on its standard input. A function is called in a fork of this process.
+    recovery is a function (PathRecovery), or a command: a list of words, not empty, or a text that
+    is one program. A command runs in a directory that has the files as the crash left them, with
+    the acknowledged lines on its standard input. A function is called in a fork of this process.
 
     The options are those of crashfs-check. jobs is one for each processor by default; every can't
     be combined with families, prefixes or quick; fail_fast ends the check at an accepted failure
@@ -87,21 +87,31 @@ def refuse_every_with_families(options: Options) -> None:
         raise Refused('every goes with no families, prefixes or quick')
 
 
-def set_recovery(options: Options, recovery: Union[RecoveryOf, Sequence[str]]) -> None:
+def namesake(recovery: PathRecovery) -> Any:
+    """What has the module and the name by which reports name a function: itself or, of a
+    functools.partial, the function that it calls; the class of an object without a name."""
+    while isinstance(recovery, functools.partial):
+        recovery = recovery.func
+    return recovery if hasattr(recovery, '__qualname__') else type(recovery)
+
+
+def set_recovery(options: Options, recovery: Union[PathRecovery, Sequence[str]]) -> None:
     """Sets a recovery in the options: a list of words, or a text that is one program, as COMMAND; a
-    function as one that gets its directory as a Path. Refused for a function if the options have
-    nested or cache, which need a command and must be set before."""
+    function as one that gets its directory as a Path, with the module and name of namesake().
+    Refused for a function if the options have nested or cache, which need a command and must be set
+    before."""
     if isinstance(recovery, Sequence):
         options.command = [recovery] if isinstance(recovery, str) else list(recovery)
         return
     if options.nested or options.cache:
         raise Refused('nested and cache need a recovery that is a command')
 
+    # mypy forgets in an inner function that it is no Sequence.
     function = recovery
 
-    @functools.wraps(function)
-    def call(directory: str, lines: List[str]) -> object:
+    @functools.wraps(namesake(function), updated=())
+    def recover_in_text_path(directory: str, lines: List[str]) -> object:
         """Calls the function with the directory as a Path. What it raises is passed on."""
         return function(Path(directory), lines)
 
-    options.function = call
+    options.function = recover_in_text_path
