@@ -146,9 +146,9 @@ class SetClasses:
     # Changes of names
 
     def changes_id_after(self, changes_id: int, place: int) -> int:
-        """The id of what name changes, given by their id, become by the micro-operation at `place`,
-        which must change entries or a directory's rights. It is computed only once. KeyError as
-        update_entries()."""
+        """The id of the name changes after the micro-operation at `place`, if those before it have
+        the id changes_id. The micro-operation must change entries or a directory's rights. Computed
+        once for each pair. KeyError as update_entries()."""
         key = changes_id, place
         if key not in self._ids_after:
             operation = self.reading.operations[place]
@@ -228,10 +228,10 @@ class SetClasses:
         return dict(reachable_paths(self.reading.start.items()))
 
     def has_moved_directory(self, changes: NameChanges) -> bool:
-        """Whether name changes have a directory at an entry that isn't at the directory's home, the
-        path that it has while no directory is moved."""
+        """Whether name changes have a directory at an entry whose path isn't the directory's
+        unmoved path, the one that it has while no directory is moved."""
         return any(
-            self.reading.home_path(entry) != self.reading.homes[node.number]
+            self.reading.unmoved_path(entry) != self.reading.unmoved_paths[node.number]
             for entry, node in changes.items()
             if isinstance(entry, tuple) and isinstance(node, Inode) and node.kind == DIRECTORY
         )
@@ -239,13 +239,14 @@ class SetClasses:
     def changed_nodes(self, result: SetResult) -> Dict[str, Optional[Inode]]:
         """What is at each path of a changed entry, file or directory; None if nothing is. No
         directory may be moved: see has_moved_directory()."""
-        changes, homes = self.changes.values[result.changes_id], self.reading.homes
+        changes = self.changes.values[result.changes_id]
+        directory_paths = self.reading.unmoved_paths
         directories = [key for key in changes if isinstance(key, int)]
         nodes: Dict[str, Optional[Inode]] = {
-            homes[number] or '/': Inode(DIRECTORY, number) for number in directories
+            directory_paths[number] or '/': Inode(DIRECTORY, number) for number in directories
         }
         for entry in self.changed_entries(result):
-            path = self.reading.home_path(entry)
+            path = self.reading.unmoved_path(entry)
             # A directory that is gone and one that is made again may have the same paths.
             nodes[path] = self.node_at_entry(changes, entry) or nodes.get(path)
         return nodes

@@ -125,31 +125,31 @@ class States:
         order of the paths, and the rights of all directories, also of removed ones."""
         operations = [self.reading.operations[place] for place in places_of(place_set)]
         has_moves = place_set & self.directory_moves
-        compute = self.nodes_after_moves if has_moves else self.nodes_at_home
+        compute = self.nodes_after_moves if has_moves else self.unmoved_nodes
         nodes, rights = compute(operations)
         return dict(sorted(nodes.items())), rights
 
     def nodes_after_moves(self, operations: List[MicroOperation]) -> NodesAndRights:
-        """As nodes_at_home(), but directories may be moved: all paths are computed again."""
+        """As unmoved_nodes(), but directories may be moved: all paths are computed again."""
         table = EntryTable(self.reading)
         for operation in operations:
             table.apply(operation)
         return dict(table.paths()), table.rights
 
-    def nodes_at_home(self, operations: List[MicroOperation]) -> NodesAndRights:
+    def unmoved_nodes(self, operations: List[MicroOperation]) -> NodesAndRights:
         """What is at each path after these micro-operations, and the rights of all directories.
-        None of them may move a directory: then each directory is at its home, and only the paths
-        of changed entries are computed. KeyError as change_entries()."""
-        start, home_path = self.reading.start, self.reading.home_path
+        None of them may move a directory: then each directory is at its unmoved path, and only the
+        paths of changed entries are computed. KeyError as change_entries()."""
+        start, unmoved_path = self.reading.start, self.reading.unmoved_path
         rights = dict(self.reading.start_rights)
         touched = dict.fromkeys(entry for operation in operations for entry in operation.entries)
         entries = {entry: start[entry] for entry in touched if entry in start}
-        old_paths = {home_path(entry) for entry in entries}
+        old_paths = {unmoved_path(entry) for entry in entries}
         for operation in operations:
             change_entries(entries, operation)
             change_rights(rights, operation)
         nodes = {path: node for path, node in self.start_nodes.items() if path not in old_paths}
-        nodes.update((home_path(entry), node) for entry, node in entries.items())
+        nodes.update((unmoved_path(entry), node) for entry, node in entries.items())
         return nodes, rights
 
     def compute_file(self, file_number: int, place_set: int) -> Tuple[Rights, Data]:

@@ -41,8 +41,9 @@ class Reading:
         self.block_size = 4096
         self.start: Dict[Entry, Inode] = {}
         # The path of each directory if no directory is moved; the root's is empty.
-        self.homes: Dict[int, str] = {ROOT: ''}
-        # The rights and bytes with which each file is made, without bytes if an operation makes it.
+        self.unmoved_paths: Dict[int, str] = {ROOT: ''}
+        # The rights with which each file or symbolic link is made, and the bytes of those that a
+        # start line makes and of all symbolic links.
         self.initial_rights: Dict[int, Rights] = {}
         self.initial_data: Dict[int, Data] = {}
         # The rights of each directory of the start tree, and those that each inode has now.
@@ -86,11 +87,11 @@ class Reading:
         symbolic link. They are shared: copy them before you change them."""
         return self.initial_data.get(file_number, Data(self.block_size))
 
-    def home_path(self, entry: Entry) -> str:
+    def unmoved_path(self, entry: Entry) -> str:
         """The path that an entry has while no directory above the entry is moved. KeyError if no
         line has made the entry's directory."""
         directory, name = entry
-        return f'{self.homes[directory]}/{name}'
+        return f'{self.unmoved_paths[directory]}/{name}'
 
     # Files, symbolic links and directories
 
@@ -113,10 +114,10 @@ class Reading:
         return node
 
     def make_directory(self, line: Line) -> Inode:
-        """Makes the directory of a line, with its home, and returns its inode."""
+        """Makes the directory of a line, with its unmoved path, and returns its inode."""
         path = line.fields['path']
         node = self.names.add_directory(path)
-        self.homes[node.number] = self.home_path(self.names.entry_at(path))
+        self.unmoved_paths[node.number] = self.unmoved_path(self.names.entry_at(path))
         self.rights[node] = line.rights
         return node
 
