@@ -239,8 +239,9 @@ def profile_names(reading: Reading) -> List[str]:
 
 
 def order_under(reading: Reading, profile: str) -> Order:
-    """The order that allows a set if the trace's own order does and a file system of the profile
-    may leave the set. ReadingFault if traces of this version can't have the profile."""
+    """The order that allows a set exactly if the trace's own order does and a file system of the
+    profile may leave the set. That renames are whole is known to walks by unit_at(), not to
+    is_allowed(). ReadingFault if traces of this version can't have the profile."""
     if profile not in profile_names(reading):
         raise ReadingFault('no such profile')
     order = Order(reading)
