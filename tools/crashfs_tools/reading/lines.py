@@ -134,7 +134,7 @@ class LineReader:
         profile; and as check_fields()."""
         version = line.fields['trace']
         if not is_trace_number(version) or version not in HEADERS:
-            raise syntax_fault(f'version {version} is not known (1, 2, 3, 4)')
+            raise syntax_fault(f'version {version} is not known ({", ".join(map(str, HEADERS))})')
         self.version = version
         self.check_fields(line, (*HEADERS[version], *RIGHTS))
         profile = line.fields.get('profile', 'blocks')
