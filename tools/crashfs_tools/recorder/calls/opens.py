@@ -28,19 +28,15 @@ def on_open(files: LiveFiles, process: Process, call: Call) -> None:
 
 def on_openat(files: LiveFiles, process: Process, call: Call) -> None:
     """Opens a path that may be relative to a directory's descriptor, as open_path() does."""
-    word, flags, mode_word = call.argument(1), call.argument(2), call.argument(3)
-    path = files.path_argument_at(process, call, 0, follow_last_link=may_follow_last_link(flags))
-    open_path(files, process, call, word=word, path=path, flags=flags, mode_word=mode_word)
+    open_path_at(files, process, call, flags=call.argument(2), mode_word=call.argument(3))
 
 
 def on_openat2(files: LiveFiles, process: Process, call: Call) -> None:
-    """Opens a path as on_openat() does. Flags and mode are fields of one argument; if it has no
-    mode, the mode is 0."""
-    word, flags = call.argument(1), call.argument(2)
-    match = re.search(r'mode=(0[0-7]*)', flags)
-    mode_word = match[1] if match else '0'
-    path = files.path_argument_at(process, call, 0, follow_last_link=may_follow_last_link(flags))
-    open_path(files, process, call, word=word, path=path, flags=flags, mode_word=mode_word)
+    """Opens a path as on_openat() does. Flags and mode are fields of one argument, `how`: the flags
+    are looked for in all its text. If it has no mode, the mode is 0."""
+    how = call.argument(2)
+    match = re.search(r'mode=(0[0-7]*)', how)
+    open_path_at(files, process, call, flags=how, mode_word=match[1] if match else '0')
 
 
 def on_creat(files: LiveFiles, process: Process, call: Call) -> None:
@@ -54,6 +50,16 @@ def may_follow_last_link(flags: str) -> bool:
     """Whether an open with these flags follows a symbolic link at its path's end. False with
     O_NOFOLLOW or O_EXCL."""
     return 'O_NOFOLLOW' not in flags and 'O_EXCL' not in flags
+
+
+def open_path_at(
+    files: LiveFiles, process: Process, call: Call, *, flags: str, mode_word: str
+) -> None:
+    """Opens the path of a call's second argument, which may be relative to the directory of its
+    first, a descriptor, as open_path() does."""
+    path = files.path_argument_at(process, call, 0, follow_last_link=may_follow_last_link(flags))
+    word = call.argument(1)
+    open_path(files, process, call, word=word, path=path, flags=flags, mode_word=mode_word)
 
 
 def open_path(
