@@ -133,6 +133,15 @@ class Blame(unittest.TestCase):
         plan = read_plan(LISTED, needs)
         return Pairs(plan, outcomes).pair_of(plan.listed[number])
 
+    def test_the_pair_of_a_set_is_its_last_place_and_the_first_that_it_lacks(self):
+        for kept_set, pair in (
+            (0b11001, Pair(4, 1)),
+            (0b111, Pair(2, None)),
+            (0b100, Pair(2, 0)),
+            (0, Pair(None, None)),
+        ):
+            self.assertEqual(Pair.of_set(kept_set), pair)
+
     def test_a_hole_is_what_was_lacking_when_it_began_to_fail(self):
         self.assertEqual(self.pair(9, [9]), Pair(4, 1))
         self.assertEqual(self.pair(9, [7, 8, 9]), Pair(2, 1))

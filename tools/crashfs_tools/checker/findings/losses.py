@@ -14,7 +14,7 @@ from typing import Callable, Dict, Generator, Iterator, List, Optional
 
 from crashfs_tools.checker.running.runner import Outcome
 from crashfs_tools.checker.running.trials import Trials
-from crashfs_tools.checker.states.place_sets import missing_set, places_of
+from crashfs_tools.checker.states.place_sets import first_lacking, missing_set, places_of
 from crashfs_tools.checker.states.plan import Plan, State
 from crashfs_tools.checker.states.planning import Planner
 
@@ -245,13 +245,6 @@ def with_needed(plan: Plan, micro_operations: int) -> int:
     return reduce(or_, (plan.needs.masks[place] for place in places_of(micro_operations)), 0)
 
 
-def first_lacking(kept_set: int) -> Optional[int]:
-    """The first place that a set lacks before its last one; None if it lacks none."""
-    return next(places_of(missing_set(kept_set)), None)
-
-
 def loss_of(kept_set: int) -> Loss:
-    """The loss of a set that isn't empty. In its pair the last place of the set was kept, and the
-    first place that the set lacks was lost, None if it lacks none."""
-    pair = Pair(kept_set.bit_length() - 1, first_lacking(kept_set))
-    return Loss(pair, missing_set(kept_set))
+    """The loss of a set that isn't empty, with the pair of Pair.of_set()."""
+    return Loss(Pair.of_set(kept_set), missing_set(kept_set))

@@ -27,7 +27,7 @@ from enum import Enum
 from typing import Callable, Dict, NamedTuple, Optional
 
 from crashfs_tools.checker.running.runner import GOOD, Outcome
-from crashfs_tools.checker.states.place_sets import places_of
+from crashfs_tools.checker.states.place_sets import first_lacking, places_of
 from crashfs_tools.checker.states.plan import Plan, State
 
 
@@ -38,6 +38,13 @@ class Pair(NamedTuple):
     kept: Optional[int]
     lost: Optional[int]
     is_guess: bool = False
+
+    @staticmethod
+    def of_set(kept_set: int) -> Pair:
+        """The pair of a set: its last place was kept, and the first place that it lacks before that
+        one was lost."""
+        kept = kept_set.bit_length() - 1 if kept_set else None
+        return Pair(kept, first_lacking(kept_set))
 
     def is_kept_in(self, kept_set: int) -> bool:
         """Whether a set has the micro-operation that the pair kept; False if the pair kept none."""
@@ -157,10 +164,10 @@ class Pairs:
 
     def hole_pair(self, state: State, compare: Compare) -> Pair:
         """The pair of a hole that fails alike, by rules 3 to 5."""
-        hole_place, length = state.numbers
+        missing_place, length = state.numbers
         if is_failing_alike(self.prefixes[length], compare):
             return self.prefix_pair(length, compare)
-        lost = self.last_lost_place(hole_place, length, compare)
+        lost = self.last_lost_place(missing_place, length, compare)
         return Pair(self.shortest_failing_hole(lost, length, compare) - 1, lost)
 
     def shortest_failing_hole(self, lost: int, length: int, compare: Compare) -> int:
@@ -177,14 +184,15 @@ class Pairs:
                 shortest = shorter
         return shortest
 
-    def last_lost_place(self, hole_place: int, length: int, compare: Compare) -> int:
-        """The place that a hole of this length lost, by rule 4: the last place that needs
-        hole_place and whose own hole of this length fails alike; hole_place if there is none."""
-        for later in range(length - 2, hole_place, -1):
-            hole = self.holes.get((later, length))
-            if self.plan.needs.is_needed(hole_place, by=later) and is_failing_alike(hole, compare):
+    def last_lost_place(self, missing_place: int, length: int, compare: Compare) -> int:
+        """The place that the hole without missing_place, of this length, lost by rule 4: of the
+        later places that need missing_place the last one whose own removal gives a hole of this
+        length that fails alike; missing_place if there is none."""
+        for later in range(length - 2, missing_place, -1):
+            is_needed = self.plan.needs.is_needed(missing_place, by=later)
+            if is_needed and is_failing_alike(self.holes.get((later, length)), compare):
                 return later
-        return hole_place
+        return missing_place
 
     def pick_pair(self, state: State, compare: Compare) -> Pair:
         """The pair of a pick that fails alike, by rule 6. If no hole gives the pair, it is a guess,
@@ -194,8 +202,7 @@ class Pairs:
             hole = self.holes.get((place, kept_set.bit_length()))
             if hole is not None and is_failing_alike(hole, compare):
                 return self.hole_pair(self.plan.state(hole), compare)
-        kept = kept_set.bit_length() - 1 if kept_set else None
-        return Pair(kept, next(places_of(lacking), None), kept_set > 0 and lacking > 0)
+        return Pair.of_set(kept_set)._replace(is_guess=kept_set > 0 and lacking > 0)
 
 
 def is_failing_alike(number: Optional[int], compare: Compare) -> bool:

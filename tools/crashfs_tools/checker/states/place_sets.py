@@ -1,12 +1,11 @@
 """Sets of micro-operations as numbers: bit k is 1 if the one at place k of the plan is a member.
 
-The second reading has the same functions of its own: it shares no code with what it is compared
-with.
+The second reading has such functions of its own: it shares no code with what it is compared with.
 """
 
 from __future__ import annotations
 
-from typing import Iterable, Iterator
+from typing import Iterable, Iterator, Optional
 
 
 def set_of(places: Iterable[int]) -> int:
@@ -38,3 +37,8 @@ def prefix_set(end: int) -> int:
 def missing_set(members: int) -> int:
     """The set of the places that a set lacks before its last member."""
     return prefix_set(members.bit_length()) & ~members
+
+
+def first_lacking(members: int) -> Optional[int]:
+    """The first place that a set lacks before its last member; None if it lacks none."""
+    return next(places_of(missing_set(members)), None)
