@@ -80,19 +80,19 @@ Moment = Tuple[int, int]
 # A call after its moment and the line at which it ends, which no other call has.
 PlacedCall = Tuple[Moment, int, Call]
 # Returns whether two absolute paths are names of one file now.
-IsOneFile = Callable[[str, str], bool]
+AreOfSameFile = Callable[[str, str], bool]
 
 
 def calls_in_order(
-    calls: List[Call], is_one_file: IsOneFile = lambda path, other: False
+    calls: List[Call], are_of_same_file: AreOfSameFile = lambda path, other: False
 ) -> Iterator[Tuple[int, Call]]:
     """Yields the calls of a log, which are given in the order of their last lines, in the order of
     their operations in the trace. Before each is the number of the log's line at which it is
     placed: its first or last one, or, for a sync, the last one of a change. When a change is next,
-    is_one_file is asked about its paths: the caller must have translated the calls before it.
-    Without is_one_file, two paths are of two files. LogError if an argument isn't as strace writes
-    it."""
-    return CallQueue(calls, is_one_file).calls_in_order()
+    are_of_same_file is asked about its paths: the caller must have translated the calls before it.
+    Without are_of_same_file, two paths are of two files. LogError if an argument isn't as strace
+    writes it."""
+    return CallQueue(calls, are_of_same_file).calls_in_order()
 
 
 class CallQueue:
@@ -102,9 +102,9 @@ class CallQueue:
     unrelated_syncs has, by the id of a change, the syncs of other paths that ran at the same time:
     such a path may be of the same file."""
 
-    def __init__(self, calls: List[Call], is_one_file: IsOneFile) -> None:
+    def __init__(self, calls: List[Call], are_of_same_file: AreOfSameFile) -> None:
         """The calls are in the order of their last lines; nothing is placed yet."""
-        self.calls, self.is_one_file = calls, is_one_file
+        self.calls, self.are_of_same_file = calls, are_of_same_file
         self.moments: Dict[int, Moment] = {}
         self.queue: List[PlacedCall] = []
         self.moved_calls: List[PlacedCall] = []
@@ -172,10 +172,10 @@ class CallQueue:
         return bool(syncs)
 
     def is_same_file(self, sync: Call, change: Call) -> bool:
-        """Whether is_one_file() is True for the path of a sync and one of a change. LogError if an
-        argument isn't as strace writes it."""
+        """Whether are_of_same_file() is True for the path of a sync and one of a change. LogError
+        if an argument isn't as strace writes it."""
         path, paths = synced_path(sync), changed_paths(change) or ()
-        return path is not None and any(self.is_one_file(path, other) for other in paths)
+        return path is not None and any(self.are_of_same_file(path, other) for other in paths)
 
 
 def is_change(call: Call) -> bool:

@@ -137,11 +137,11 @@ class LiveFiles:
             return None
         return self.resolver.resolve(os.path.join(base, path), follow_last_link=follow_last_link)
 
-    def is_one_file(self, path: str, other: str) -> bool:
+    def are_of_same_file(self, path: str, other_path: str) -> bool:
         """Whether two absolute paths lead to one file or directory of the live tree now, by hard or
         symbolic links. False if nothing is known at one of them."""
         node = self.tree.node_at(self.resolve_path(path, follow_last_link=True))
-        other_node = self.tree.node_at(self.resolve_path(other, follow_last_link=True))
+        other_node = self.tree.node_at(self.resolve_path(other_path, follow_last_link=True))
         return node is not None and node is other_node
 
     def path_argument(

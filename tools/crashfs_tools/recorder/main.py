@@ -46,7 +46,7 @@ class RecordedRun:
     """A run of COMMAND. Of an earlier run only the log is known: all else has the value of a run
     without faults. file_copies is None without --mapped; status is COMMAND's, as Popen has it.
     output_pipe is what strace shows for COMMAND's standard output, None if that isn't known.
-    unended_processes names the processes that could not be ended, and log_fault says why the log
+    still_running_text names the processes that could not be ended, and log_fault says why the log
     was not kept whole: both are empty if all is well."""
 
     log: Log
@@ -54,7 +54,7 @@ class RecordedRun:
     status: int = 0
     passed_signals: Tuple[int, ...] = ()
     output_pipe: Optional[str] = None
-    unended_processes: str = ''
+    still_running_text: str = ''
     log_fault: str = ''
 
 
@@ -74,7 +74,7 @@ def run_under_strace(options: RecordOptions, guard: Guard) -> RecordedRun:
     try:
         status = traced_run.run_command()
     finally:
-        unended_processes = guard.end_processes()
+        still_running = guard.end_processes()
     log = stream.finish()
     refuse_incomplete_log(log, options.command[0])
     return RecordedRun(
@@ -83,7 +83,7 @@ def run_under_strace(options: RecordOptions, guard: Guard) -> RecordedRun:
         status=status,
         passed_signals=tuple(traced_run.signals),
         output_pipe=traced_run.output_pipe,
-        unended_processes=descendants.processes_text(unended_processes),
+        still_running_text=descendants.processes_text(still_running),
         log_fault=stream.keep_fault.strerror if stream.keep_fault else '',
     )
 
@@ -296,8 +296,8 @@ def report_run_faults(options: RecordOptions, recording: Recording, run: Recorde
         )
     if run.log_fault:
         recording.report(f'its log is cut: {run.log_fault}', options.keep_log or '')
-    if run.unended_processes:
-        text = f'a process that COMMAND left could not be ended: {run.unended_processes}'
+    if run.still_running_text:
+        text = f'a process that COMMAND left could not be ended: {run.still_running_text}'
         recording.report(text, '/')
 
 

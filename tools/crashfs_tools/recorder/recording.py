@@ -171,8 +171,8 @@ class Recording:
 
     def reason_for_newest_version(self, operation: Operation) -> str:
         """Why only the newest version may have an operation. Empty if older ones may have it too,
-        and if no version may, because of the file's size. The operation must not be applied to the
-        tree yet."""
+        as an fdatasync, which they have as a sync of all bytes; and if no version may, because of
+        the file's size. The operation must not be applied to the tree yet."""
         if isinstance(operation, Symlink):
             return symlink_reason(operation.path)
         if isinstance(operation, Rename):

@@ -95,8 +95,8 @@ class Translator:
             self.call_copies = mapped_stores.copies_by_call(
                 self.log.calls, calls_by_paths, self.file_copies
             )
-        is_one_file = self.files.is_one_file
-        for line, call in call_order.calls_in_order(self.log.calls, is_one_file):
+        are_of_same_file = self.files.are_of_same_file
+        for line, call in call_order.calls_in_order(self.log.calls, are_of_same_file):
             self.files.add_ended_syncs(line)
             self.recording.current_call = call
             self.translate_call(call)
