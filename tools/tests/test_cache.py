@@ -17,8 +17,8 @@ from crashfs_tools.checker.running.cache import (
     OutcomeCache,
     StateKeys,
     require_folder,
-    read_values,
-    write_values,
+    read_cache_file,
+    write_cache_file,
 )
 from crashfs_tools.checker.running.command_files import command_name, digest_of_file, opened_paths
 from crashfs_tools.checker.running.runner import BAD, GOOD, NO_ANSWER, Outcome
@@ -50,18 +50,18 @@ def judged():
 class Files(InFolder):
     def test_only_whole_files_of_ours_are_read(self) -> None:
         path = self.path('c.json')
-        write_values(path, {'a': ['good', '', '']})
-        self.assertEqual(read_values(path), {'a': ['good', '', '']})
+        write_cache_file(path, {'a': ['good', '', '']})
+        self.assertEqual(read_cache_file(path), {'a': ['good', '', '']})
         whole = Path(path).read_bytes()
         for damaged in (whole[:-1], whole.replace(b'good', b'goad'), b'', b'x', whole[1:]):
             Path(path).write_bytes(damaged)
-            self.assertEqual(read_values(path), {}, damaged)
+            self.assertEqual(read_cache_file(path), {}, damaged)
         Path(path).write_bytes(whole)
         os.chmod(path, 0o666)
-        self.assertEqual(read_values(path), {})
+        self.assertEqual(read_cache_file(path), {})
         os.chmod(path, 0o600)
         os.symlink(path, self.path('link.json'))
-        self.assertEqual(read_values(self.path('link.json')), {})
+        self.assertEqual(read_cache_file(self.path('link.json')), {})
 
     def test_a_folder_that_others_may_write_is_refused(self) -> None:
         require_folder(self.path('new', 'cache'))

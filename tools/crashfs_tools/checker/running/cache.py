@@ -36,10 +36,10 @@ class OutcomeCache:
     the file's name. hits counts outcomes of earlier checks that were used, each once."""
 
     def __init__(self, folder: str, name: str) -> None:
-        """Reads the file. A file that isn't there, or that read_values() doesn't accept, counts as
-        empty. Nothing is written before save()."""
+        """Reads the file. A file that isn't there, or that read_cache_file() doesn't accept, counts
+        as empty. Nothing is written before save()."""
         self.path = os.path.join(folder, f'outcomes-{name}.json')
-        self.earlier_outcomes: Dict[str, List[str]] = read_values(self.path)
+        self.earlier_outcomes: Dict[str, List[str]] = read_cache_file(self.path)
         self.used_outcomes: Dict[str, List[str]] = {}
         self.dropped_keys: Set[str] = set()
         self.hits = 0
@@ -73,15 +73,15 @@ class OutcomeCache:
         """Reads the file again, and replaces it. Outcomes of other checks stay in the file, unless
         they were dropped here; those that this check used or added come last. Of more than
         MOST_OUTCOMES the first ones of other checks are left out. Waits while another check saves.
-        OSError as folder_lock() and write_values()."""
+        OSError as folder_lock() and write_cache_file()."""
         with folder_lock(os.path.dirname(self.path)):
             own_keys = {*self.used_outcomes, *self.dropped_keys}
             other_outcomes = [
-                item for item in read_values(self.path).items() if item[0] not in own_keys
+                item for item in read_cache_file(self.path).items() if item[0] not in own_keys
             ]
             most_others = max(0, MOST_OUTCOMES - len(self.used_outcomes))
             latest_others = dict(other_outcomes[max(0, len(other_outcomes) - most_others) :])
-            write_values(self.path, {**latest_others, **self.used_outcomes})
+            write_cache_file(self.path, {**latest_others, **self.used_outcomes})
 
 
 class StateKeys:
@@ -136,17 +136,17 @@ def folder_lock(folder: str) -> Iterator[None]:
         os.close(descriptor)
 
 
-def read_values(path: str) -> Dict[str, Any]:
-    """The values that write_values() wrote to a file. An empty map if the file can't be read, is a
-    symbolic link, isn't whole or is of another FORMAT, or if another user owns the file or may
+def read_cache_file(path: str) -> Dict[str, Any]:
+    """The values that write_cache_file() wrote to a file. An empty map if the file can't be read,
+    is a symbolic link, isn't whole or is of another FORMAT, or if another user owns the file or may
     write it."""
     try:
         with open(os.open(path, os.O_RDONLY | os.O_NOFOLLOW | os.O_CLOEXEC), 'rb') as file:
             status = os.fstat(file.fileno())
-            whole = file.read()
+            file_bytes = file.read()
         if status.st_uid != os.geteuid() or status.st_mode & WRITABLE_BY_OTHERS:
             return {}
-        digest, _, json_bytes = whole.partition(b'\n')
+        digest, _, json_bytes = file_bytes.partition(b'\n')
         if hashlib.sha256(json_bytes).hexdigest().encode() != digest:
             return {}
         fields = json.loads(json_bytes)
@@ -155,7 +155,7 @@ def read_values(path: str) -> Dict[str, Any]:
         return {}
 
 
-def write_values(path: str, values: Dict[str, Any]) -> None:
+def write_cache_file(path: str, values: Dict[str, Any]) -> None:
     """Replaces a file by values that JSON has, durably, so that only its owner may read it. Its
     first line is the digest of the rest. OSError if it can't be written: the old file stays, unless
     only the sync of its directory failed."""

@@ -13,7 +13,7 @@ from typing import Callable, Dict, Iterable, Iterator, List, Set, Tuple
 
 from crashfs_tools.common.command import Refused, version_text
 
-from .cache import read_values, write_values
+from .cache import read_cache_file, write_cache_file
 from .runner import NO_ANSWER, Outcome
 
 # A call that opens a file or starts a program, as strace shows it: the path, and before it the
@@ -46,11 +46,11 @@ def command_name(folder: str, words: List[str], states: List[int], run_in_state:
     there is none, or a listed file has changed, the command runs under strace in the states of some
     numbers. Exceptions as in opened_files(); OSError if the list can't be written."""
     list_path = os.path.join(folder, f'command-{digest_of_text(json.dumps(words))}.json')
-    digests: Dict[str, str] = read_values(list_path)
+    digests: Dict[str, str] = read_cache_file(list_path)
     if not digests or any(digest_of_file(name) != digest for name, digest in digests.items()):
         opened = {name for state in states for name in opened_files(words, state, run_in_state)}
         digests = {name: digest_of_file(name) for name in sorted(opened)}
-        write_values(list_path, digests)
+        write_cache_file(list_path, digests)
     return digest_of_text(json.dumps([version_text(''), words, sorted(digests.items())]))
 
 

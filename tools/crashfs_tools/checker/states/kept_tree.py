@@ -208,14 +208,16 @@ class KeptTree:
     ) -> bool:
         """Returns whether what is at a path, which is no directory, can stay: it is as it is
         wanted, or change_bytes() gave it the wanted bytes. wanted_entry is None if the tree lacks
-        the path. OSError as has_file() and change_bytes()."""
+        the path. OSError as is_as_wanted() and change_bytes()."""
         if wanted_entry is None:
             return False
-        return self.has_file(folder, path, wanted_entry, status) or self.change_bytes(
+        return self.is_as_wanted(folder, path, wanted_entry, status) or self.change_bytes(
             folder, path, wanted_entry, status
         )
 
-    def has_file(self, folder: int, path: str, wanted_entry: Entry, status: os.stat_result) -> bool:
+    def is_as_wanted(
+        self, folder: int, path: str, wanted_entry: Entry, status: os.stat_result
+    ) -> bool:
         """Whether the file at a path still is as it was written, and as it is wanted. `folder` is
         its open directory, `status` that of the file itself, by lstat. The bytes are read only if
         the file system's times don't show each store; OSError if they can't be read."""

@@ -127,9 +127,8 @@ def read_trees(
     return with_all_wanted(wanted, chain.from_iterable(values_of_requests))
 
 
-def keep_tree(_number: int, tree: Iterable[Member]) -> List[Member]:
-    """The entries of a tree as a list, in the form that read_trees() asks for: the state's number
-    isn't used."""
+def list_tree(_number: int, tree: Iterable[Member]) -> List[Member]:
+    """A use_tree() for read_trees(): the entries of a tree as a list."""
     return list(tree)
 
 
@@ -180,7 +179,7 @@ def trees_of_small_plan(
     trees: TreesByState = {}
     byte_count = 0
     first_numbers = {state.same for state in planned.plan.listed}
-    numbered_trees = read_trees(program, planned, first_numbers, environment, keep_tree)
+    numbered_trees = read_trees(program, planned, first_numbers, environment, list_tree)
     for number, tree in numbered_trees:
         trees[number] = tree
         byte_count += sum(len(entry.data or b'') for _, entry in tree)

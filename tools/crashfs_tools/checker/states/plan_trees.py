@@ -10,7 +10,7 @@ from crashfs_tools.common.guard import Guard
 from crashfs_tools.common.program import Crashfs
 from crashfs_tools.common.trace_lines import is_large_trace
 
-from .layout import TreesByState, keep_tree, read_trees, trees_of_small_plan
+from .layout import TreesByState, list_tree, read_trees, trees_of_small_plan
 from .plan import PlannedTrace
 
 if TYPE_CHECKING:
@@ -57,7 +57,7 @@ class PlanTrees:
         missing_numbers = self.first_numbers([*numbers, *next_numbers]) - self.kept.keys()
         self.kept.update(
             read_trees(
-                self.program, self.planned, missing_numbers, self.guard.environment, keep_tree
+                self.program, self.planned, missing_numbers, self.guard.environment, list_tree
             )
         )
 
