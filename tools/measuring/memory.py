@@ -26,40 +26,40 @@ IDLE_BYTES = 200_000
 
 
 def open_clients(address: str, count: int, opened: ExitStack) -> List[Client]:
-    """Opens so many connections and adds them to `opened`, which closes them at its end, also if a
+    """Opens `count` connections and adds them to `opened`, which closes them at its end, also if a
     later one can't be opened. Errors as Client()."""
     return [opened.enter_context(closing(Client(address))) for _ in range(count)]
 
 
-def fill_with_connections(address: str, connections: int, opened: ExitStack) -> int:
-    """Opens so many connections, which `opened` closes, attaches all of them to the same run, and
-    leaves them idle. Returns how many there are. ServerRefused if the server refuses a connection
+def fill_with_connections(address: str, connection_count: int, opened: ExitStack) -> int:
+    """Opens connection_count connections, which `opened` closes, attaches each to the same run,
+    leaves them idle, and returns connection_count. ServerRefused if the server refuses a connection
     or an attach, OSError if a connection can't be made or ends."""
-    for client in open_clients(address, connections, opened):
+    for client in open_clients(address, connection_count, opened):
         client.attach(0, '0/x')
-    return connections
+    return connection_count
 
 
-def fill_with_runs(address: str, runs: int, connections: int, opened: ExitStack) -> int:
-    """Attaches a user to each of so many runs of one state, by so many connections in turn, which
-    `opened` closes. Returns how many runs there are. Errors as fill_with_connections()."""
-    clients = open_clients(address, connections, opened)
-    for run in range(runs):
-        clients[run % connections].attach(run // connections, f'0/r{run}')
-    return runs
+def fill_with_runs(address: str, run_count: int, connection_count: int, opened: ExitStack) -> int:
+    """Attaches a user to each of run_count runs of one state, by connection_count connections in
+    turn, which `opened` closes, and returns run_count. Errors as fill_with_connections()."""
+    clients = open_clients(address, connection_count, opened)
+    for run in range(run_count):
+        clients[run % connection_count].attach(run // connection_count, f'0/r{run}')
+    return run_count
 
 
-def fill_with_writes(address: str, writes: int, opened: ExitStack) -> int:
+def fill_with_writes(address: str, write_count: int, opened: ExitStack) -> int:
     """Writes blocks to a file of a run, by a connection that `opened` closes, until the server
-    refuses a write, since the run's journal is full, or has granted so many writes. Returns how
-    many it granted: up to BATCH - 1 more, since they are sent in batches. ServerRefused if no write
-    is granted; other errors as fill_with_connections()."""
+    refuses a write, since the run's journal is full, or has granted write_count writes. Returns
+    how many it granted: up to BATCH - 1 more, since they are sent in batches. ServerRefused if no
+    write is granted; other errors as fill_with_connections()."""
     (client,) = open_clients(address, 1, opened)
     client.attach(0, '0/x')
     client.open(0, 1, 'f')
     requests = [write_request(1, b'w' * BLOCK)] * BATCH
     granted_count = 0
-    while granted_count < writes:
+    while granted_count < write_count:
         granted_of_batch = client.ask_all(requests)
         granted_count += granted_of_batch
         if granted_of_batch < len(requests):
@@ -70,13 +70,13 @@ def fill_with_writes(address: str, writes: int, opened: ExitStack) -> int:
 
 
 def measure_new_server(
-    programs: Programs, fill: Callable[[str, ExitStack], int], connections: int
+    programs: Programs, fill: Callable[[str, ExitStack], int], connection_count: int
 ) -> Tuple[int, int]:
-    """Starts a server that takes so many connections, calls `fill` with its address, kills it, and
-    returns what measure_growth() returned. OSError if the server doesn't listen, or ends too early;
-    errors of `fill` are raised."""
+    """Starts a server that takes connection_count connections, calls `fill` with its address, kills
+    it, and returns what measure_growth() returned. OSError if the server doesn't listen, or ends
+    too early; errors of `fill` are raised."""
     address = free_address()
-    with running_server(serve_words(programs, address, connections)) as server:
+    with running_server(serve_words(programs, address, connection_count)) as server:
         return measure_growth(server, lambda opened: fill(address, opened))
 
 

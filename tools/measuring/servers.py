@@ -58,10 +58,10 @@ def running_server(words: List[str]) -> Iterator[subprocess.Popen[str]]:
         server.stdout.close()
 
 
-def serve_words(programs: Programs, address: str, connections: int) -> List[str]:
+def serve_words(programs: Programs, address: str, connection_count: int) -> List[str]:
     """The command line of `crashfs serve` for the only state of a small trace, with one worker, for
-    so many connections at once. The program must be built: if not, the first word is the text
-    `None`."""
+    connection_count connections at once. The program must be built: if not, the first word is the
+    text `None`."""
     examples: Path = programs.top / 'examples'
     return [
         str(programs.path_if_built('crashfs')),
@@ -75,7 +75,7 @@ def serve_words(programs: Programs, address: str, connections: int) -> List[str]
         '--workers',
         '1',
         '--connections',
-        str(connections),
+        str(connection_count),
         '--ready',
     ]
 

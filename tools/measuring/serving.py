@@ -15,15 +15,15 @@ KEEPING = ['forgets', 'blocks', 'large']
 
 
 @contextmanager
-def running_servers(programs: Programs, addresses: List[str], clients: int) -> Iterator[None]:
+def running_servers(programs: Programs, addresses: List[str], client_count: int) -> Iterator[None]:
     """`crashfs serve` at the first of four addresses, and the bare servers of KEEPING at the
-    others, for so many clients each. They run until the `with` ends, and are killed then. OSError
-    as running_server()."""
+    others, for client_count clients each. They run until the `with` ends, and are killed then.
+    OSError as running_server()."""
     bench = str(programs.path_if_built('serve_bench'))
     with ExitStack() as servers:
-        servers.enter_context(running_server(serve_words(programs, addresses[0], clients)))
+        servers.enter_context(running_server(serve_words(programs, addresses[0], client_count)))
         for keeping, address in zip(KEEPING, addresses[1:]):
-            servers.enter_context(running_server([bench, address, str(clients), keeping]))
+            servers.enter_context(running_server([bench, address, str(client_count), keeping]))
         yield
 
 
@@ -33,12 +33,14 @@ def add_serving_rows(programs: Programs, tally: Tally) -> None:
     failure of the tally, and the next setting is measured. `crashfs` and `serve_bench` must be
     built."""
     bench = str(programs.path_if_built('serve_bench'))
-    for clients, runs in SETTINGS:
+    for client_count, runs in SETTINGS:
         runs_text = 'each on a run of its own' if runs == 'own' else 'all on one run'
-        tally.add_line(f'-- {clients} clients, {runs_text}')
+        tally.add_line(f'-- {client_count} clients, {runs_text}')
         try:
             addresses = [free_address() for _ in range(len(KEEPING) + 1)]
-            with running_servers(programs, addresses, clients):
-                tally.run_program([bench, *addresses, str(clients), runs], processor_halves()[1])
+            with running_servers(programs, addresses, client_count):
+                tally.run_program(
+                    [bench, *addresses, str(client_count), runs], processor_halves()[1]
+                )
         except OSError as error:
             tally.add_failure(str(error))
