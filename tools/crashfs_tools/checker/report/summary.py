@@ -153,10 +153,10 @@ def partial_check_lines(counts: StateCounts) -> Iterator[str]:
     yield f'all are more than {most:,}{time_text(counts, most, "more than ")}: --every N'
 
 
-def time_text(counts: StateCounts, states: int, bound: str = '') -> str:
-    """How long this number of states would take, after a comma; `bound` comes before the time, such
+def time_text(counts: StateCounts, state_count: int, bound: str = '') -> str:
+    """How long so many states would take, after a comma; `bound` comes before the time, such
     as `more than `. An empty text if it isn't known how long a state takes."""
-    seconds = counts.seconds_per_state * states
+    seconds = counts.seconds_per_state * state_count
     return f', and would take {bound}about {duration_text(seconds)}' if seconds else ''
 
 

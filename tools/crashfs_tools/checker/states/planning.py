@@ -5,7 +5,7 @@ from __future__ import annotations
 import os
 from functools import reduce
 from operator import and_
-from typing import Iterable, List, Optional, Sequence
+from typing import Iterable, List, Optional, Sequence, Tuple
 
 from crashfs_tools.checker.options import Options
 from crashfs_tools.common import limits
@@ -131,17 +131,17 @@ class Planner:
         picks = list(dict.fromkeys([*family_sets, *more_sets]))
         parts = divide_picks(picks, self.most_picks(needs), len(needs.masks))
         planned = self.plan_picks(trace, offsets, parts)
-        plan = planned.plan
-        number_by_set = {plan.kept[state.number]: state.number for state in reversed(plan.listed)}
+        # The plan lists them first, then the picks, of which those of families come first.
+        prefixes_and_holes = len(planned.plan.listed) - len(picks)
         all_states = AllStates(
             sets=all_crash_sets.count_sets(),
             are_listed=different_sets is not None,
             are_read=all_crash_sets.are_read,
             most=self.options.most_states,
-            families=len(plan.listed) - len(picks) + len(family_sets),
-            drawn=tuple(number_by_set[members] for members in drawn_sets),
+            families=prefixes_and_holes + len(family_sets),
+            drawn=numbers_of_sets(planned.plan, drawn_sets),
         )
-        planned.plan = self.with_profiles(plan, reading_sets, all_states)
+        planned.plan = self.with_profiles(planned.plan, reading_sets, all_states)
         return planned
 
     def with_profiles(
@@ -272,6 +272,13 @@ class Planner:
         if is_plan_too_large(fault):
             return TooLarge(str(fault))
         return Refused(str(fault))
+
+
+def numbers_of_sets(plan: Plan, sets: Iterable[int]) -> Tuple[int, ...]:
+    """The number of the first listed state that has each of these sets, in their order. KeyError if
+    none has it."""
+    number_by_set = {plan.kept[state.number]: state.number for state in reversed(plan.listed)}
+    return tuple(number_by_set[members] for members in sets)
 
 
 def find_sets_of_all_states(
