@@ -5,12 +5,17 @@ from __future__ import annotations
 import unittest
 
 from crashfs_tools.common.trace import Creat, Say
-from crashfs_tools.common.trace_fields import TraceError, parse_lines
+from crashfs_tools.common.trace_fields import (
+    TraceError,
+    header_fields,
+    parse_lines,
+    root_owner,
+    trace_version,
+)
 from crashfs_tools.common.trace_read import read_trace_with_numbers
 from crashfs_tools.common.trace_lines import (
     is_large_trace,
     parse_trace_text,
-    root_owner,
     with_syncs,
     without_says,
 )
@@ -43,6 +48,20 @@ class Lines(unittest.TestCase):
 
     def test_the_owner_of_the_root_is_that_of_the_header(self) -> None:
         self.assertEqual(root_owner(TEXT.split('\n')), 'ann')
+
+    def test_only_the_header_is_read_for_the_version(self) -> None:
+        for text, version in (
+            (TEXT + 'no JSON', 3),
+            ('{"trace":77}', 77),
+            ('{"trace":"3"}', 0),
+            ('{"op":"sync"}', 0),
+            ('[]', 0),
+            ('no JSON', 0),
+            (' \n', 0),
+        ):
+            self.assertEqual(trace_version(text), version, text)
+        with self.assertRaises(StopIteration):
+            header_fields([' \t', ''])
 
     def test_each_operation_has_the_number_of_its_line(self) -> None:
         trace, numbers = read_trace_with_numbers(TEXT)

@@ -18,7 +18,8 @@ from crashfs_tools.checker.states.planning import Planner, TooLarge
 from crashfs_tools.common.command import TEXT, Refused
 from crashfs_tools.common.guard import Guard
 from crashfs_tools.common.program import Crashfs, ProgramFault
-from crashfs_tools.common.trace_lines import TraceText, parse_trace_text, trace_version
+from crashfs_tools.common.trace_fields import trace_version
+from crashfs_tools.common.trace_lines import TraceText, parse_trace_text
 
 from .options import Options
 

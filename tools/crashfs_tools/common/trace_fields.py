@@ -1,8 +1,9 @@
-"""Reads the lines of a trace as JSON, each once."""
+"""Reads the lines of a trace, or only its header, as JSON."""
 
 from __future__ import annotations
 
 import json
+from io import StringIO
 from typing import Any, Iterable, Iterator, Tuple
 
 from .command import Refused
@@ -30,3 +31,27 @@ def parse_lines(lines: Iterable[str]) -> Iterator[Tuple[int, Any]]:
     for number, line in enumerate(lines, 1):
         if line.strip(BLANKS):
             yield number, parse_line(number, line)
+
+
+def header_fields(lines: Iterable[str]) -> Any:
+    """The JSON value of the first line of a trace that isn't empty, of any type. StopIteration if
+    all lines are empty; TraceError, with its number, if the line isn't JSON. No more lines are
+    read."""
+    _, header = next(parse_lines(lines))
+    return header
+
+
+def trace_version(text: str) -> int:
+    """The version in a trace's header, known or not; 0 if there is no header, or if its version is
+    no whole number. Only the header is read."""
+    try:
+        version = header_fields(StringIO(text))['trace']
+    except (TraceError, StopIteration, KeyError, TypeError):
+        return 0
+    return version if isinstance(version, int) else 0
+
+
+def root_owner(lines: Iterable[str]) -> str:
+    """The owner of the root, from the lines of a trace that `crashfs` has accepted. Only the header
+    is read."""
+    return str(header_fields(lines)['owner'])

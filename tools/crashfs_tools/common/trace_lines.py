@@ -6,14 +6,13 @@ from __future__ import annotations
 import json
 import re
 from functools import lru_cache
-from io import StringIO
 from itertools import groupby
 from operator import itemgetter
 from typing import Any, Dict, Iterable, List, NamedTuple, Optional, Tuple
 
 from . import limits
 from .entry import parent_of
-from .trace_fields import BLANKS, TraceError, parse_line, parse_lines
+from .trace_fields import BLANKS, parse_line, parse_lines
 
 ENCODING = 'utf-8', 'surrogateescape'
 
@@ -168,24 +167,6 @@ def parse_trace_text(text: str) -> TraceText:
             if fields['op'] == 'say':
                 acknowledged.append(fields['text'])
     return TraceText(operations, acknowledged)
-
-
-def trace_version(text: str) -> int:
-    """The version in a trace's header, known or not; 0 if there is no header, or if its version is
-    no whole number. Only the header is read."""
-    try:
-        _, header = next(parse_lines(StringIO(text)))
-        version = header['trace']
-    except (TraceError, StopIteration, KeyError, TypeError):
-        return 0
-    return version if isinstance(version, int) else 0
-
-
-def root_owner(lines: Iterable[str]) -> str:
-    """The owner of the root, from the lines of a trace that `crashfs` has accepted. Only the header
-    is read."""
-    _, header = next(parse_lines(lines))
-    return str(header['owner'])
 
 
 def with_syncs(text: str, sync_points: Iterable[Tuple[int, str]]) -> str:

@@ -17,12 +17,8 @@ from crashfs_tools.common.command import TEXT, Refused, ending_text, last_line
 from crashfs_tools.common.program import code_to_run
 from crashfs_tools.common.removal import remove_tree
 from crashfs_tools.common.trace import WRITTEN_VERSION
-from crashfs_tools.common.trace_lines import (
-    parse_trace_text,
-    trace_version,
-    without_numbers,
-    without_says,
-)
+from crashfs_tools.common.trace_fields import trace_version
+from crashfs_tools.common.trace_lines import parse_trace_text, without_numbers, without_says
 from crashfs_tools.common.trace_read import read_lines
 
 from .groups import Findings, Group

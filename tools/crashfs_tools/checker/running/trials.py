@@ -28,7 +28,7 @@ from crashfs_tools.common.command import TEXT, Refused
 from crashfs_tools.common.guard import Guard
 from crashfs_tools.common.limits import RUNS
 from crashfs_tools.common.program import Crashfs
-from crashfs_tools.common.trace_lines import root_owner
+from crashfs_tools.common.trace_fields import root_owner
 
 from .progress import Pace, Progress, TooSlow
 from .recoveries import CommandRecovery, FunctionRecovery, StateRecovery
