@@ -11,7 +11,8 @@ import threading
 import time
 from pathlib import Path
 
-from .order import TOP, Work, chain_lengths, library_uses
+from .crates import TOP, library_uses
+from .order import Work, chain_lengths
 from .proving import (
     build_program,
     copy_proved_libraries,

@@ -15,7 +15,8 @@ from crashfs_tools.common.printable import escape_unprintable
 from crashfs_tools.common.standard_streams import flushed_output
 
 from .checks import Check, killed_text, run_check
-from .order import PROGRAM, TOP, Work, crates_below, paths_of_texts
+from .crates import PROGRAM, TOP, crates_below
+from .order import Work, paths_of_texts
 from .sharing import copy_library, library_folder, read_stamp
 
 # Held by the thread that works in the repository itself: the one whose own copy this is, or one

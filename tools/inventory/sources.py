@@ -10,7 +10,7 @@ from dataclasses import dataclass
 from pathlib import Path
 from typing import Dict, Iterator, List, Tuple
 
-from building.order import read_uses
+from building.crates import read_uses
 
 TOP = Path(__file__).resolve().parent.parent.parent
 CRATES = TOP / 'crates'

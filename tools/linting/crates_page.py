@@ -5,7 +5,7 @@ from __future__ import annotations
 import re
 from typing import Dict, Iterator, List, Tuple
 
-from building.order import read_uses
+from building.crates import read_uses
 
 from .sources import TOP
 

@@ -10,7 +10,7 @@ from dataclasses import dataclass, field
 from pathlib import Path
 from typing import List, Optional, Sequence
 
-from building.order import uses_by_crate
+from building.crates import uses_by_crate
 
 VERDICT = re.compile(r', (within|past) \(at (?:most|least) ')
 

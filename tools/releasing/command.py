@@ -11,7 +11,7 @@ import tempfile
 from pathlib import Path
 from typing import List, Optional
 
-from building.order import read_uses
+from building.crates import read_uses
 from crashfs_tools import VERSION
 from gating.verdict import counts_of_passed_gate
 

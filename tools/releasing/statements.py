@@ -9,7 +9,7 @@ from datetime import datetime, timezone
 from pathlib import Path
 from typing import Dict, List
 
-from building.order import crates_below
+from building.crates import crates_below
 
 NOT_RUN = 'the gate was not run'
 BUILT = 'as tools/build left it, which builds only what is proved'

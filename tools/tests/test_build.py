@@ -16,7 +16,8 @@ from unittest import mock
 
 from building import main, order, proving
 from building.checks import Check
-from building.order import MANY_BELOW, Work, count_crate_lines, library_uses
+from building.crates import library_uses
+from building.order import MANY_BELOW, Work, count_crate_lines
 from building.proving import (
     build_program,
     copy_proved_libraries,

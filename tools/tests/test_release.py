@@ -19,7 +19,7 @@ from pathlib import Path
 from typing import Dict, Set
 from unittest import mock
 
-from building.order import crates_below, library_uses, read_uses, uses_by_crate
+from building.crates import crates_below, library_uses, read_uses, uses_by_crate
 from crashfs_tools import VERSION
 from releasing import programs
 from releasing.archives import control_text, with_debian_files, write_package, write_tarball
