@@ -8,7 +8,8 @@ from typing import Any, List, Sequence
 from unittest import mock
 
 from crashfs_tools.checker.states import all_sets as choices
-from crashfs_tools.checker.states.all_sets import AllSets, ReadingSets, all_sets
+from crashfs_tools.checker.states.all_sets import AllSets, ReadingSets, all_sets, parse_set
+from crashfs_tools.checker.states.plan import PlanError
 from crashfs_tools.common.program import Crashfs, ProgramFault
 
 from .support import InFolder
@@ -54,6 +55,12 @@ class Choices(InFolder):
         for refusal in ('more than 9 sets', 'too many sets to compare', 'too many sets to count'):
             with self.subTest(refusal):
                 self.assertIsNone(self.sets(Program(refusal=refusal), TRACE).different_sets(9))
+
+    def test_a_line_that_is_no_set_is_refused(self) -> None:
+        self.assertEqual(parse_set('[0,2]'), 0b101)
+        for line in ('', '5', '{"a":1}', '[-1]', '[[0]]', f'[{10**30}]', '[' * 100_000):
+            with self.subTest(line[:80]), self.assertRaises(PlanError):
+                parse_set(line)
 
     def test_started_commands_run_at_once_and_are_killed_unless_they_are_read(self) -> None:
         log = self.path('log')

@@ -95,9 +95,10 @@ class Archives(unittest.TestCase):
         shorter = {**SPARSE, 'GNU.sparse.realsize': '1073741823'}
         with self.assertRaisesRegex(ArchiveFault, 'a piece of a sparse file ends past its length'):
             read(sparse_archive(shorter, PIECES))
-        negative = {**SPARSE, 'GNU.sparse.realsize': '-1'}
-        with self.assertRaisesRegex(ArchiveFault, 'sparse'):
-            read(sparse_archive(negative, b'0\n'.ljust(512, b'\0')))
+        for length in ('-1', str(1 << 63)):
+            wrong_length = {**SPARSE, 'GNU.sparse.realsize': length}
+            with self.assertRaisesRegex(ArchiveFault, 'sparse'):
+                read(sparse_archive(wrong_length, b'0\n'.ljust(512, b'\0')))
         without_size = {name: text for name, text in SPARSE.items() if 'size' not in name}
         with self.assertRaisesRegex(ArchiveFault, 'sparse'):
             read(sparse_archive(without_size, PIECES))

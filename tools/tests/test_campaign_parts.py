@@ -41,9 +41,11 @@ class Books(InFolder):
         changes += [{'entries': [{**fields['entries'][0], 'failure': value}]} for value in (5, {})]
         changes += [{'faults': value} for value in (5, [5], [[1]])] + [{'next_seed': 'x'}]
         texts = [json.dumps({**fields, **change}) for change in changes]
-        for text in [*texts, '', '[]', 'null', '5', '{']:
+        for text in [*texts, '', '[]', 'null', '5', '{', '[' * 100_000]:
             path.write_text(text, 'utf-8')
-            with self.subTest(text=text), self.assertRaisesRegex(Refused, 'no file of crashfs'):
+            with self.subTest(text=text[:80]), self.assertRaisesRegex(
+                Refused, 'no file of crashfs'
+            ):
                 read_book(path, ['a'], 1)
 
 

@@ -250,6 +250,7 @@ class OfItsOwn(InStore):
                 ran = self.run_tool('crashfs-check', '--crashfs', program, self.good, '--', 'true')
                 self.assertIn(ran.returncode, (2, 3), ran.stderr)
                 self.assertEqual(ran.stderr.count('\n'), 1, ran.stderr)
+                self.assertIn(line, ran.stderr[:200])
                 self.assertNotIn('Traceback', ran.stderr)
 
     def test_a_fault_is_a_line_and_its_traceback_is_asked_for(self):

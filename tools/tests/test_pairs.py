@@ -121,8 +121,10 @@ class Listed(unittest.TestCase):
             '3',
             '{"state":1,"kind":"cut","end":3,"says":0,"same":1}',
             '',
+            '[' * 100_000,
+            '{"op":1,"kind":"say","line":2,"needs":[%d]}' % 10**30,
         ]:
-            with self.subTest(line), self.assertRaises(PlanError):
+            with self.subTest(line[:80]), self.assertRaises(PlanError):
                 read_plan(line)
 
 

@@ -92,7 +92,7 @@ def read_book(path: Path, identity: List[object], first_seed: int) -> Book:
         is_same = fields['crashfs-campaign'] == VERSION and fields['identity'] == identity
         if is_same:
             return book_of_fields(path, fields, first_seed)
-    except (ValueError, KeyError, TypeError, AttributeError) as error:
+    except (ValueError, KeyError, TypeError, AttributeError, RecursionError) as error:
         raise Refused(f'{path} is no file of crashfs-campaign') from error
     raise Refused(f'{path} is of other commands: name another directory')
 

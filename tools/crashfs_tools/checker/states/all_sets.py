@@ -193,7 +193,7 @@ def parse_set(line: str) -> int:
     line."""
     try:
         return set_of(json.loads(line))
-    except (ValueError, TypeError) as error:
+    except (ValueError, TypeError, RecursionError, OverflowError) as error:
         raise PlanError(f'crashfs picks printed: {line}') from error
 
 

@@ -11,6 +11,9 @@ from .plan import PlannedMicroOperation, Needs, Offsets, Plan, PlanError, SetPro
 # The fields of a micro-operation that its text has after its kind and path, in this order.
 DETAILS = ('to', 'block', 'at', 'count', 'length', 'node', 'target', 'mode', 'owner', 'group')
 
+# What a line of another form raises: deep nesting a RecursionError, a huge place an OverflowError.
+LINE_FAULTS = ValueError, KeyError, TypeError, AttributeError, RecursionError, OverflowError
+
 
 def read_plan(
     listing: str, offsets: Offsets = Offsets(), more_listings: Sequence[str] = ()
@@ -57,13 +60,13 @@ class PlanReader:
         for line in listing.rstrip('\n').split('\n'):
             try:
                 self.add_line(json.loads(line))
-            except (ValueError, KeyError, TypeError, AttributeError) as error:
+            except LINE_FAULTS as error:
                 raise PlanError(f'crashfs list printed: {line}') from error
 
     def add_line(self, fields: Dict[str, Any]) -> None:
         """Adds the operation or the state of a line. All parts have the same operations, so only
-        those of the first part are added. KeyError, TypeError, ValueError or AttributeError for
-        fields of another form."""
+        those of the first part are added. KeyError, TypeError, ValueError, AttributeError or
+        OverflowError for fields of another form."""
         if 'op' not in fields:
             self.add_state(fields)
         elif self.is_first:
