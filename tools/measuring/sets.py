@@ -26,11 +26,11 @@ class Row(NamedTuple):
 
     label: str
     # How many acknowledged lines its trace has, and then how many new files.
-    says: int
-    files: int
+    say_count: int
+    file_count: int
     options: Tuple[str, ...]
     # How many lines it must print.
-    lines: int
+    line_count: int
     divisor: int
     # The unit of the time, how many seconds it is, and how many units may pass.
     unit: str
@@ -43,10 +43,10 @@ class Row(NamedTuple):
 ROWS = (
     Row(
         label='a million sets of 100 micro-operations, printed',
-        says=80,
-        files=20,
+        say_count=80,
+        file_count=20,
         options=('--every', '--most', '1048656'),
-        lines=80 + 2**20,
+        line_count=80 + 2**20,
         divisor=1,
         unit='s',
         unit_seconds=1.0,
@@ -54,10 +54,10 @@ ROWS = (
     ),
     Row(
         label='a class of sets that are compared',
-        says=0,
-        files=16,
+        say_count=0,
+        file_count=16,
         options=('--every', '--different'),
-        lines=2**16,
+        line_count=2**16,
         # Of k files the sets are 2^k classes, for each k.
         divisor=2**17 - 1,
         unit='us',
@@ -67,10 +67,10 @@ ROWS = (
     ),
     Row(
         label='the sets of 128 independent places, counted',
-        says=0,
-        files=128,
+        say_count=0,
+        file_count=128,
         options=('--every', '--count'),
-        lines=1,
+        line_count=1,
         divisor=1,
         unit='ms',
         unit_seconds=1e-3,
@@ -78,10 +78,10 @@ ROWS = (
     ),
     Row(
         label='a set of 63 independent places, drawn',
-        says=0,
-        files=63,
+        say_count=0,
+        file_count=63,
         options=('--sample', '16384', '--seed', '1'),
-        lines=16_384,
+        line_count=16_384,
         divisor=16_384,
         unit='us',
         unit_seconds=1e-6,
@@ -90,23 +90,24 @@ ROWS = (
 )
 
 
-def independent_files_trace(says: int, files: int) -> str:
-    """The text of a trace with so many acknowledged lines, and then so many new files in the
+def independent_files_trace(say_count: int, file_count: int) -> str:
+    """The text of a trace with say_count acknowledged lines, and then file_count new files in the
     root."""
-    return '\n'.join([HEADER, *[SAY] * says, *(CREAT % number for number in range(files))]) + '\n'
+    new_files = (CREAT % number for number in range(file_count))
+    return '\n'.join([HEADER, *[SAY] * say_count, *new_files]) + '\n'
 
 
-def measure_usage(words: List[str], lines: int, output_path: Path) -> Usage:
+def measure_usage(words: List[str], line_count: int, output_path: Path) -> Usage:
     """Runs a command to its end, however long it takes, and returns what it used. Its standard
     output replaces the file at output_path, and stays there. OSError if the command can't be
-    started, if its status isn't 0, or if it doesn't print so many lines."""
+    started, if its status isn't 0, or if it doesn't print line_count lines."""
     with open(output_path, 'wb') as output:
         with subprocess.Popen(words, stdin=subprocess.DEVNULL, stdout=output) as child:
             usage = wait_for_usage(child)
     with open(output_path, 'rb') as output:
-        line_count = sum(1 for _ in output)
-    if child.returncode != 0 or line_count != lines:
-        raise OSError(f'{words[0]} printed {line_count} lines with status {child.returncode}')
+        printed_count = sum(1 for _ in output)
+    if child.returncode != 0 or printed_count != line_count:
+        raise OSError(f'{words[0]} printed {printed_count} lines with status {child.returncode}')
     return usage
 
 
@@ -115,9 +116,9 @@ def measure_row(program: str, row: Row, folder: Path) -> Usage:
     and what is printed are files in the folder, in which they replace those of an earlier row.
     OSError as measure_usage(), or if the trace can't be written."""
     trace_path = folder / 'sets.trace'
-    trace_path.write_text(independent_files_trace(row.says, row.files))
+    trace_path.write_text(independent_files_trace(row.say_count, row.file_count))
     words = [program, 'picks', '--trace', str(trace_path), *row.options]
-    return measure_usage(words, row.lines, folder / 'printed')
+    return measure_usage(words, row.line_count, folder / 'printed')
 
 
 def add_set_rows(programs: Programs, tally: Tally, rows: Tuple[Row, ...] = ROWS) -> None:

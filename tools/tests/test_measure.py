@@ -172,7 +172,10 @@ class Sets(WithPrograms):
     def printed(self, lines: List[int]) -> str:
         """What is printed of the rows with 4 files each and without acknowledged lines, of which
         each must have so many lines."""
-        rows = [row._replace(says=0, files=4, lines=count) for row, count in zip(SET_ROWS, lines)]
+        rows = [
+            row._replace(say_count=0, file_count=4, line_count=count)
+            for row, count in zip(SET_ROWS, lines)
+        ]
         with contextlib.redirect_stdout(io.StringIO()) as out:
             tally = Tally()
             tally.begin_benchmark('sets')

@@ -45,12 +45,12 @@ class Shrinking:
         self.say_places = acknowledged_places(lines)
         self.cut = sessions.folder / 'cut.trace'
 
-    def find_failure(self, count: int, page: Optional[Path] = None) -> Optional[Failure]:
+    def find_failure(self, line_count: int, page: Optional[Path] = None) -> Optional[Failure]:
         """Writes the session up to so many acknowledged lines (0: all of it) to the file `cut`, and
         checks that part, as Sessions.check() does with this page. Returns the failure with the key;
         None if the check doesn't find it. Raises what Sessions.check() does, and OSError if `cut`
         can't be written."""
-        last_place = self.say_places[count - 1] if count else len(self.lines) - 1
+        last_place = self.say_places[line_count - 1] if line_count else len(self.lines) - 1
         text = ''.join(self.lines[: last_place + 1])
         self.cut.write_text(text, 'utf-8', 'surrogateescape')
         failures = self.sessions.check(self.cut, page).failures
@@ -74,11 +74,11 @@ class Shrinking:
                 high = middle
         return high
 
-    def write_part(self, count: int, trace: Path, page: Path) -> Optional[Failure]:
+    def write_part(self, line_count: int, trace: Path, page: Path) -> Optional[Failure]:
         """Writes the session up to so many acknowledged lines (0: all of it) to the file `trace`,
         and the report on it to `page`. Returns the failure as a check finds it in this part; None
         if the check doesn't find it, and the files are written even so. Raises what find_failure()
         does, and OSError if the trace can't be written."""
-        failure = self.find_failure(count, page)
+        failure = self.find_failure(line_count, page)
         trace.write_bytes(self.cut.read_bytes())
         return failure

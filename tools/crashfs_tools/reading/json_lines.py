@@ -59,11 +59,11 @@ def refuse_constant(text: str) -> None:
     raise ValueError(f'{text} is no number')
 
 
-def has_more_levels(value: Any, levels: int) -> bool:
-    """Whether a value has more than so many levels of objects and arrays. A text or a number has
-    none; an empty array has one."""
+def has_more_levels(value: Any, most_levels: int) -> bool:
+    """Whether a value has more than most_levels levels of objects and arrays. A text or a number
+    has none; an empty array has one."""
     level_values = [value]
-    for _ in range(levels):
+    for _ in range(most_levels):
         level_values = [inner for outer in level_values for inner in inner_values(outer)]
     return any(isinstance(inner, (dict, list)) for inner in level_values)
 
