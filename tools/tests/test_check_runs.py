@@ -335,6 +335,19 @@ class Progress(unittest.TestCase):
             ['crashfs-check: part 2: 10 of 10 tried, 0 fail, about 0 seconds left'],
         )
 
+    def test_a_terminal_has_lines_however_short_the_parts_are(self):
+        stream, now = io.StringIO(), [0.0]
+        with mock.patch.object(stream, 'isatty', lambda: True):
+            shown = progress.Progress(stream, lambda: now[0])
+        for part in range(4):
+            shown.begin_part(1, f'part {part}: ')
+            now[0] += progress.TERMINAL_SECONDS * 0.6
+            shown.add_outcome(Outcome(GOOD))
+            shown.end_part()
+        counts = '1 of 1 tried, 0 fail, about 0 seconds left'
+        lines = [line for line in stream.getvalue().split('\r') if line not in ('', '\033[K')]
+        self.assertEqual(lines, [f'part {part}: {counts}\033[K' for part in (1, 3)])
+
     def test_the_line_of_the_last_moment_is_removed_however_soon_it_comes(self):
         stream, now = io.StringIO(), [0.0]
         with mock.patch.object(stream, 'isatty', lambda: True):

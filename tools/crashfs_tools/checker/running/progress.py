@@ -62,8 +62,9 @@ class Pace:
 
 class Progress:
     """Shows how many states of a part of a check were tried: on a terminal in one line that
-    changes, else in a new line every EVERY_SECONDS, also if parts take less time than that. If the
-    stream is None, nothing is shown. `pace` counts the states of the part, without a limit."""
+    changes, else in a new line every EVERY_SECONDS, also if parts take less time than that; or, on
+    a terminal only, how many moments on disks. If the stream is None, nothing is shown. `pace`
+    counts the states of the part, without a limit."""
 
     def __init__(
         self, stream: Optional[TextIO] = sys.stderr, clock: Callable[[], float] = time.monotonic
@@ -86,15 +87,27 @@ class Progress:
         self.failed_count = 0
 
     def add_outcome(self, outcome: Outcome) -> None:
-        """Counts one more state of the part. Then shows the part's progress if the last line is
-        TERMINAL_SECONDS old on a terminal, or EVERY_SECONDS on another stream."""
+        """Counts one more state of the part. Then shows the part's progress if a line is_due()."""
         self.pace.count_state()
         self.failed_count += outcome.result == BAD
+        if self.is_due():
+            self.show_text(self.progress_text())
+
+    def is_due(self) -> bool:
+        """Whether the last line is TERMINAL_SECONDS old on a terminal, or EVERY_SECONDS on another
+        stream."""
         least_seconds = TERMINAL_SECONDS if self.is_terminal else EVERY_SECONDS
-        if self.clock() - self.report_time >= least_seconds:
-            self.report_time = self.clock()
-            text = self.progress_text()
-            self.print_text(f'\r{text}\033[K' if self.is_terminal else f'{NAME}: {text}\n')
+        return self.clock() - self.report_time >= least_seconds
+
+    def show_text(self, text: str) -> None:
+        """Shows a text in place of the line on a terminal, or as a new line on another stream."""
+        self.report_time = self.clock()
+        self.print_text(f'\r{text}\033[K' if self.is_terminal else f'{NAME}: {text}\n')
+
+    def remove_line(self) -> None:
+        """Removes the line from a terminal, which the stream must be. The next line is due as if it
+        were still there."""
+        self.print_text('\r\033[K')
 
     def print_text(self, text: str) -> None:
         """Prints a text on the stream, and flushes the stream. After an OSError, which isn't
@@ -117,19 +130,20 @@ class Progress:
         )
 
     def show_moments(self, tried_count: int, moment_count: int) -> None:
-        """On a terminal, shows how many moments of a session were tried on real disks, if the last
-        line is TERMINAL_SECONDS old. After the last moment the line is removed in any case."""
-        is_due = self.clock() - self.report_time >= TERMINAL_SECONDS
-        if self.is_terminal and (is_due or tried_count == moment_count):
-            self.report_time = self.clock()
-            counts = f'disks: {tried_count:,} of {moment_count:,} moments'
-            text = counts if tried_count < moment_count else ''
-            self.print_text(f'\r{text}\033[K')
+        """On a terminal, shows how many moments of a session were tried on real disks, each counted
+        once for each file system, if a line is_due(). After the last moment the line is removed in
+        any case."""
+        if not self.is_terminal:
+            return
+        if tried_count == moment_count:
+            self.remove_line()
+        elif self.is_due():
+            self.show_text(f'disks: {tried_count:,} of {moment_count:,} moments')
 
     def end_part(self) -> None:
         """Removes the part's line from a terminal, if there may be one."""
         if self.is_terminal and self.pace.tried_count:
-            self.print_text('\r\033[K')
+            self.remove_line()
 
 
 def duration_text(seconds: float) -> str:
