@@ -105,7 +105,7 @@ class Rows(unittest.TestCase):
         plan = make_plan(reading_of(ACKNOWLEDGED), has_holes=True)
         self.assertEqual(len(plan.states), 21)
         members = every(ACKNOWLEDGED)
-        listed = {text_of(it) for _, it in plan.states}
+        listed = {text_of(state.place_set) for state in plan.states}
         self.assertTrue(listed < set(members))
         self.assertTrue({'[2]', '[1,2,3,5,6]'} <= set(members) - listed)
 

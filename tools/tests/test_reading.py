@@ -187,8 +187,11 @@ class Digests(unittest.TestCase):
             except ReadingFault:
                 continue
             trees = [
-                (plan.trees.digest(places), contents_of(plan.trees.tree(places)))
-                for _, places in plan.states
+                (
+                    plan.trees.digest(state.place_set),
+                    contents_of(plan.trees.tree(state.place_set)),
+                )
+                for state in plan.states
             ]
             first = {}
             for digest, tree in trees:

@@ -3,7 +3,7 @@
 from __future__ import annotations
 
 from itertools import chain
-from typing import Any, Dict, Iterable, Iterator, List, NamedTuple, Sequence
+from typing import Any, Dict, Iterable, Iterator, List, NamedTuple, Sequence, Tuple
 
 from .faults import LineFault, ReadingFault, syntax_fault
 from .json_lines import is_trace_number, read_array
@@ -14,23 +14,31 @@ from .trace import Reading
 
 STATES = 16_384
 LARGEST_PLACE = 2**32 - 1
+# The names of a state's numbers in `list --json`, by its kind; a pick has one name for all.
+NUMBER_NAMES = {'prefix': ('end',), 'hole': ('missing', 'end')}
 
 
 class PlannedState(NamedTuple):
-    """A state of a plan: the fields by which `list --json` names its set, the kind first, and the
-    set."""
+    """A state of a plan: its kind, the numbers that name its set, and the set. A pick has the
+    places of its set as numbers, any other kind those of NUMBER_NAMES."""
 
-    fields: Dict[str, Any]
+    kind: str
+    numbers: Tuple[int, ...]
     place_set: int
 
     @property
+    def fields(self) -> Dict[str, Any]:
+        """The fields by which `list --json` names the set, the kind first."""
+        if self.kind == 'pick':
+            return {'kind': self.kind, 'places': list(self.numbers)}
+        return {'kind': self.kind, **dict(zip(NUMBER_NAMES[self.kind], self.numbers))}
+
+    @property
     def text(self) -> str:
-        """The fields as `list` prints them, such as `prefix 3`, `hole 1 3` or `pick 0,2`; `pick -`
-        for the empty set."""
-        kind, *numbers = self.fields.values()
-        if kind == 'pick':
-            numbers = [','.join(map(str, self.fields['places'])) or '-']
-        return ' '.join([kind, *map(str, numbers)])
+        """The kind and the numbers as `list` prints them, such as `prefix 3`, `hole 1 3` or
+        `pick 0,2`; `pick -` for the empty set."""
+        separator = ',' if self.kind == 'pick' else ' '
+        return f'{self.kind} {separator.join(map(str, self.numbers)) or "-"}'
 
 
 class StatePlan:
@@ -43,18 +51,18 @@ class StatePlan:
         self.trees = States(reading)
         self.states: List[PlannedState] = []
 
-    def add_state(self, fields: Dict[str, Any], place_set: int) -> None:
-        """Adds a state by its fields, see PlannedState, and its set, even if the plan has this set
-        already. ReadingFault if the plan is full; the plan stays as it was."""
+    def add_state(self, kind: str, numbers: Tuple[int, ...], place_set: int) -> None:
+        """Adds a state by its kind and numbers, see PlannedState, and its set, even if the plan has
+        this set already. ReadingFault if the plan is full; the plan stays as it was."""
         if len(self.states) >= STATES:
             raise ReadingFault('plan too large')
-        self.states.append(PlannedState(fields, place_set))
+        self.states.append(PlannedState(kind, numbers, place_set))
 
     def add_prefixes(self) -> None:
         """Adds each prefix, from the empty one to the whole trace. ReadingFault if the plan is
         full; the states added before stay."""
         for end in range(self.order.count + 1):
-            self.add_state({'kind': 'prefix', 'end': end}, (1 << end) - 1)
+            self.add_state('prefix', (end,), (1 << end) - 1)
 
     def add_holes(self) -> None:
         """Adds, for each prefix and each of its micro-operations but the last, the prefix without
@@ -65,13 +73,13 @@ class StatePlan:
         for lost, end in ((lost, end) for end in ends for lost in range(end - 1)):
             place_set = self.order.set_without((1 << end) - 1, 1 << lost)
             if place_set >> (end - 1):
-                self.add_state({'kind': 'hole', 'missing': lost, 'end': end}, place_set)
+                self.add_state('hole', (lost, end), place_set)
 
     def add_pick(self, places: Iterable[int]) -> None:
         """Adds the set of these places as a pick. Whether it is allowed isn't checked here.
         ReadingFault as add_state()."""
-        members = list(places)
-        self.add_state({'kind': 'pick', 'places': members}, set_of(members))
+        members = tuple(places)
+        self.add_state('pick', members, set_of(members))
 
     def refuse_bad_pick(self, number: int, pick: Sequence[int]) -> None:
         """ReadingFault, with the pick's number, unless its places are in ascending order, are all
