@@ -64,6 +64,12 @@ class Calls(unittest.TestCase):
         ]
         self.assertEqual(recording_of(log).trace.operations[0].mode, 0o640)
 
+    def test_a_file_that_openat2_makes_without_a_mode_has_none(self):
+        for mode, wanted in ((', mode=0640', 0o640), ('', 0)):
+            how = f'{{flags=O_WRONLY|O_CREAT{mode}}}'
+            log = [f'1 openat2(AT_FDCWD</d>, "a", {how}, 24) = 3</d/a>']
+            self.assertEqual(recording_of(log).trace.operations[0].mode, wanted)
+
     def test_a_number_that_no_user_can_have_is_a_name(self):
         log = ['1 chown("f", 99999999999, 99999999999) = 0']
         self.assertEqual(operations_of(log, FILE), ['chown /f u99999999999 g99999999999'])
