@@ -63,7 +63,7 @@ def allowed_trees(reading: Reading, profile: str) -> Set[TreeAndCount]:
 
 
 def session_result(
-    filesystem: str,
+    filesystem_name: str,
     seed: int,
     trace: Trace,
     disks: List[Disk],
@@ -71,8 +71,8 @@ def session_result(
     operation_count: int = OPERATIONS,
 ) -> SessionResult:
     """The result of a session on the file system of this name, from the different disks that its
-    crashes left there. The session must be that of the seed, with so many operations. A profile
-    allows a disk as is_allowed_disk() says. KeyError if PROFILE_OF has no such name."""
+    crashes left there. The session must be that of the seed, with operation_count operations. A
+    profile allows a disk as is_allowed_disk() says. KeyError if PROFILE_OF has no such name."""
     reading = parse_trace(trace_text(trace).encode())
     allowed = {profile: allowed_trees(reading, profile) for profile in profile_names(reading)}
     outside = {
@@ -80,13 +80,13 @@ def session_result(
         for profile, trees in allowed.items()
     }
     return SessionResult(
-        filesystem,
+        filesystem_name,
         seed,
         disks=sum(len(disk.crashes) for disk in disks),
         different=len(disks),
         states=len(allowed['blocks']),
         allowed={profile: len(disks) - len(outside[profile]) for profile in allowed},
-        outside=[disk_text(disk) for disk in outside.get(PROFILE_OF[filesystem], [])],
+        outside=[disk_text(disk) for disk in outside.get(PROFILE_OF[filesystem_name], [])],
         operations=operation_count,
     )
 

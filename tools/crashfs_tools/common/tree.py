@@ -89,17 +89,17 @@ class Tree:
             return self.micro_operations_of_all_versions
         return self.micro_operations_of_all_versions + self.micro_operations_of_version_4
 
-    def add_start(self, entry: StartLine) -> None:
+    def add_start(self, line: StartLine) -> None:
         """Adds the file, directory or link of a start line, with a copy of bytes that can be
         changed. Nothing is checked: the parent must be there, and the path free. KeyError if the
         source of a link isn't there."""
-        if isinstance(entry, StartLink):
-            self.add_link(entry.source, entry.path)
-        elif isinstance(entry, StartSymlink):
-            self.add_new(entry.path, symlink_entry(entry))
+        if isinstance(line, StartLink):
+            self.add_link(line.source, line.path)
+        elif isinstance(line, StartSymlink):
+            self.add_new(line.path, symlink_entry(line))
         else:
-            data = entry.data.copy() if isinstance(entry.data, SparseBytes) else entry.data
-            self.add_new(entry.path, Entry(entry.owner, entry.group, entry.mode, data))
+            data = line.data.copy() if isinstance(line.data, SparseBytes) else line.data
+            self.add_new(line.path, Entry(line.owner, line.group, line.mode, data))
 
     def add_new(self, path: str, entry: Entry) -> None:
         """Adds a new file, directory or symbolic link, with the next number, and counts it in

@@ -77,10 +77,10 @@ def unmount_directory(mount_point: str) -> None:
     raise last_error(mount_point)
 
 
-def copy_image(source: str, target: str) -> None:
-    """Copies an image to a path; the bytes of a file that is there are replaced. Holes stay holes.
-    After an OSError a part of the copy is left."""
-    with open(source, 'rb') as source_file, open(target, 'wb') as target_file:
+def copy_image(image: str, copy: str) -> None:
+    """Copies an image to the path `copy`; the bytes of a file that is there are replaced. Holes
+    stay holes. After an OSError a part of the copy is left."""
+    with open(image, 'rb') as source_file, open(copy, 'wb') as target_file:
         size = os.fstat(source_file.fileno()).st_size
         target_file.truncate(size)
         for offset, end in data_ranges(source_file.fileno(), size):

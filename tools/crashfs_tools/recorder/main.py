@@ -63,13 +63,13 @@ def run_under_strace(options: RecordOptions, guard: Guard) -> RecordedRun:
     leaves, also after an error. Refused as in find_strace() and refuse_incomplete_log(); LogError
     if the log isn't strace's; OSError if a file for the log can't be made or opened, strace can't
     be started, standard output can't be written, or a mapped file can't be read."""
-    strace = strace_run.find_strace()
+    strace_path = strace_run.find_strace()
     mapped_files = MappedFiles(options.directory, options.is_ignored) if options.mapped else None
     # All calls decide where copies of mapped files belong, also those on other files.
     line_filter = None if options.mapped else make_line_filter(options, options.directory)
     stream = LogStream(guard.directory, mapped_files, line_filter)
     stream.create_files(options.keep_log)
-    command = strace_run.strace_command(strace, stream.pipe, options)
+    command = strace_run.strace_command(strace_path, stream.pipe, options)
     traced_run = strace_run.StraceRun(command, options, stream, guard)
     try:
         status = traced_run.run_command()

@@ -54,17 +54,18 @@ def find_strace() -> str:
     return path
 
 
-def strace_command(strace: str, log_path: str, options: RecordOptions) -> List[str]:
-    """The words that start strace, with its log at log_path, and COMMAND under it. Only the calls
-    that the options need are traced. With --mapped SIGSTOP stops COMMAND at each of STOPPING_CALLS;
-    with --stacks the log has stacks, unless COMMAND is a Python program."""
+def strace_command(strace_path: str, log_path: str, options: RecordOptions) -> List[str]:
+    """The words that start strace, which is at strace_path, with its log at log_path, and COMMAND
+    under it. Only the calls that the options need are traced. With --mapped SIGSTOP stops COMMAND
+    at each of STOPPING_CALLS; with --stacks the log has stacks, unless COMMAND is a Python
+    program."""
     is_standard_only = set(options.acknowledging_descriptors) <= {'1', '2'}
     socket_calls = [] if is_standard_only else SOCKET_HANDLERS
     marking_calls = stacks.MARKING_CALLS if options.stacks else ()
     traced = dict.fromkeys([*FORKS, *HANDLERS, *socket_calls, *marking_calls])
     calls = ','.join(f'?{name}' for name in traced)
     command = [
-        strace,
+        strace_path,
         '-f',
         '-y',
         '-xx',

@@ -282,13 +282,13 @@ def numbers_of_sets(plan: Plan, sets: Iterable[int]) -> Tuple[int, ...]:
 
 
 def find_sets_of_all_states(
-    sets: AllSets, reading_sets: ReadingSets, most_sets: int
+    all_crash_sets: AllSets, reading_sets: ReadingSets, most_sets: int
 ) -> Optional[List[int]]:
     """A set for each different state; None if there are more than most_sets states. Then, for each
     profile that doesn't allow all of these sets, a set for each state that the profile allows,
     unless these are more than most_sets. A set may come several times. ProgramFault and PlanError
-    as `sets` raises them."""
-    different_sets = sets.different_sets(most_sets)
+    as all_crash_sets raises them."""
+    different_sets = all_crash_sets.different_sets(most_sets)
     if different_sets is None:
         return None
     common_bits = reduce(and_, reading_sets.profile_bits(different_sets))
@@ -298,7 +298,9 @@ def find_sets_of_all_states(
         if not common_bits >> place & 1
     ]
     return different_sets + [
-        members for name in other_names for members in sets.different_sets(most_sets, name) or []
+        members
+        for name in other_names
+        for members in all_crash_sets.different_sets(most_sets, name) or []
     ]
 
 
