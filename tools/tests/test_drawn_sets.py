@@ -1,4 +1,4 @@
-"""Sets that the program draws at random."""
+"""Sets that the program draws at random, and the states that have them."""
 
 from __future__ import annotations
 
@@ -7,6 +7,8 @@ import unittest
 from collections import Counter
 from typing import List
 
+from crashfs_tools.checker.states.plan import Needs, Plan, State
+from crashfs_tools.checker.states.planning import numbers_of_sets
 from crashfs_tools.common.program import Crashfs
 
 from .support import InFolder, needed
@@ -39,6 +41,18 @@ class DrawnSets(InFolder):
         self.assertEqual(set(counts), {'[]', '[0]', '[1]', '[0,1]'})
         for times in counts.values():
             self.assertTrue(850 < times < 1150, counts)
+
+
+class Numbers(unittest.TestCase):
+    def test_a_set_has_the_number_of_the_first_state_that_has_it(self) -> None:
+        places = enumerate([(0,), (1,), (0,)])
+        states = [
+            State(number, 'pick', places_of_state, 0, 0) for number, places_of_state in places
+        ]
+        plan = Plan([], states, Needs([0b01, 0b10]))
+        self.assertEqual(numbers_of_sets(plan, [0b10, 0b01, 0b10]), (1, 0, 1))
+        with self.assertRaises(KeyError):
+            numbers_of_sets(plan, [0b11])
 
 
 if __name__ == '__main__':
