@@ -110,7 +110,7 @@ class Plans(unittest.TestCase):
             wanted = make_plan(parse_trace(text.encode()), has_holes=True).states
             self.assertEqual(
                 [plan.kept[one.number] for one in plan.listed][: len(wanted)],
-                [places for _, places in wanted],
+                [state.place_set for state in wanted],
             )
             self.assertEqual(plan.states, plan.listed)
             self.assertTrue(all(map(plan.needs.is_allowed, plan.kept.values())))
