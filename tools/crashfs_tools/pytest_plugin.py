@@ -102,7 +102,7 @@ def failure_text(entry: Entry, trace: Path) -> str:
 
 def fail(*lines: str) -> NoReturn:
     """Fails the test with some lines, by an exception of pytest."""
-    pytest.fail('\n'.join(lines), pytrace=False)
+    raise pytest.fail.Exception('\n'.join(lines), pytrace=False)
 
 
 @pytest.fixture
