@@ -125,7 +125,7 @@ class Records(InRecordings):
     def test_the_last_line_counts_what_there_is(self):
         ran = self.record_aloud('echo 2 > new; echo one; rm old; echo two')
         self.assertIn(
-            '1 start line, 5 operations, 6 micro-operations, 20 states, '
+            '1 start line, 5 operations, 6 micro-operations, '
             '2 acknowledged lines (standard output); its last state equals the '
             'directory',
             ran.stderr,
@@ -163,7 +163,7 @@ class Records(InRecordings):
         )
         self.assertEqual(ran.returncode, 0, ran.stderr)
         self.assertEqual(len(ran.stdout.splitlines()), 4)
-        self.assertIn(' 3 micro-operations, 7 states, ', ran.stderr)
+        self.assertIn(' 3 micro-operations, 0 acknowledged lines; ', ran.stderr)
         os.mkfifo(self.path('pipe'))
         reader = threading.Thread(target=lambda: seen.append(self.read('pipe')))
         seen = []

@@ -296,7 +296,6 @@ class WithStrace(InRecordings):
                 self.assertEqual(ran.returncode, 3, ran.stderr)
                 self.assertIn(f'not in the trace: /: {told}', ran.stderr)
                 self.assertNotIn('no trace is written', ran.stderr)
-                self.assertNotIn('no states', ran.stderr)
                 self.assertTrue(os.path.exists(self.path('out.trace')))
                 if not os.path.exists(self.path('d')):
                     os.mkdir(self.path('d'))

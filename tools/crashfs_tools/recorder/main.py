@@ -219,7 +219,7 @@ def report_recording(
 ) -> int:
     """Compares the directory with the written trace, unless with --from-log, prints what the trace
     doesn't have, and then the summary. Returns the status. It raises what compare_directory() does,
-    before it prints anything, and what summary_line() does, before the summary."""
+    before it prints anything."""
     failure = summary.failure_of_command(run.status, run.passed_signals)
     report = summary.final_report(recording, options, failure)
     comparison = summary.NOT_COMPARED

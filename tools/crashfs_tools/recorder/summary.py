@@ -3,16 +3,14 @@
 from __future__ import annotations
 
 import os
-import tempfile
-from contextlib import contextmanager
 from dataclasses import dataclass, field
-from typing import Dict, Iterator, List, Optional, Tuple
+from typing import Dict, List, Optional, Tuple
 
-from crashfs_tools.common.command import TEXT, ending_text, relative_path_arguments
+from crashfs_tools.common.command import ending_text, relative_path_arguments
 from crashfs_tools.common.entry import Entries
 from crashfs_tools.common.limits import MICRO_OPERATIONS
 from crashfs_tools.common.printable import count_text
-from crashfs_tools.common.program import Crashfs, ProgramFault, is_plan_too_large
+from crashfs_tools.common.program import Crashfs, ProgramFault
 from crashfs_tools.common.trace import Say, Trace
 
 from .comparison import (
@@ -34,7 +32,6 @@ from .troubles import Trouble
 
 WHOLE, NOT_WHOLE, NOTED = 0, 3, 4
 NOT_COMPARED = 'its last state was compared with nothing'
-IN_WINDOWS = 'states in windows (crashfs-check makes them)'
 
 
 @dataclass
@@ -225,13 +222,12 @@ def needs_windows(recording: Recording) -> bool:
 
 def summary_line(options: RecordOptions, recording: Recording, comparison: str) -> str:
     """The last line that is printed: what the trace has, and the result of the comparison, which is
-    given in words. It raises what states_text() does."""
+    given in words."""
     trace = recording.trace
     counts = [
         count_text(len(trace.start), 'start line'),
         count_text(len(trace.operations), 'operation'),
         count_text(recording.tree.micro_operations, 'micro-operation'),
-        states_text(options, recording),
         acknowledged_text(recording),
     ]
     return f'{options.out}: {", ".join(counts)}; {comparison}'
@@ -247,37 +243,6 @@ def acknowledged_text(recording: Recording) -> str:
         if stream.is_acknowledged and stream.text_count
     )
     return count_text(line_count, 'acknowledged line') + (f' ({", ".join(names)})' if names else '')
-
-
-def states_text(options: RecordOptions, recording: Recording) -> str:
-    """How many states the trace has by prefixes and holes, in words, as the program counts them, or
-    the second reading, if there is no program or it can't. IN_WINDOWS if they are too many for a
-    plan; the fault of the second reading if that can't count them either. Refused if --crashfs
-    names no program; OSError as in trace_file(), or if the second reading can't be forked."""
-    if needs_windows(recording):
-        return IN_WINDOWS
-    text = ''
-    with trace_file(options.out, recording.trace) as path:
-        for program in (Crashfs.find(options.crashfs), Crashfs.second_reading()):
-            try:
-                if program is not None:
-                    return count_text(program.count_states(path), 'state')
-            except ProgramFault as fault:
-                text = IN_WINDOWS if is_plan_too_large(fault) else f'no states ({fault})'
-    return text
-
-
-@contextmanager
-def trace_file(out: str, trace: Trace) -> Iterator[str]:
-    """Yields the path of a file that has the trace: OUT, if has_trace() is True for it, or else a
-    temporary file, which is removed at the end. OSError if that can't be written."""
-    if has_trace(out):
-        yield out
-        return
-    with tempfile.NamedTemporaryFile('w', suffix='.trace', **TEXT) as file:
-        file.writelines(line + '\n' for line in trace.lines())
-        file.flush()
-        yield file.name
 
 
 def failure_of_command(status: int, passed_signals: Tuple[int, ...]) -> Optional[str]:
