@@ -5,13 +5,15 @@ import os
 import shutil
 import signal
 import unittest
+from dataclasses import replace
 from pathlib import Path
 from unittest import mock
 
 from crashfs_tools.campaign import main
-from crashfs_tools.campaign.book import Book
+from crashfs_tools.campaign.book import Book, KnownFailure
 from crashfs_tools.campaign.options import read_options
 from crashfs_tools.campaign.sessions import Failure, SessionVerdict
+from crashfs_tools.common.signals import Stopped
 
 from .support import PATIENCE, InFolder
 
@@ -230,6 +232,41 @@ class Campaigns(InFolder):
         self.assertIn('crashfs-campaign: stopped by SIGTERM\n', err)
         self.assertIn(f'\n  {LOST}\n', out)
         self.assertFalse(os.path.exists(self.path('found', 'work')))
+
+    def test_a_stop_during_the_report_is_a_line_with_the_status_of_the_signal(self):
+        words = [self.path('found'), '--', self.session, '--', self.recover]
+        stop = Stopped(signal.SIGTERM)
+        with mock.patch.multiple(
+            main,
+            raise_on_stop_signals=mock.DEFAULT,
+            set_utf8_streams=mock.DEFAULT,
+            report_campaign=mock.Mock(side_effect=stop),
+            print_line=mock.DEFAULT,
+        ) as replaced, mock.patch.object(main.Campaign, 'run'):
+            self.assertEqual(main.main(words), 143)
+        replaced['print_line'].assert_called_once_with('crashfs-campaign', 'stopped by SIGTERM')
+
+    def test_a_stop_while_a_shorter_session_is_kept_leaves_the_entry(self):
+        words = [self.path('found'), '--', self.session, '--', self.recover]
+        campaign = new_campaign(words)
+        entry = KnownFailure(Failure(LOST, [], 3, 1), 3, 1, says=4, shortest=3, kept_seed=3)
+        shrinking = mock.Mock(say_places=[1, 2, 3, 4])
+        shrinking.write_part.side_effect = Stopped(signal.SIGTERM)
+        before = replace(entry)
+        with self.assertRaises(Stopped):
+            campaign.keep_session(entry, 7, shrinking, 1)
+        self.assertEqual(entry, before)
+
+    def test_ctrl_c_before_the_first_session_ends_the_command_without_a_word(self):
+        os.makedirs(self.path('found'))
+        os.mkfifo(self.path('found', 'campaign.json'))
+        words = (self.path('found'), '--', self.session, '--', self.recover)
+        child = self.start('crashfs-campaign', *words)
+        # It is open for writing once the command has opened it to read.
+        with open(self.path('found', 'campaign.json'), 'wb'):
+            child.send_signal(signal.SIGINT)
+            out, err = child.communicate(timeout=PATIENCE)
+        self.assertEqual((child.returncode, out, err), (-signal.SIGINT, '', ''))
 
     def test_a_session_that_ignores_a_stop_is_killed(self):
         script = f"#!/bin/sh\ntrap '' TERM\necho > {self.path('begun')}\nsleep {2 * PATIENCE}\n"

@@ -44,7 +44,8 @@ class Campaign:
     def run(self) -> None:
         """Tries the remaining seeds, in their order, up to the last one or until the time is over;
         a session that has begun is finished. The folder `work` is made first, in place of an old
-        one, and in the end removed in any case; OSError if it can't be made or removed. Raises what
+        one, and removed in the end, also after an exception; what remove_tree() can't remove stays,
+        without an error. OSError if the folder can't be made, or as remove_tree(). Raises what
         try_seed() does: that seed isn't counted as tried, and the next run tries it again."""
         begin_time, last_seed = time.monotonic(), self.options.seeds[1]
         remove_tree(str(self.work))
@@ -61,8 +62,8 @@ class Campaign:
         """Tries the session of a seed, adds what is found to the book, and saves the book. A
         session without a whole verdict is among the book's faults and counts as tried; failures
         that an incomplete check found count too. If nothing was printed for EVERY_SECONDS, prints a
-        line. Raises what Sessions does, and OSError if RESULTS can't be written: then the book's
-        file doesn't have the seed."""
+        line. Raises what verdict_of_seed() and add_failure() do, and OSError as Book.save(). After
+        an exception the book, but not its file, may have some of the seed's failures."""
         verdict = self.verdict_of_seed(seed)
         if verdict.fault:
             self.book.faults.append((seed, verdict.fault))
@@ -76,7 +77,7 @@ class Campaign:
 
     def verdict_of_seed(self, seed: int) -> SessionVerdict:
         """Records and checks the session of a seed. If it can't be recorded, the verdict is only
-        that fault. Raises what Sessions does."""
+        that fault. Raises what Sessions.record() and Sessions.check() do."""
         fault = self.sessions.record(seed)
         return SessionVerdict(fault=fault) if fault else self.sessions.check(self.sessions.trace)
 
@@ -87,10 +88,11 @@ class Campaign:
         self.print_time = time.monotonic()
 
     def add_failure(self, seed: int, key: str, failure: Failure) -> None:
-        """Counts a failure of the session that was recorded last; to be called once for each key.
-        Keeps this session, cut to the shortest part that fails in the same way, if the failure is
-        new, or if that part has fewer acknowledged lines than the kept one: then it prints a line.
-        OSError if its trace can't be read; raises too what Shrinking does."""
+        """Counts a failure of the session that was recorded last, which is that of `seed`; to be
+        called once for each of its keys. Keeps this session, cut to the shortest part that fails in
+        the same way, if the failure is new, or if that part has fewer acknowledged lines than the
+        kept one: then it prints a line. OSError if its trace can't be read; raises too what
+        Shrinking does."""
         shrinking = Shrinking(self.sessions, key, lines_of_trace(self.sessions.trace))
         known_failure = self.book.entries.get(key)
         if known_failure is None:
@@ -111,13 +113,14 @@ class Campaign:
         self, entry: KnownFailure, seed: int, shrinking: Shrinking, line_count: int
     ) -> None:
         """Keeps the session of a seed, up to so many acknowledged lines (0: all of it), as the
-        shortest one of a failure: replaces the entry's trace and page, and notes the session in the
-        entry. If a check of the cut session finds the failure, the entry describes it as found
-        there. Raises what Shrinking.write_part() does."""
-        entry.kept_seed, entry.says, entry.shortest = seed, len(shrinking.say_places), line_count
+        shortest one of a failure: replaces the entry's trace and page, and then notes the session
+        in the entry. If a check of the cut session finds the failure, the entry describes it as
+        found there. Raises what Shrinking.write_part() does: the entry is as before, but a file of
+        it may be replaced."""
         cut_failure = shrinking.write_part(
             line_count, self.results / entry.trace, self.results / entry.page
         )
+        entry.kept_seed, entry.says, entry.shortest = seed, len(shrinking.say_places), line_count
         entry.failure = cut_failure or entry.failure
 
 
@@ -136,9 +139,10 @@ def open_book(options: CampaignOptions) -> Book:
 
 def run_campaign(arguments: List[str]) -> int:
     """Runs a campaign, prints its report, and returns the status. Once the campaign has begun, the
-    first signal of a stop ends it, with a report, and later ones are ignored. Refused input gives a
-    line and the status BAD_INPUT. A wrong word, --help and --version end the program (SystemExit).
-    Any other error is raised, without a report: what was saved stays."""
+    first signal of a stop ends it, with a report, and later ones are ignored; a stop during the
+    report is raised as Stopped. Refused input gives a line and the status BAD_INPUT. A wrong word,
+    --help and --version end the program (SystemExit). Any other error is raised, without a report:
+    what was saved stays."""
     try:
         options = read_options(arguments)
         campaign = Campaign(options, open_book(options))
@@ -179,12 +183,16 @@ def exit_status(book: Book) -> int:
 
 def main(arguments: Optional[List[str]] = None) -> int:
     """Runs crashfs-campaign with these words, or those of its command line, and returns its status.
-    The standard streams are UTF-8 from then on. An exception is printed as a line, and gives the
-    status NO_VERDICT; SystemExit is raised as in run_campaign()."""
+    The standard streams are UTF-8 from then on. A stop during the report gives a line and the
+    signal's status, any other Exception a line and the status NO_VERDICT; SystemExit is raised as
+    in run_campaign()."""
     words = sys.argv[1:] if arguments is None else arguments
     set_utf8_streams()
     try:
         return run_campaign(words)
+    except Stopped as stop:
+        print_line(NAME, f'stopped by {stop}')
+        return stop.status
     except Exception as error:
         print_own_fault(NAME, error)
         return NO_VERDICT
