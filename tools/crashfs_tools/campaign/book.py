@@ -36,12 +36,12 @@ class KnownFailure:
 
     @property
     def trace(self) -> str:
-        """The name of the file that has the shortened trace."""
+        """The name of the file that has the kept trace."""
         return f'entry-{self.number}.trace'
 
     @property
     def page(self) -> str:
-        """The name of the file that has the report of the shortened trace."""
+        """The name of the file that has the report of the kept trace."""
         return f'entry-{self.number}.html'
 
     @property
@@ -99,8 +99,8 @@ def read_book(path: Path, identity: List[object], first_seed: int) -> Book:
 
 def book_of_fields(path: Path, fields: Dict[str, Any], first_seed: int) -> Book:
     """The book whose save() wrote these fields; its next seed is at least first_seed. ValueError,
-    KeyError, TypeError or AttributeError if the fields are of no book. The fields of the entries
-    are changed."""
+    KeyError, TypeError or AttributeError if the fields are of no book; of the numbers and texts in
+    them only next_seed is checked. The entries lose their `key` and `failure`."""
     next_seed = max(first_seed, fields['next_seed'])
     book = Book(path, fields['identity'], next_seed, fields['sessions'])
     book.faults = [(seed, text) for seed, text in fields['faults']]
@@ -111,9 +111,10 @@ def book_of_fields(path: Path, fields: Dict[str, Any], first_seed: int) -> Book:
 
 
 def failure_key(failure: Failure) -> str:
-    """What is the same of a failure in all sessions: its cause up to a colon, and its first
-    sentence, if there is one, with `#` in place of numbers, quoted texts and random names. The file
-    has these keys: if they were made in another way, known failures would count as new."""
+    """What is the same of a failure in all sessions: its cause up to the first colon, and its first
+    sentence, if there is one, with `#` in place of numbers, quoted texts, and words of six or more
+    hexadecimal digits, such as random names. The file has these keys: if they were made in another
+    way, known failures would count as new."""
     kind = failure.cause.partition(':')[0]
     return VARYING.sub('#', ': '.join([kind, *failure.text[:1]]))
 

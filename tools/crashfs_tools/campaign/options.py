@@ -83,7 +83,7 @@ def parse_time_limit(text: str) -> float:
     return seconds
 
 
-def parse_words(text: str) -> List[str]:
+def split_words(text: str) -> List[str]:
     """The words of a text, quoted as for a shell. ArgumentTypeError if a quotation has no end."""
     try:
         return shlex.split(text)
@@ -127,14 +127,14 @@ def add_session_options(parser: argparse.ArgumentParser) -> None:
     parser.add_argument(
         '--record',
         metavar='WORDS',
-        type=parse_words,
+        type=split_words,
         default=[],
         help='options of crashfs-record, in one argument',
     )
     parser.add_argument(
         '--check',
         metavar='WORDS',
-        type=parse_words,
+        type=split_words,
         default=[],
         help='options of crashfs-check, in one argument',
     )
@@ -143,7 +143,7 @@ def add_session_options(parser: argparse.ArgumentParser) -> None:
 def read_options(arguments: List[str]) -> CampaignOptions:
     """The options of a command line, with absolute paths of the programs and of --start. Without
     --seeds the seeds are SEEDS, or ALL_SEEDS if there is a time limit. A wrong word, a missing
-    command, --help and --version end the program (SystemExit). Refused if a program isn't found, or
+    command, --help and --version end the program (SystemExit). Refused as with_program_path(), or
     if --start names no directory."""
     parser = make_parser()
     values, commands = parse_command_line(parser, arguments)

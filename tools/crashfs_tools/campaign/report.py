@@ -96,8 +96,8 @@ def page_text(options: CampaignOptions, book: Book, folder: str) -> str:
 
 
 def about_lines(options: CampaignOptions, book: Book) -> Iterator[str]:
-    """What the page says below its title: the two commands, the last seed that was tried, the
-    version, and the present date and time in UTC."""
+    """What the page says below its title: the two commands, the seed before the next one to try,
+    the version, and the present date and time in UTC."""
     yield f'SESSION: {shlex.join(options.session)}'
     yield f'RECOVERY: {shlex.join(options.recovery)}'
     yield f'seeds up to {book.next_seed - 1:,}; {version_text(NAME)}; {present_time()}'

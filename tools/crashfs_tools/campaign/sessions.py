@@ -62,7 +62,7 @@ class Sessions:
     def record(self, seed: int) -> str:
         """Records SESSION with a seed, in a new store: empty, or a copy of --start. Returns why
         there is no trace that can be checked; an empty text if there is one. An incomplete trace
-        can't be checked. OSError if the last store can't be removed, if --start can't be copied, or
+        can't be checked. OSError if the store can't be made, as when the last one is in the way, or
         as run_tool()."""
         store = self.folder / 'store'
         remove_tree(str(store))
@@ -75,9 +75,10 @@ class Sessions:
         return '' if status in RECORDED else fault_text('crashfs-record', status, error_text)
 
     def check(self, trace: Path, page: Optional[Path] = None) -> SessionVerdict:
-        """Checks a trace with RECOVERY, and returns what verdict_of() makes of the report. If
-        `page` is given, the check writes the report to that file as a page too. Raises what
-        run_tool(), read_report() and verdict_of() do."""
+        """Checks a trace with RECOVERY, and returns what verdict_of() makes of the report, or of
+        none if the check wrote none. If `page` is given, the check writes the report to that file
+        as a page too. Raises what run_tool(), read_report() and verdict_of() do; OSError if the
+        last report can't be removed."""
         report = self.folder / 'report.json'
         if report.exists():
             report.unlink()
@@ -125,7 +126,7 @@ def end_tool(child: subprocess.Popen[str]) -> None:
 
 def read_report(report: Path) -> Dict[str, Any]:
     """The JSON of a report of crashfs-check. OSError if it can't be read, or if its version isn't
-    one of REPORTS; ValueError if it is no JSON."""
+    one of REPORTS; ValueError if it is no JSON, AttributeError if that is no object."""
     fields: Dict[str, Any] = json.loads(report.read_text('utf-8', 'surrogateescape'))
     if fields.get('crashfs-check') not in REPORTS:
         raise OSError(f'{report} is a report of another version')

@@ -33,10 +33,10 @@ DIRECTORY, OTHER = 'd', 'other'
 
 
 class CrashMaker:
-    """Crashes a session on one file system. `folder` is for its images and mount points. A process
-    that calls its methods must have mounts of its own, by use_own_mounts(). They raise Refused if
-    an image can't be made, mounted or repaired, and OSError if anything else fails, as an operation
-    of the session."""
+    """Crashes a session on one file system. `folder` is for its images and mount points. Methods
+    that mount an image may be called only in a process with mounts of its own: see
+    use_own_mounts(). They raise Refused if an image can't be made, mounted or repaired, and OSError
+    if anything else fails, as an operation of the session."""
 
     def __init__(
         self, filesystem: FileSystem, trace: Trace, folder: str, line_numbers: Sequence[int] = ()

@@ -81,7 +81,7 @@ def read_entry(path: str, owners: Owners) -> Entry:
 
 
 def digest_of(tree: Entries) -> str:
-    """A digest of a tree: equal trees have equal digests, in whatever order their paths are and
+    """A digest of a tree: equal trees have equal digests, whatever the order of their paths is and
     however their bytes are kept; different trees have different ones."""
     digest = hashlib.sha256()
     for piece in chain.from_iterable(digested_pieces(path, tree[path]) for path in sorted(tree)):
@@ -91,10 +91,10 @@ def digest_of(tree: Entries) -> str:
 
 
 def digested_pieces(path: str, entry: Entry) -> Iterator[bytes]:
-    """The pieces of an entry that a digest is made from: its path, its rights and its content,
-    which is empty for a directory. The content begins with a letter: l for a link's target, f for a
-    file's bytes, s for a large file. Of that only the pages with data count, each with its number:
-    zeros may be kept as holes or not."""
+    """The pieces of an entry that a digest is made from: its path, its rights and its content. The
+    content of a directory is empty, that of a link is an l and its target, that of a small file an
+    f and its bytes. That of a large file is an s and its length, and then each page that isn't all
+    zeros, after its number: zeros may be kept as holes or not."""
     yield os.fsencode(path)
     yield f'{entry.owner}\0{entry.group}\0{entry.mode:o}'.encode('utf-8', 'surrogateescape')
     if entry.link is not None:

@@ -82,9 +82,9 @@ def flush_earlier_file(replay: Replay, flush: Flush) -> None:
 
 def make_flush(replay: Replay, flush: Flush, log_file: str) -> None:
     """Makes the kernel write what a flush writes at the crash: with EARLIER the files that
-    flush_earlier_file() didn't write; with DIRECTORY it only syncs the session's top. `log_file` is
-    the path of a file on the same file system that isn't the session's: its fsync writes the log.
-    OSError if anything fails."""
+    flush_earlier_file() didn't write; with DIRECTORY it only syncs the session's top; with NOTHING
+    nothing. `log_file` is the path of a file on the same file system that isn't the session's: its
+    fsync writes the log. OSError if anything fails."""
     kind = flush.kind
     if kind in (FlushKind.BYTES, FlushKind.BOTH, FlushKind.ONE, FlushKind.EARLIER):
         for inode in files_to_flush(replay, flush):

@@ -63,8 +63,9 @@ class DiskPool:
     def disks(self, jobs: int, on_step: Callable[[int, int], None]) -> Dict[str, List[Disk]]:
         """The different disks of each file system, by its name, made by up to `jobs` processes.
         on_step is called after each task, with how many tasks are done and how many there are.
-        Refused if an image can't be made or mounted, or if a process was killed; any other fault of
-        a process is an OSError or a workers.Fault. After a fault there are no disks."""
+        Refused if an image can't be made, mounted or repaired, if a process can't have mounts of
+        its own, or if one was killed; any other fault of a process is an OSError or a
+        workers.Fault. After a fault there are no disks."""
         tasks = self.tasks()
         trees_by_name: Dict[str, CrashedTrees] = {name: [] for name in self.makers}
         with DiskWorkers(jobs, partial(become_worker, os.getpid()), self.do_task) as workers:
