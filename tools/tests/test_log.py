@@ -12,7 +12,7 @@ from crashfs_tools.recorder import arguments
 from crashfs_tools.recorder.arguments import LogError
 from crashfs_tools.recorder.directory import Scan
 from crashfs_tools.recorder.log_filter import LogFilter
-from crashfs_tools.recorder.pipe_lines import PipeLines
+from crashfs_tools.recorder.log_stream import PipeLines
 from crashfs_tools.recorder.live_files import StartConditions
 from crashfs_tools.recorder.start_tree import files_at_start
 from crashfs_tools.recorder.recording import Recording, TraceSettings

@@ -15,9 +15,8 @@ from unittest import mock
 from crashfs_tools.common import limits, own_faults
 from crashfs_tools.common.signals import Stopped
 from crashfs_tools.recorder import main
-from crashfs_tools.recorder.log_stream import LogStream
+from crashfs_tools.recorder.log_stream import LogStream, PipeLines
 from crashfs_tools.recorder.mapped_files import MappedFiles
-from crashfs_tools.recorder.pipe_lines import PipeLines
 from crashfs_tools.recorder.stopped_processes import is_stopped
 from crashfs_tools.recorder.strace_run import StraceRun
 from crashfs_tools.common.trace import Start

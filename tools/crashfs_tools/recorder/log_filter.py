@@ -80,23 +80,18 @@ class LogFilter:
             self.has_mapping |= self.shown_top in line
         elif name in DESCRIPTOR_MAKERS:
             result = RESULT.search(line)
-            if result is not None and (
-                self.is_result_needed(line, result[2]) or self.has_needed_descriptor(line)
-            ):
+            if result is not None and self.is_result_needed(line, result[2]):
                 self.needed_descriptors.add(int(result[1]))
 
     def is_result_needed(self, line: str, shown_result: Optional[str]) -> bool:
         """Whether the descriptor that a line's call made may be of the directory or of a stream:
-        strace shows nothing for the descriptor (None), or a path of the directory, or the line has
-        a path such as /dev/fd/3."""
+        strace shows nothing for the descriptor (None), or a path of the directory; or the line has
+        a path such as /dev/fd/3; or the call's first argument is a needed descriptor, which it
+        duplicates."""
         if shown_result is None or self.shown_top in shown_result:
             return True
-        return any(path in line for path in DESCRIPTOR_PATHS)
-
-    def has_needed_descriptor(self, line: str) -> bool:
-        """Whether the first argument of a line's call is a needed descriptor, as in a call that
-        duplicates one."""
+        if any(path in line for path in DESCRIPTOR_PATHS):
+            return True
         match = HEAD.match(line)
-        if match is None or match[2] is None:
-            return False
-        return parse_integer(match[2]) in self.needed_descriptors
+        number = match[2] if match else None
+        return number is not None and parse_integer(number) in self.needed_descriptors

@@ -4,26 +4,38 @@ disk."""
 from __future__ import annotations
 
 import errno
+import fcntl
 import os
 import re
-import select
 import signal
 import threading
-from typing import List, Optional, Set, TextIO, Union
+import time
+from collections import deque
+from contextlib import suppress
+from typing import Deque, List, Optional, Set, TextIO, Union
 
+from crashfs_tools.common.pipes import poll_for_input
 from crashfs_tools.common.whole_files import refuse_foreign_file
 
 from . import stopped_processes
 from .arguments import LogError
 from .log_filter import LogFilter
 from .mapped_files import MappedFiles
-from .pipe_lines import PipeLines, enlarge_pipe
 from .stopped_processes import Stop
 from .strace_log import Log, LogReader
 
 # Within how many seconds strace reports all threads of a process as stopped.
 SAME_STOP_SECONDS = 0.005
 STOPPED = re.compile(r'^(\d+) +--- stopped by SIGSTOP ---')
+# How many bytes one read of the pipe takes at most.
+READ_BYTES = 1 << 18
+# For how many seconds a reader that need not see each line at once waits for more lines: one that
+# wakes up for each of them makes the writer of 50,000 lines take 1.7 times as long.
+GATHER_SECONDS = 0.002
+# The room that the pipe gets, if the system allows it, instead of the usual 64 KiB.
+PIPE_BYTES = 1 << 20
+# Linux's number of the call that sets the size of a pipe; Python has its name since 3.10.
+F_SETPIPE_SZ = 1031
 
 
 def create_log(path: str) -> TextIO:
@@ -33,14 +45,50 @@ def create_log(path: str) -> TextIO:
     return open(path, 'w', encoding='utf-8', errors='surrogateescape')
 
 
-def wait_for_writer(descriptor: int) -> None:
-    """Waits, without a time limit, until a process has opened a pipe for writing: before that, a
-    read would find the pipe's end. Reads from the descriptor, which is the pipe's, block from then
-    on."""
-    first_writer = select.poll()
-    first_writer.register(descriptor, select.POLLIN)
-    first_writer.poll()
-    os.set_blocking(descriptor, True)
+class PipeLines:
+    """Reads a pipe line by line. ready_lines are read and not returned yet; has_ended means that
+    the pipe's end is read. If may_gather is set, GATHER_SECONDS pass after a read of few bytes."""
+
+    def __init__(self, descriptor: int, *, may_gather: bool = False) -> None:
+        """Reads nothing yet. The descriptor is the caller's, who closes it."""
+        self.descriptor = descriptor
+        self.may_gather = may_gather
+        self.ready_lines: Deque[str] = deque()
+        # The bytes of a line that has no end yet.
+        self.pieces: List[bytes] = []
+        self.has_ended = False
+
+    def next_line(self, idle_seconds: Optional[float] = None) -> Optional[str]:
+        """The next line, with its line feed, which the last one may lack. None at the pipe's end
+        (has_ended), or if no bytes come within idle_seconds; without these it waits without a
+        limit. If few bytes come, and may_gather is set, GATHER_SECONDS pass, so that the next read
+        finds more. Bytes that aren't UTF-8 become surrogates, as in os.fsdecode. OSError if a read
+        fails."""
+        milliseconds = None if idle_seconds is None else idle_seconds * 1000
+        while not self.ready_lines and not self.has_ended:
+            if not poll_for_input(self.descriptor).poll(milliseconds):
+                return None
+            piece = os.read(self.descriptor, READ_BYTES)
+            if self.may_gather and 0 < len(piece) < READ_BYTES // 4:
+                time.sleep(GATHER_SECONDS)
+            self.add_bytes(piece)
+        return self.ready_lines.popleft() if self.ready_lines else None
+
+    def add_bytes(self, piece: bytes) -> None:
+        """Adds the lines that the next bytes of the pipe complete to ready_lines; what is after the
+        last line feed waits in `pieces`. No bytes mean the pipe's end: a line without a line feed
+        is ready then too."""
+        self.pieces.append(piece)
+        if b'\n' in piece:
+            *lines, unended = b''.join(self.pieces).split(b'\n')
+            self.pieces = [unended]
+            self.ready_lines.extend(
+                line.decode('utf-8', 'surrogateescape') + '\n' for line in lines
+            )
+        if not piece:
+            self.has_ended = True
+            line = b''.join(self.pieces).decode('utf-8', 'surrogateescape')
+            self.ready_lines.extend([line] if line else [])
 
 
 class LogStream:
@@ -77,29 +125,28 @@ class LogStream:
         """Opens the pipe, and starts the thread that reads it, which finish() ends. OSError if the
         pipe can't be opened: then strace waits for a reader until it is killed."""
         descriptor = os.open(self.pipe, os.O_RDONLY | os.O_NONBLOCK)
-        enlarge_pipe(descriptor)
+        with suppress(OSError):
+            fcntl.fcntl(descriptor, F_SETPIPE_SZ, PIPE_BYTES)
         self.thread = threading.Thread(target=self.read_pipe, args=(descriptor,), daemon=True)
         self.thread.start()
 
     def finish(self) -> Log:
         """Waits until no process has the pipe open, without a time limit, and returns the log,
         which is empty if strace never opened the pipe. Must be called after start(), and once.
-        LogError if the log isn't strace's, OSError if a mapped file could not be read."""
+        LogError if the log isn't strace's, OSError if a mapped file could not be read, or if the
+        pipe can't be opened."""
         assert self.thread is not None
-        self.release_reader()
+        try:
+            # If strace never opened the pipe, the thread still waits for a writer.
+            os.close(os.open(self.pipe, os.O_WRONLY | os.O_NONBLOCK))
+        except OSError as error:
+            # With ENXIO the thread has closed its own end already.
+            if error.errno != errno.ENXIO:
+                raise
         self.thread.join()
         if self.log_error is not None:
             raise self.log_error
         return self.reader.log
-
-    def release_reader(self) -> None:
-        """Ends the thread's wait for a writer, by opening and closing the pipe; nothing if the
-        thread has closed its own end. OSError if the pipe can't be opened for another reason."""
-        try:
-            os.close(os.open(self.pipe, os.O_WRONLY | os.O_NONBLOCK))
-        except OSError as error:
-            if error.errno != errno.ENXIO:
-                raise
 
     def read_pipe(self, descriptor: int) -> None:
         """What the thread runs: reads all lines, and makes the last copy of mapped files. Closes
@@ -119,7 +166,9 @@ class LogStream:
     def read_lines(self, descriptor: int) -> None:
         """Adds the lines of the pipe from its first writer until no process has it open, and copies
         mapped files at each stop. Faults set log_error or keep_fault."""
-        wait_for_writer(descriptor)
+        # Until a process has opened the pipe for writing, a read would find its end.
+        poll_for_input(descriptor).poll()
+        os.set_blocking(descriptor, True)
         # A process whose mapped files are copied is stopped until its line is read.
         lines = PipeLines(descriptor, may_gather=self.mapped_files is None)
         line = lines.next_line()

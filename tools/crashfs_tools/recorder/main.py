@@ -58,16 +58,16 @@ class RecordedRun:
     log_fault: str = ''
 
 
-def run_under_strace(options: RecordOptions, guard: Guard) -> RecordedRun:
+def run_under_strace(options: RecordOptions, guard: Guard, line_filter: LogFilter) -> RecordedRun:
     """Runs COMMAND under strace to its end, without a time limit, and ends the processes that it
-    leaves, also after an error. Refused as in find_strace() and refuse_incomplete_log(); LogError
+    leaves, also after an error. With --mapped all lines of the log are read, else those that the
+    filter finds needed. Refused as in find_strace() and refuse_incomplete_log(); LogError
     if the log isn't strace's; OSError if a file for the log can't be made or opened, strace can't
     be started, standard output can't be written, or a mapped file can't be read."""
     strace_path = strace_run.find_strace()
     mapped_files = MappedFiles(options.directory, options.is_ignored) if options.mapped else None
     # All calls decide where copies of mapped files belong, also those on other files.
-    line_filter = None if options.mapped else make_line_filter(options, options.directory)
-    stream = LogStream(guard.directory, mapped_files, line_filter)
+    stream = LogStream(guard.directory, mapped_files, None if options.mapped else line_filter)
     stream.create_files(options.keep_log)
     command = strace_run.strace_command(strace_path, stream.pipe, options)
     traced_run = strace_run.StraceRun(command, options, stream, guard)
@@ -95,14 +95,8 @@ def refuse_incomplete_log(log: Log, program: str) -> None:
         raise Refused('strace recorded nothing (it may not trace here: see its message)')
     if not log.is_whole:
         raise Refused("strace's log ends before COMMAND did")
-    if not log.has_started_program:
+    if not any(call.name == 'execve' and call.result == 0 for call in log.calls):
         raise Refused(f'{program} could not be started (strace prints why)')
-
-
-def make_line_filter(options: RecordOptions, top: str) -> LogFilter:
-    """A filter that keeps the log's lines on the directory with the path `top` in the calls, on the
-    descriptors of --say-fd, and on the standard streams."""
-    return LogFilter(os.fsencode(top), numbered_descriptors(options.acknowledging_descriptors))
 
 
 def load_log(path: str, line_filter: LogFilter) -> Log:
@@ -197,10 +191,11 @@ def run_or_load_log(options: RecordOptions, files: LiveFiles) -> RecordedRun:
     """Runs COMMAND under strace, or loads the log of --from-log, and returns the run. If that log
     ends early, that is reported. It raises what run_under_strace() or load_log() does, and OSError
     if no temporary directory can be made."""
+    numbers = numbered_descriptors(options.acknowledging_descriptors)
+    line_filter = LogFilter(os.fsencode(files.conditions.top), numbers)
     if options.from_log is None:
         with Guard(NAME) as guard:
-            return run_under_strace(options, guard)
-    line_filter = make_line_filter(options, files.conditions.top)
+            return run_under_strace(options, guard, line_filter)
     run = RecordedRun(load_log(options.from_log, line_filter))
     if not run.log.is_whole:
         files.recording.report('the log ends before the program did', '/')

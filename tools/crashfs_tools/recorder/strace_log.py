@@ -77,11 +77,6 @@ class Log:
         """Whether the log has the end of the first thread. False if it has no call."""
         return self.first_thread in self.ended_threads
 
-    @property
-    def has_started_program(self) -> bool:
-        """Whether an execve succeeded, as the one that starts COMMAND's program must."""
-        return any(call.name == 'execve' and call.result == 0 for call in self.calls)
-
 
 @dataclass
 class InterruptedCall:
