@@ -1,4 +1,4 @@
-"""Reads files from a disk, without their holes."""
+"""Reads files from a disk, without their holes, and writes bytes at an offset of a file."""
 
 from __future__ import annotations
 
@@ -55,3 +55,11 @@ def data_ranges(descriptor: int, size: int) -> Iterator[Tuple[int, int]]:
         except OSError:
             end = size
         yield begin, end
+
+
+def write_at(descriptor: int, offset: int, data: Union[bytes, bytearray]) -> None:
+    """Writes all bytes at an offset of an open file, in several writes if the system takes only
+    some at once. After an OSError some may be written. The descriptor's own offset stays."""
+    while data:
+        count = os.pwrite(descriptor, data, offset)
+        offset, data = offset + count, data[count:]

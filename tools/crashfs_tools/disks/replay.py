@@ -7,6 +7,7 @@ import mmap
 import os
 from typing import Any, Callable, Dict, List, NamedTuple, Type, Union
 
+from crashfs_tools.common.file_bytes import write_at
 from crashfs_tools.common.sparse import SparseBytes
 from crashfs_tools.common.trace import (
     Chmod,
@@ -200,12 +201,8 @@ class Replay:
         os.link(self.disk_path(operation.source), self.disk_path(operation.target))
 
     def write(self, operation: Write) -> None:
-        """Writes all bytes, by as many calls as that takes; after an OSError some may be written. A
-        write of no bytes is noted as unsynced too."""
-        remaining, offset = operation.data, operation.offset
-        while remaining:
-            count = os.pwrite(self.descriptor(operation.path), remaining, offset)
-            remaining, offset = remaining[count:], offset + count
+        """Writes all bytes, as write_at() does. A write of no bytes is noted as unsynced too."""
+        write_at(self.descriptor(operation.path), operation.offset, operation.data)
         self.note_unsynced(operation.path)
 
     def truncate(self, operation: Truncate) -> None:

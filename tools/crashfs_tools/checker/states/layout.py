@@ -23,12 +23,13 @@ from typing import (
 
 from crashfs_tools.common.archive import Member, first_name_of_path, parse_state_number
 from crashfs_tools.common.entry import Entry
+from crashfs_tools.common.file_bytes import write_at
 from crashfs_tools.common.removal import FOLDER, remove_tree, set_folder_mode
 from crashfs_tools.common.program import Crashfs, ProgramFault
 from crashfs_tools.common.sparse import SparseBytes
 
 from .plan import Plan, PlannedTrace, Request
-from .rewriting import PIECE_BYTES, Bytes, has_bytes, write_at
+from .rewriting import PIECE_BYTES, Bytes, has_bytes
 
 NEW_FILE = os.O_WRONLY | os.O_CREAT | os.O_EXCL | os.O_NOFOLLOW | os.O_CLOEXEC
 # A directory's mode while it is filled.

@@ -5,6 +5,7 @@ from __future__ import annotations
 import os
 from typing import Iterable, Union
 
+from crashfs_tools.common.file_bytes import write_at
 from crashfs_tools.common.sparse import PAGE_BYTES, SparseBytes
 
 PIECE_BYTES = 1 << 14
@@ -38,11 +39,3 @@ def piece_offsets(old_bytes: Bytes, wanted_bytes: Bytes) -> Iterable[int]:
 def has_bytes(piece: Union[bytes, bytearray]) -> bool:
     """Whether a piece has other bytes than zeros."""
     return piece.count(0) != len(piece)
-
-
-def write_at(file: int, offset: int, data: Union[bytes, bytearray]) -> None:
-    """Writes all bytes at an offset of an open file, in several writes if the system takes only
-    some at once. After an OSError some may be written."""
-    while data:
-        count = os.pwrite(file, data, offset)
-        offset, data = offset + count, data[count:]
