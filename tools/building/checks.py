@@ -8,7 +8,7 @@ from pathlib import Path
 from typing import List, NamedTuple
 
 from .memory import GIGABYTE, memory_of_machine
-from .usage import wait_for_usage
+from .usage import read_to_end
 
 # `rt` ends with the status of the process that it ran, which the system has killed: as a signal, as
 # a shell has it, or as Python's number for it, cut to a byte.
@@ -40,9 +40,7 @@ def run_check(words: List[str], folder: Path) -> Check:
         stdout=subprocess.PIPE,
         stderr=subprocess.STDOUT,
     ) as child:
-        assert child.stdout is not None
-        output = child.stdout.read()
-        usage = wait_for_usage(child)
+        output, usage = read_to_end(child)
     return Check(child.returncode, output, usage.memory_bytes)
 
 

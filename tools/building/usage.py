@@ -4,7 +4,7 @@ from __future__ import annotations
 
 import os
 import subprocess
-from typing import Any, NamedTuple
+from typing import Any, AnyStr, NamedTuple, Tuple
 
 
 class Usage(NamedTuple):
@@ -13,6 +13,14 @@ class Usage(NamedTuple):
 
     processor_seconds: float
     memory_bytes: int
+
+
+def read_to_end(child: subprocess.Popen[AnyStr]) -> Tuple[AnyStr, Usage]:
+    """Waits until a program has ended and no other process has its standard output, a pipe, open
+    any more; sets its returncode. Returns what came through the pipe, and what the program used.
+    ChildProcessError if it was waited for before."""
+    assert child.stdout is not None
+    return child.stdout.read(), wait_for_usage(child)
 
 
 def wait_for_usage(child: subprocess.Popen[Any]) -> Usage:

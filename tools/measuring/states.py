@@ -14,7 +14,7 @@ import time
 from pathlib import Path
 from typing import Dict, List, NamedTuple, Optional
 
-from building.usage import wait_for_usage
+from building.usage import read_to_end
 
 from .programs import Programs, Tally
 
@@ -26,7 +26,7 @@ SIZES = ['8192', '6560']
 TRIED = re.compile(r' ([\d,]+) states, ([\d,]+) different: none fails')
 # A state may take so many times as long as in the C program, and so many milliseconds of a check by
 # all processors; of so many checks the least figures count.
-MOST, MOST_MILLISECONDS, RUNS = 1.5, 1.0, 3
+MOST_RATIO, MOST_MILLISECONDS, RUNS = 1.5, 1.0, 3
 
 
 class Times(NamedTuple):
@@ -55,9 +55,7 @@ def time_command(words: List[str], environment: Optional[Dict[str, str]] = None)
     with subprocess.Popen(
         words, stdout=subprocess.PIPE, stdin=subprocess.DEVNULL, text=True, env=environment
     ) as child:
-        assert child.stdout is not None
-        output = child.stdout.read()
-        usage = wait_for_usage(child)
+        output, usage = read_to_end(child)
     wall_seconds = time.monotonic() - began
     if child.returncode != 0:
         raise OSError(f'{words[0]} ended with status {child.returncode}: {output[-200:]}')
@@ -175,7 +173,7 @@ def add_time_rows(times: AllTimes, tally: Tally) -> None:
         f'{c_program_seconds * 1e3:.3f} ms'
     )
     ratio = state_seconds / c_program_seconds
-    tally.add_figure('a state beside the C program', ratio, 'times', MOST)
+    tally.add_figure('a state beside the C program', ratio, 'times', MOST_RATIO)
     milliseconds = check.wall_seconds / check.state_count * 1e3
     tally.add_figure('a state by all jobs', milliseconds, 'ms', MOST_MILLISECONDS)
 
