@@ -68,7 +68,7 @@ def run_at_once(names: Sequence[str], count: int) -> Iterator[ModuleResult]:
     the module printed is printed on standard error."""
     with ThreadPoolExecutor(count) as pool:
         for result in pool.map(run_module, names):
-            print(result.output, end='', file=sys.stderr, flush=True)
+            print_output(result)
             yield result
 
 
@@ -77,8 +77,13 @@ def run_again(name: str) -> ModuleResult:
     then what the module printed. Returns its result."""
     print(f'{name} failed beside others: again, alone', file=sys.stderr, flush=True)
     result = run_module(name)
-    print(result.output, end='', file=sys.stderr, flush=True)
+    print_output(result)
     return result
+
+
+def print_output(result: ModuleResult) -> None:
+    """Prints on standard error, at once, what the tests of a module printed."""
+    print(result.output, end='', file=sys.stderr, flush=True)
 
 
 def count_skipped_for_program(reasons: Sequence[str]) -> int:
@@ -115,7 +120,8 @@ def has_passed(results: Sequence[ModuleResult], *, needs_program: bool) -> bool:
 def main(words: Optional[List[str]] = None) -> int:
     """Runs the tests that the words ask for; None means the words of the command line. The tests
     print on standard error; then a line on standard output counts them. Returns 0 if has_passed(),
-    else 1. A wrong word ends the program (SystemExit)."""
+    else 1; with --module and --result what run_here() does. A wrong word and --help end the program
+    (SystemExit)."""
     parser = argparse.ArgumentParser(prog='gating.suite', description=__doc__)
     parser.add_argument('--program', action='store_true', help='crashfs is built')
     parser.add_argument('--quick', action='store_true', help='run a few modules only')

@@ -93,15 +93,15 @@ def is_running(process: int) -> bool:
     return Path(f'/proc/{process}').exists()
 
 
-def sample_until_end(process: int, pause_seconds: float, is_stopped: threading.Event) -> str:
-    """Takes a sample at once and after each pause, until the event is set or the process of this
+def sample_until_end(process: int, pause_seconds: float, stop_event: threading.Event) -> str:
+    """Takes a sample at once and after each pause, until stop_event is set or the process of this
     number has ended, and returns the table. The table has no crates if there is no such process, or
     no /proc. A pause of 0 or less is none."""
     shares: Shares = {}
     start_time = time.monotonic()
     while is_running(process):
         add_sample(shares, provers_below(process), time.clock_gettime(time.CLOCK_BOOTTIME))
-        if is_stopped.wait(pause_seconds):
+        if stop_event.wait(pause_seconds):
             break
     return format_table(shares, time.monotonic() - start_time)
 
@@ -109,7 +109,7 @@ def sample_until_end(process: int, pause_seconds: float, is_stopped: threading.E
 def main(words: Optional[List[str]] = None) -> int:
     """Runs gate-times with these words, or with those of its command line if they are None, until
     the process ends or SIGTERM or SIGINT comes. Returns 0, also if there is no such process. The
-    two signals don't end this process afterwards either. A wrong word ends the program
+    two signals don't end this process afterwards either. A wrong word and --help end the program
     (SystemExit)."""
     parser = argparse.ArgumentParser(
         prog='gate-times', description=ABOUT, formatter_class=argparse.RawDescriptionHelpFormatter
@@ -119,8 +119,8 @@ def main(words: Optional[List[str]] = None) -> int:
     )
     parser.add_argument('process', type=int, metavar='PROCESS', help='the number of the process')
     options = parser.parse_args(words)
-    is_stopped = threading.Event()
+    stop_event = threading.Event()
     for signal_number in (signal.SIGTERM, signal.SIGINT):
-        signal.signal(signal_number, lambda *_: is_stopped.set())
-    sys.stdout.write(sample_until_end(options.process, options.every, is_stopped))
+        signal.signal(signal_number, lambda *_: stop_event.set())
+    sys.stdout.write(sample_until_end(options.process, options.every, stop_event))
     return 0

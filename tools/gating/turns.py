@@ -82,7 +82,7 @@ def move_back(folder: Path, crates: Path = CRATES) -> None:
 
 def main(words: Optional[List[str]] = None) -> int:
     """Moves edits as the words ask; None means the words of the command line. Returns 0. A wrong
-    word ends the program (SystemExit). Errors as move_others_aside() or move_back()."""
+    word and --help end the program (SystemExit). Errors as move_others_aside() or move_back()."""
     parser = argparse.ArgumentParser(prog='gating.turns', description=__doc__)
     parser.add_argument('commit', nargs='?', help='whose name decides; without it, all go back')
     parser.add_argument('folder', type=Path, help='where the others are meanwhile')

@@ -70,7 +70,8 @@ def run_linters(linters: Dict[str, Callable[[], Faults]]) -> int:
 def main(words: Optional[List[str]] = None) -> int:
     """Runs lint with these words, or with those of its command line if they are None, and returns
     its status, that of run_linters(). With --install it first tries to install the linters that are
-    missing; they are skipped if that fails. A wrong word ends the program (SystemExit)."""
+    missing; they are skipped if that fails. A wrong word and --help end the program
+    (SystemExit)."""
     parser = argparse.ArgumentParser(
         prog='lint', description=ABOUT, formatter_class=argparse.RawDescriptionHelpFormatter
     )

@@ -60,8 +60,8 @@ def pages_to_read() -> List[Path]:
 
 
 def lines_of_pages() -> Iterator[Line]:
-    """The lines of pages_to_read(), but not of made parts. OSError if README, CHANGELOG or SECURITY
-    isn't there, UnicodeDecodeError if a file isn't UTF-8."""
+    """The lines of pages_to_read(), but not of made parts. OSError if README, CHANGELOG, SECURITY
+    or docs/man isn't there, UnicodeDecodeError if a file isn't UTF-8."""
     for page in pages_to_read():
         yield from numbered_lines(page, without_made_parts(page.read_text('utf-8')))
 
@@ -151,10 +151,16 @@ def names_of_tools() -> Iterator[Line]:
     )
 
 
+def is_allowed_by(line: Line, file: str, text: str) -> bool:
+    """Whether the entry of ALLOWED with this file and text is for a line: the line is in the file
+    and has the text."""
+    return line.file == file and text in line.text
+
+
 def may_have_retired_words(line: Line) -> bool:
     """Whether a line may have retired words: ALLOWED has the line's file with a text that is in the
     line."""
-    return any(line.file == file and text in line.text for file, text in ALLOWED)
+    return any(is_allowed_by(line, file, text) for file, text in ALLOWED)
 
 
 def without_allowed(lines: List[Line]) -> List[Line]:
@@ -173,9 +179,9 @@ def word_faults(line: Line) -> List[str]:
 
 def name_faults(line: Line) -> List[str]:
     """A sentence for each retired word of a name, which is the text of the line. A word must be
-    whole: between underscores or, in the name of a class, from one capital that begins a word to
-    the next: of several capitals, as in IOError, the first, and the last if a small letter follows.
-    ALLOWED isn't looked at."""
+    whole: a name is divided at underscores, before a capital that follows a small letter or a
+    digit, and before the last of several capitals if a small letter follows it, so that IOError has
+    `io` and `error`. ALLOWED isn't looked at."""
     underscored_name = f'_{CAPITAL_IN_NAME.sub("_", line.text).strip("_").lower()}_'
     return [
         f'{line.file}:{line.number}: {line.text}: "{word}": {better}'
@@ -190,7 +196,7 @@ def unused_allowance_faults(lines: List[Line]) -> List[str]:
     return [
         f'{file}: "{text}" is allowed, and no longer there'
         for file, text in ALLOWED
-        if not any(line.file == file and text in line.text for line in lines)
+        if not any(is_allowed_by(line, file, text) for line in lines)
     ]
 
 

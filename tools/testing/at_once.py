@@ -37,7 +37,7 @@ class Progress:
         self.running: Set[str] = set()
         self.done: Set[str] = set()
         self.is_shown = sys.stderr.isatty()
-        self.is_over = threading.Event()
+        self.end_event = threading.Event()
 
     @contextmanager
     def running_part(self, name: str) -> Iterator[None]:
@@ -71,9 +71,9 @@ class Progress:
             print(f'\r\033[K{self.text()[:width]}', end='', file=sys.stderr, flush=True)
 
     def keep_showing(self) -> None:
-        """Shows the line again every SECONDS_BETWEEN, until another thread sets `is_over`. The line
+        """Shows the line again every SECONDS_BETWEEN, until another thread sets end_event. The line
         then stays, unless clear() removes it."""
-        while not self.is_over.wait(SECONDS_BETWEEN):
+        while not self.end_event.wait(SECONDS_BETWEEN):
             self.show()
 
 
@@ -100,5 +100,5 @@ def run_parts(parts: Dict[str, Part], count: int) -> Iterator[Outcome]:
                 progress.clear()
                 yield ended_part.result()
     finally:
-        progress.is_over.set()
+        progress.end_event.set()
         display_thread.join()

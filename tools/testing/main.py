@@ -75,8 +75,9 @@ def print_outcome(outcome: Outcome) -> None:
 
 def main() -> int:
     """Runs tools/test, prints the outcome of each part, and returns the status: 1 if a test failed,
-    whatever is not run. --jobs below 1 counts as 1. A wrong word ends the program (SystemExit).
-    What a part raises is raised here, before the counts are printed; OSError without /proc."""
+    whatever is not run. --jobs below 1 counts as 1. A wrong word and --help end the program
+    (SystemExit). What a part raises is raised here, before the counts are printed; OSError without
+    /proc."""
     parser = argparse.ArgumentParser(
         description=DESCRIPTION, formatter_class=argparse.RawDescriptionHelpFormatter
     )
