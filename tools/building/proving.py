@@ -58,7 +58,7 @@ def copy_sources_to(folder: Path) -> Path:
 
 def report_failure(name: str, check: Check, jobs: int, processors: int) -> None:
     """Prints on standard error what a failed check printed, and if the system killed the check,
-    killed_text(). OSError as there, or if standard error is closed."""
+    killed_text(). OSError as there, or if standard error can't be written."""
     sys.stderr.buffer.write(check.output)
     sys.stderr.buffer.flush()
     if check.is_killed:

@@ -17,7 +17,7 @@ tables of docs/RESULTS.md, from docs/results.json. With --print it writes nothin
 tests with what each shows, and the must-fail edits (tests), or the words of specs/ with what each
 says and the contracts that cite it (words).
 
-Exit status 0, or 1 with --check if a file is missing or older than the sources."""
+Exit status 0, or 1 with --check if a file is missing, or not as the sources make it."""
 
 
 def current_texts() -> Dict[Path, str]:
@@ -36,8 +36,8 @@ def outdated_source_lines() -> List[str]:
 def main(words: Optional[List[str]] = None) -> int:
     """Runs `inventories` with these words, or with those of its command line if they are None.
     Returns the status: 1 only if --check finds an outdated file. With --print, --check is ignored.
-    A wrong word ends the program (SystemExit). Errors as current_texts() before anything is
-    written, and as write_outdated_files(); with --print as the function of the list."""
+    A wrong word and --help end the program (SystemExit). Errors as current_texts() before anything
+    is written, and as write_outdated_files(); with --print as the function of the list."""
     parser = argparse.ArgumentParser(
         prog='inventories', description=ABOUT, formatter_class=argparse.RawDescriptionHelpFormatter
     )

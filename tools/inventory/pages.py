@@ -95,16 +95,16 @@ def calls_text(calls: List[str]) -> str:
     return f'{names} and {count_left} more' if count_left > 0 else names
 
 
-def lines_of_words(crate: str, calls: Dict[str, List[str]]) -> List[str]:
+def lines_of_words(crate: str, calls_by_word: Dict[str, List[str]]) -> List[str]:
     """The lines that list the words of a crate: a heading, and a table with what each word says,
-    its file, and the calls that cite it. `calls` has these calls by word, without the words that
-    nothing cites. Empty if the crate has no words."""
+    its file, and the calls that cite it. calls_by_word lacks the words that nothing cites. Empty if
+    the crate has no words."""
     rows = [
         (
             f'`{table_cell(word.name)}`',
             table_cell(word.sentence),
             word.file,
-            calls_text(calls.get(word.name, [])),
+            calls_text(calls_by_word.get(word.name, [])),
         )
         for word in words_of(crate)
     ]
@@ -130,7 +130,7 @@ def page_with_part(page: str, part: str) -> str:
     made_part = re.compile(f'{re.escape(BEGIN)}.*{re.escape(END)}', re.DOTALL)
     new_page, count = made_part.subn(lambda _: f'{BEGIN}\n\n{part}\n\n{END}', page)
     if (count, page.count(BEGIN), page.count(END)) != (1, 1, 1):
-        raise ValueError(f'a page has to have the marks once: {BEGIN} .. {END}')
+        raise ValueError(f'a page must have each mark once: {BEGIN} .. {END}')
     return new_page
 
 

@@ -43,8 +43,8 @@ NEEDED = {
 
 def parse_words(words: List[str]) -> argparse.Namespace:
     """The options that the words after `measure` give, of which the first is neither `disks` nor
-    `stores`. Wrong ones end the program with status 2. Only main() checks that the names are of
-    benchmarks."""
+    `stores`. Wrong words, with status 2, and --help end the program (SystemExit). Only main()
+    checks that the names are of benchmarks."""
     parser = argparse.ArgumentParser(
         prog='measure', description=__doc__, formatter_class=argparse.RawDescriptionHelpFormatter
     )
@@ -79,8 +79,8 @@ def measure_benchmark(programs: Programs, name: str, tally: Tally) -> None:
 def main(arguments: Optional[List[str]] = None) -> int:
     """Runs `measure` with these words, or with those of its command line if they are None. Returns
     the status: 1 if a row is past its bound or a program failed; 2 if a name is unknown, and
-    nothing is measured then; after `disks` or `stores` what their main() returns. OSError if there
-    is no crates.txt, and as measure_benchmark()."""
+    nothing is measured then; after `disks` or `stores` what their main() returns. Errors as
+    Programs.benchmark_names() and measure_benchmark(), or as that main()."""
     words = sys.argv[1:] if arguments is None else arguments
     if words[:1] == ['disks']:
         return disks.main(words[1:])

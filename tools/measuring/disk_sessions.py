@@ -130,8 +130,8 @@ class SessionMaker:
 
     def compare_session(self, seed: int, operation_count: int) -> SessionResult:
         """Draws the session of this seed, crashes it at each of its moments by all kinds of
-        flushes, and compares the disks with the allowed sets. Refused if an image can't be made or
-        mounted; the images are removed in any case."""
+        flushes, and compares the disks with the allowed sets. Refused or OSError as the methods of
+        CrashMaker; the images are removed in any case."""
         trace = draw_session(seed, operation_count)
         maker = CrashMaker(self.filesystem, trace, self.folder)
         try:

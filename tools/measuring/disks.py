@@ -37,8 +37,9 @@ Task = Tuple[str, int]
 
 
 def parse_words(words: List[str]) -> argparse.Namespace:
-    """The options that the words after `measure disks` give. Wrong ones, and counts below 1, end
-    the program with status 2. Only refusal_text() checks that the file systems are known."""
+    """The options that the words after `measure disks` give. Wrong words and counts below 1, with
+    status 2, and --help end the program (SystemExit). Only refusal_text() checks that the file
+    systems are known."""
     parser = argparse.ArgumentParser(
         prog='measure disks',
         description=__doc__,
@@ -138,7 +139,7 @@ class Measurement:
 
 def refusal_text(filesystems: List[str]) -> Optional[str]:
     """Why the file systems of these names can't be measured here; None if they can. Each must be in
-    PROFILE_OF, even if crashfs-check knows it."""
+    PROFILE_OF, even if crashfs-check knows it. OSError if the system can't fork."""
     unknown = [name for name in filesystems if name not in PROFILE_OF]
     if unknown:
         return f'{unknown[0]} is none of {", ".join(PROFILE_OF)}'
@@ -166,8 +167,8 @@ def outside_texts(results: List[SessionResult]) -> Iterator[str]:
 def main(words: List[str]) -> int:
     """Runs `measure disks` with these words, and returns its status: 1 if a disk is outside its
     file system's profile; 2 if the sessions can't be made here, and no table is printed then. The
-    file systems must be usable even if the file has all results. Errors as
-    make_missing_sessions(), except Refused."""
+    file systems must be usable even if the file has all results. Errors as parse_words(),
+    refusal_text() and make_missing_sessions(), except Refused."""
     measurement = Measurement(parse_words(words))
     refusal = refusal_text(measurement.filesystems)
     if refusal is not None:

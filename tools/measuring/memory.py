@@ -72,9 +72,10 @@ def fill_with_writes(address: str, write_count: int, opened: ExitStack) -> int:
 def measure_new_server(
     programs: Programs, fill: Callable[[str, ExitStack], int], connection_count: int
 ) -> Tuple[int, int]:
-    """Starts a server that takes connection_count connections, calls `fill` with its address, kills
-    it, and returns what measure_growth() returned. OSError if the server doesn't listen, or ends
-    too early; errors of `fill` are raised."""
+    """Starts a server that takes connection_count connections, calls `fill` with its address and a
+    stack as measure_growth() does, kills it, and returns what measure_growth() returned. OSError as
+    free_address() and running_server(), or if the server ends too early; errors of `fill` are
+    raised."""
     address = free_address()
     with running_server(serve_words(programs, address, connection_count)) as server:
         return measure_growth(server, lambda opened: fill(address, opened))

@@ -64,9 +64,10 @@ class Session(NamedTuple):
 
 
 def parse_words(words: List[str]) -> argparse.Namespace:
-    """The options that the words after `measure stores` give. Wrong ones, and a name that no
-    session and no folder has, end the program with status 2. The values of --disks and --time-limit
-    are only passed to checks, which may refuse them. Errors as read_stores()."""
+    """The options that the words after `measure stores` give. Wrong words, and a name that no
+    session and no folder has, with status 2, and --help end the program (SystemExit). The values of
+    --disks and --time-limit are only passed to checks, which may refuse them. Errors as
+    read_stores()."""
     parser = argparse.ArgumentParser(
         prog='measure stores',
         description=__doc__,
@@ -212,8 +213,9 @@ def make_and_save_row(session: Session, options: argparse.Namespace) -> bool:
 
 def main(words: List[str]) -> int:
     """Runs `measure stores` with these words, and returns its status: 1 if a session has no row, or
-    that of the signal after a stop. Errors of make_and_save_row() are raised, and end the command.
-    The rows that were made before a stop or an error stay."""
+    that of the signal after a stop, which is reported. Errors of parse_words() and
+    make_and_save_row() are raised, and end the command. The rows that were made before a stop or an
+    error stay."""
     options = parse_words(words)
     raise_on_stop_signals()
     try:

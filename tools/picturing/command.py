@@ -20,8 +20,8 @@ With --check it writes nothing; status 1 if a picture isn't as it would be drawn
 def main(words: Optional[List[str]] = None) -> int:
     """Runs pictures with these words, or with those of its command line if they are None: draws all
     pictures, and writes the outdated ones; --check prints a line for each instead. Returns the
-    status: 1 if --check finds one, else 0. A wrong word ends the program (SystemExit). Errors as
-    pictures() before anything is written, and as write_outdated_files()."""
+    status: 1 if --check finds one, else 0. A wrong word and --help end the program (SystemExit).
+    Errors as pictures() before anything is written, and as write_outdated_files()."""
     parser = argparse.ArgumentParser(
         prog='pictures', description=ABOUT, formatter_class=argparse.RawDescriptionHelpFormatter
     )

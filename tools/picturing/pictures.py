@@ -30,7 +30,7 @@ VERDICT = (
 
 def pictures() -> Dict[Path, str]:
     """The text of each picture, by its file; nothing is written. Two checks are run for them, whose
-    commands need python3 and sqlite3, and which end all children of this process. Raises what
+    commands need python3 and sqlite3. All children of this process are ended. Raises what
     check_example() raises, and what the functions `.._picture` raise if an example isn't as the
     words of a picture say."""
     sqlite, tutorial = EXAMPLES / 'sqlite', EXAMPLES / 'tutorial'

@@ -130,7 +130,7 @@ def main(words: Optional[List[str]] = None) -> int:
     """Runs release with these words, or with those of its command line if they are None, and
     returns its status: 1, after a line that says why, if something is missing, fails or is refused.
     The log of the gate is read before anything is built. Waits for the build without limit. A wrong
-    word ends the program (SystemExit)."""
+    word and --help end the program (SystemExit)."""
     options = make_parser().parse_args(words)
     try:
         provenance = read_provenance(options.gate, GIVEN if options.objects else BUILT)
