@@ -290,8 +290,7 @@ class Findings:
         pair = loss.pair if loss else self.pairs.pair_of(state)
         kept, lost = self.line_at(pair.kept), self.line_at(pair.lost)
         tried, allowed = self.tried_states(state), self.plan.profile_names_of(state)
-        kept_set = self.plan.kept[state.number]
-        is_explained = pair.is_kept_in(kept_set) and pair.is_lost_in(kept_set)
+        is_explained = pair.may_explain(self.plan.kept[state.number])
         no_states: FrozenSet[TriedState] = frozenset()
         return Group(
             outcome=self.outcomes_by_state[state.number],

@@ -24,7 +24,7 @@ from __future__ import annotations
 
 from collections import Counter
 from enum import Enum
-from typing import Callable, Dict, NamedTuple, Optional
+from typing import Dict, NamedTuple, Optional
 
 from crashfs_tools.checker.running.runner import GOOD, Outcome
 from crashfs_tools.checker.states.place_sets import first_lacking, places_of
@@ -46,39 +46,33 @@ class Pair(NamedTuple):
         kept = kept_set.bit_length() - 1 if kept_set else None
         return Pair(kept, first_lacking(kept_set))
 
-    def is_kept_in(self, kept_set: int) -> bool:
-        """Whether a set has the micro-operation that the pair kept; False if the pair kept none."""
-        return self.kept is not None and bool(kept_set >> self.kept & 1)
-
-    def is_lost_in(self, kept_set: int) -> bool:
-        """Whether a set lacks the micro-operation that the pair lost; False if the pair lost
-        none."""
-        return self.lost is not None and not kept_set >> self.lost & 1
+    def may_explain(self, kept_set: int) -> bool:
+        """Whether a set has the micro-operation that the pair kept, and lacks the one that it lost.
+        False if the pair kept or lost none."""
+        if self.kept is None or self.lost is None:
+            return False
+        return bool(kept_set >> self.kept & 1) and not kept_set >> self.lost & 1
 
 
 class Loss(NamedTuple):
-    """A smallest loss that makes a state fail: its pair, and the set of all that it lacks."""
+    """A smallest loss that makes a state fail: its pair, and the set of all that it lacks, which
+    isn't empty and has what the pair lost."""
 
     pair: Pair
     lacking: int
 
     def may_explain(self, kept_set: int, lost_set: int) -> bool:
         """Whether a state that has kept_set, and lacks lost_set before its last operation, lacks
-        all that this loss lacks, and has the operation that the pair kept. False if the pair kept
-        nothing."""
-        return self.pair.is_kept_in(kept_set) and self.lacking & ~lost_set == 0
+        all that this loss lacks, and has the operation that the pair kept."""
+        return self.pair.may_explain(kept_set) and self.lacking & ~lost_set == 0
 
 
 class Comparison(Enum):
-    """How a state's outcome compares with that of the state whose pair is looked for."""
+    """How a state compares with the failing state whose pair is looked for."""
 
     FAILS_ALIKE = 'fails alike'
     OTHER = 'is good, or fails with another cause'
     NOT_TRIED = 'was not tried'
-
-
-# Compares a state, given by its number, with the one whose pair is looked for.
-Compare = Callable[[int], Comparison]
 
 
 class Pairs:
@@ -108,29 +102,25 @@ class Pairs:
         """The pair of a state that was tried and isn't good: by rule 1 for a prefix, by rule 2 for
         a state equal to one that fails alike, else by rules 3 to 5 for a hole and by rule 6 for a
         pick. KeyError for a state without an outcome."""
-        compare = self.comparison_with(self.outcomes[state.number])
+        outcome = self.outcomes[state.number]
         if state.family == 'prefix':
-            return self.prefix_pair(state.numbers[0], compare)
+            return self.prefix_pair(state.numbers[0], outcome)
         equal_length = self.equal_prefixes.get(state.trial)
-        if equal_length is not None and is_failing_alike(self.prefixes[equal_length], compare):
-            return self.prefix_pair(equal_length, compare)
+        if equal_length is not None:
+            if self.compare(outcome, self.prefixes[equal_length]) is Comparison.FAILS_ALIKE:
+                return self.prefix_pair(equal_length, outcome)
         if state.family == 'hole':
-            return self.hole_pair(state, compare)
-        return self.pick_pair(state, compare)
+            return self.hole_pair(state, outcome)
+        return self.pick_pair(state, outcome)
 
-    def comparison_with(self, outcome: Outcome) -> Compare:
-        """A function that compares a state, given by its number, with a failing state that has this
-        outcome."""
-
-        def compare(number: int) -> Comparison:
-            """Compares the outcome of a state, given by its number, with `outcome`."""
-            other = self.outcomes.get(number)
-            if other is None:
-                return Comparison.NOT_TRIED
-            is_same = self.is_same_failure(outcome, other)
-            return Comparison.FAILS_ALIKE if is_same else Comparison.OTHER
-
-        return compare
+    def compare(self, outcome: Outcome, number: Optional[int]) -> Comparison:
+        """How a state, given by its number, compares with a failing state that has this outcome.
+        NOT_TRIED also for None, the number of a state that the plan doesn't list."""
+        other = None if number is None else self.outcomes.get(number)
+        if other is None:
+            return Comparison.NOT_TRIED
+        is_same = self.is_same_failure(outcome, other)
+        return Comparison.FAILS_ALIKE if is_same else Comparison.OTHER
 
     def is_same_failure(self, outcome: Outcome, other: Outcome) -> bool:
         """Whether a state with the outcome `other` fails as a state with `outcome` does, by rule 7.
@@ -143,69 +133,63 @@ class Pairs:
             return other.cause_without_numbers == cause
         return other.cause_kind == outcome.cause_kind
 
-    def prefix_pair(self, length: int, compare: Compare) -> Pair:
-        """The pair of the prefix of a length, which must fail alike, by rule 1. A prefix that
-        wasn't tried is taken to fail alike."""
+    def prefix_pair(self, length: int, outcome: Outcome) -> Pair:
+        """The pair of the prefix of a length, by rule 1; it must fail as a state with this outcome
+        does. A prefix that wasn't tried is taken to fail alike."""
         whole = len(self.plan.operations)
-        shortest = self.last_failing_length(range(length, -1, -1), compare)
-        longest = self.last_failing_length(range(length, whole + 1), compare)
+        shortest = self.last_failing_length(range(length, -1, -1), outcome)
+        longest = self.last_failing_length(range(length, whole + 1), outcome)
         kept = shortest - 1 if shortest > 0 else None
         return Pair(kept, longest if longest < whole else None)
 
-    def last_failing_length(self, lengths: range, compare: Compare) -> int:
-        """The last of some lengths before the first one whose prefix was tried and doesn't fail
-        alike. The prefix of the first length must fail alike, and isn't compared."""
+    def last_failing_length(self, lengths: range, outcome: Outcome) -> int:
+        """The last of some lengths before the first one whose prefix was tried and doesn't fail as
+        a state with this outcome does. The prefix of the first length must, and isn't compared."""
         last = lengths[0]
         for length in lengths[1:]:
-            if compare(self.prefixes[length]) is Comparison.OTHER:
+            if self.compare(outcome, self.prefixes[length]) is Comparison.OTHER:
                 break
             last = length
         return last
 
-    def hole_pair(self, state: State, compare: Compare) -> Pair:
-        """The pair of a hole that fails alike, by rules 3 to 5."""
+    def hole_pair(self, state: State, outcome: Outcome) -> Pair:
+        """The pair of a hole that fails as a state with this outcome does, by rules 3 to 5."""
         missing_place, length = state.numbers
-        if is_failing_alike(self.prefixes[length], compare):
-            return self.prefix_pair(length, compare)
-        lost = self.last_lost_place(missing_place, length, compare)
-        return Pair(self.shortest_failing_hole(lost, length, compare) - 1, lost)
+        if self.compare(outcome, self.prefixes[length]) is Comparison.FAILS_ALIKE:
+            return self.prefix_pair(length, outcome)
+        lost = self.last_lost_place(missing_place, length, outcome)
+        return Pair(self.shortest_failing_hole(lost, length, outcome) - 1, lost)
 
-    def shortest_failing_hole(self, lost: int, length: int, compare: Compare) -> int:
+    def shortest_failing_hole(self, lost: int, length: int, outcome: Outcome) -> int:
         """The length of the shortest hole that counts by rule 5, of those that lack the operation
         at the place `lost`; this length if no shorter one does. A shorter hole that wasn't tried,
         or that the plan doesn't list, is skipped."""
         shortest = length
         for shorter in range(length - 1, lost + 1, -1):
-            hole = self.holes.get((lost, shorter))
-            compared = Comparison.NOT_TRIED if hole is None else compare(hole)
-            if compared is Comparison.OTHER:
+            comparison = self.compare(outcome, self.holes.get((lost, shorter)))
+            if comparison is Comparison.OTHER:
                 break
-            if compared is Comparison.FAILS_ALIKE:
+            if comparison is Comparison.FAILS_ALIKE:
                 shortest = shorter
         return shortest
 
-    def last_lost_place(self, missing_place: int, length: int, compare: Compare) -> int:
+    def last_lost_place(self, missing_place: int, length: int, outcome: Outcome) -> int:
         """The place that the hole without missing_place, of this length, lost by rule 4: of the
         later places that need missing_place the last one whose own removal gives a hole of this
         length that fails alike; missing_place if there is none."""
         for later in range(length - 2, missing_place, -1):
-            is_needed = self.plan.needs.is_needed(missing_place, by=later)
-            if is_needed and is_failing_alike(self.holes.get((later, length)), compare):
-                return later
+            if self.plan.needs.is_needed(missing_place, by=later):
+                hole = self.holes.get((later, length))
+                if self.compare(outcome, hole) is Comparison.FAILS_ALIKE:
+                    return later
         return missing_place
 
-    def pick_pair(self, state: State, compare: Compare) -> Pair:
-        """The pair of a pick that fails alike, by rule 6. If no hole gives the pair, it is a guess,
-        unless the pick has nothing or lacks nothing."""
+    def pick_pair(self, state: State, outcome: Outcome) -> Pair:
+        """The pair of a pick that has this outcome, by rule 6. If no hole gives the pair, it is a
+        guess, unless the pick has nothing or lacks nothing."""
         kept_set, lacking = self.plan.kept[state.number], self.plan.set_lost_by(state)
         for place in places_of(lacking):
             hole = self.holes.get((place, kept_set.bit_length()))
-            if hole is not None and is_failing_alike(hole, compare):
-                return self.hole_pair(self.plan.state(hole), compare)
+            if hole is not None and self.compare(outcome, hole) is Comparison.FAILS_ALIKE:
+                return self.hole_pair(self.plan.state(hole), outcome)
         return Pair.of_set(kept_set)._replace(is_guess=kept_set > 0 and lacking > 0)
-
-
-def is_failing_alike(number: Optional[int], compare: Compare) -> bool:
-    """Whether a state, given by its number, was tried and fails alike. False for None, the number
-    of no state."""
-    return number is not None and compare(number) is Comparison.FAILS_ALIKE
