@@ -25,9 +25,8 @@ def sync_points(pairs: LinePairs, lines: Dict[int, TraceLine]) -> Dict[int, str]
     the path names something else. Pairs whose lost line isn't in `lines`, or is made durable by no
     sync, are left out."""
     points: Dict[int, str] = {}
-    unserved = sorted(
-        sync_interval(lost, kept, lines) for lost, kept in pairs if is_syncable(lost, lines)
-    )
+    intervals = (sync_interval(lost, kept, lines) for lost, kept in pairs)
+    unserved = sorted(interval for interval in intervals if interval is not None)
     while unserved:
         path, end = unserved[0].path, unserved[0].end
         served = [
@@ -38,17 +37,13 @@ def sync_points(pairs: LinePairs, lines: Dict[int, TraceLine]) -> Dict[int, str]
     return points
 
 
-def is_syncable(number: int, lines: Dict[int, TraceLine]) -> bool:
-    """Whether `lines` has a line with this number, and a sync would make that line durable."""
-    return number in lines and lines[number].path_to_fsync is not None
-
-
-def sync_interval(lost: int, kept: int, lines: Dict[int, TraceLine]) -> Interval:
+def sync_interval(lost: int, kept: int, lines: Dict[int, TraceLine]) -> Optional[Interval]:
     """Where a sync may be that makes a lost line durable before a kept one, by their numbers: after
-    the lost line, as long as the path names what that line changed. is_syncable() must hold for the
-    lost line."""
-    path = lines[lost].path_to_fsync
-    assert path is not None
+    the lost line, as long as the path names what that line changed. None if the lost line isn't in
+    `lines`, or is made durable by no sync."""
+    path = lines[lost].path_to_fsync if lost in lines else None
+    if path is None:
+        return None
     end = end_of_path(path, range(lost + 1, kept), lines)
     return Interval(end.number if end else kept, lost, path)
 
