@@ -55,12 +55,10 @@ def nearest_good_state(findings: Findings, group: Group) -> Optional[State]:
         for state in findings.plan.states
         if state.number in outcomes and outcomes[state.number].result == GOOD
     ]
-
-    def distance(state: State) -> Tuple[int, int]:
-        """In how many micro-operations a state differs from the example, then its number."""
-        return size_of(kept_sets[state.number] ^ example_set), state.number
-
-    return min(good_states, key=distance) if good_states else None
+    if not good_states:
+        return None
+    # Of equally near states min() returns the first.
+    return min(good_states, key=lambda state: size_of(kept_sets[state.number] ^ example_set))
 
 
 def difference_lines(failing: Entries, good: Entries) -> Iterator[str]:
@@ -70,9 +68,8 @@ def difference_lines(failing: Entries, good: Entries) -> Iterator[str]:
     for path in sorted(failing.keys() | good.keys()):
         failing_entry, good_entry = failing.get(path), good.get(path)
         if failing_entry is not None and good_entry is not None:
-            difference = difference_text(failing_entry, good_entry)
-            if difference:
-                yield f'{path} {difference}'
+            if failing_entry != good_entry:
+                yield f'{path} {difference_text(failing_entry, good_entry)}'
         elif failing_entry is not None:
             yield f'{path} ({size_text(failing_entry)}) is only in the failing state'
         elif good_entry is not None:
@@ -81,14 +78,12 @@ def difference_lines(failing: Entries, good: Entries) -> Iterator[str]:
 
 def difference_text(failing: Entry, good: Entry) -> str:
     """The sentence, without its subject, that names the first difference of the entries at one
-    path: of kind, bytes or rights. An empty text if they are equal."""
+    path, of kind, bytes or rights. The entries must not be equal."""
     if kind_text(failing) != kind_text(good):
         return f'is {kind_text(failing)}, in the good state {kind_text(good)}'
     if failing.data != good.data:
         return f'{sizes_text(failing, good)}{first_bytes_text(failing, good)}'
-    if rights_of(failing) != rights_of(good):
-        return f'is {rights_text(failing)}, in the good state {rights_text(good)}'
-    return ''
+    return f'is {rights_text(failing)}, in the good state {rights_text(good)}'
 
 
 def sizes_text(failing: Entry, good: Entry) -> str:
@@ -105,11 +100,6 @@ def bytes_text(data: bytes) -> str:
     if data and all(0x20 <= byte < 0x7F for byte in data):
         return f'"{data.decode("ascii")}"'
     return data.hex() or 'its end'
-
-
-def rights_of(entry: Entry) -> Tuple[str, str, int]:
-    """The owner, the group and the mode of an entry."""
-    return entry.owner, entry.group, entry.mode
 
 
 def rights_text(entry: Entry) -> str:
