@@ -99,6 +99,20 @@ CASES = [
         ],
         ['write /f 0 J'],
     ),
+    (
+        'an exec ends what a process shares with others: descriptors and working directory',
+        FILE,
+        [
+            OPEN_F,
+            '1 clone(child_stack=0x7f, flags=CLONE_FS|CLONE_FILES|SIGCHLD) = 2',
+            '2 execve("/bin/x", ["x"], 0x7ffc /* 3 vars */) = 0',
+            '2 close(3</d/f>) = 0',
+            '2 chdir("/") = 0',
+            '1 write(3</d/f>, "x", 1) = 1',
+            '1 unlink("f") = 0',
+        ],
+        ['write /f 0 x', 'unlink /f'],
+    ),
     *[
         (
             f'a child of {name} has what its parent had then',

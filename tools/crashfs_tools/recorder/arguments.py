@@ -47,7 +47,9 @@ def split_arguments(text: str) -> List[str]:
     while match:
         mark, position = match[0], match.end()
         if mark == '"':
-            position = end_of_string(text, position)
+            # The content is in hexadecimal digits, so it has no quotation mark.
+            end = text.find('"', position)
+            position = len(text) if end < 0 else end + 1
         elif mark == ',' and depth == 0:
             words.append(text[start : match.start()].strip())
             start = position
@@ -58,14 +60,6 @@ def split_arguments(text: str) -> List[str]:
         match = MARK.search(text, position)
     words.append(text[start:].strip())
     return words
-
-
-def end_of_string(text: str, start: int) -> int:
-    """The position after the closing quotation mark of a string whose content begins at `start`;
-    the end of the text if there is no such mark. The content is in hexadecimal digits, so it has
-    no quotation mark."""
-    end = text.find('"', start)
-    return len(text) if end < 0 else end + 1
 
 
 def parse_escapes(text: str) -> bytes:
@@ -99,17 +93,14 @@ def pack_word(word: str) -> str:
     return word if data is None else PACKED + data.decode('latin-1')
 
 
-def unpack_word(word: str) -> Optional[bytes]:
-    """The bytes of an argument that pack_word() packed; None if it isn't packed."""
-    return word[len(PACKED) :].encode('latin-1') if word.startswith(PACKED) else None
-
-
 def parse_bytes(word: str) -> Optional[bytes]:
     """The bytes of a string argument, packed or not. None if strace cut it, or printed something
     else, such as an address; LogError if its bytes aren't in hexadecimal digits."""
+    if word.startswith(PACKED):
+        return word[len(PACKED) :].encode('latin-1')
     if word.startswith('"') and not word.endswith('...'):
         return parse_escapes(word[1:-1])
-    return unpack_word(word)
+    return None
 
 
 def parse_path(word: str) -> Optional[str]:
@@ -131,12 +122,6 @@ def parse_shown_text(text: Optional[str]) -> Optional[str]:
 def parse_integer(word: str) -> int:
     """The number in an argument, decimal or `0x..`. LogError as in parse_digits()."""
     return parse_digits(word, 16 if word.startswith('0x') else 10)
-
-
-def parse_octal(word: str) -> int:
-    """The number in an argument that is written in octal digits, such as a mode. LogError as in
-    parse_digits()."""
-    return parse_digits(word, 8)
 
 
 def parse_digits(word: str, base: int) -> int:
@@ -163,9 +148,8 @@ def parse_vector(word: str) -> Optional[bytes]:
     """The bytes of all pieces in a vector, as writev takes it, packed or not; only of the first
     pieces if strace shows no others. Empty if it shows none; None if strace cut a piece, or printed
     its address. LogError as in parse_bytes()."""
-    packed_bytes = unpack_word(word)
-    if packed_bytes is not None:
-        return packed_bytes
+    if word.startswith(PACKED):
+        return parse_bytes(word)
     pieces = [b'' if text == 'NULL' else parse_bytes(text) for text in PIECE.findall(word)]
     known_pieces = [piece for piece in pieces if piece is not None]
     return b''.join(known_pieces) if len(known_pieces) == len(pieces) else None

@@ -68,6 +68,7 @@ RIGHT_CHANGES = {
 LIST_CHANGES = {'setxattr', 'lsetxattr', 'fsetxattr'}
 # The changes of a descriptor's file: of its bytes, and others.
 DESCRIPTOR_CHANGES = DATA_CHANGES | {'fchmod', 'fchown', 'fchown32', 'fsetxattr'}
+# No open is among the changes, though one may make or truncate a file.
 CHANGES = DESCRIPTOR_CHANGES | NAME_CHANGES | RIGHT_CHANGES | LIST_CHANGES
 OPENS = {'open', 'openat', 'openat2', 'creat'}
 FILE_SYNCS = {'fsync', 'fdatasync', 'msync'}
@@ -83,18 +84,6 @@ PlacedCall = Tuple[Moment, int, Call]
 AreOfSameFile = Callable[[str, str], bool]
 
 
-def calls_in_order(
-    calls: List[Call], are_of_same_file: AreOfSameFile = lambda path, other: False
-) -> Iterator[Tuple[int, Call]]:
-    """Yields the calls of a log, which are given in the order of their last lines, in the order of
-    their operations in the trace. Before each is the number of the log's line at which it is
-    placed: its first or last one, or, for a sync, the last one of a change. When a change is next,
-    are_of_same_file is asked about its paths: the caller must have translated the calls before it.
-    Without are_of_same_file, two paths are of two files. LogError if an argument isn't as strace
-    writes it."""
-    return CallQueue(calls, are_of_same_file).calls_in_order()
-
-
 class CallQueue:
     """Puts the calls of a log in their order in the trace; to be used once. moments has the moment
     of each call that isn't yielded yet, by the call's id. `queue` has the calls, the last one
@@ -102,8 +91,12 @@ class CallQueue:
     unrelated_syncs has, by the id of a change, the syncs of other paths that ran at the same time:
     such a path may be of the same file."""
 
-    def __init__(self, calls: List[Call], are_of_same_file: AreOfSameFile) -> None:
-        """The calls are in the order of their last lines; nothing is placed yet."""
+    def __init__(
+        self, calls: List[Call], are_of_same_file: AreOfSameFile = lambda path, other: False
+    ) -> None:
+        """The calls are in the order of their last lines; nothing is placed yet. When a change is
+        next, are_of_same_file is asked about its paths: the caller must have translated the calls
+        before it. Without are_of_same_file, two paths are of two files."""
         self.calls, self.are_of_same_file = calls, are_of_same_file
         self.moments: Dict[int, Moment] = {}
         self.queue: List[PlacedCall] = []
@@ -111,7 +104,9 @@ class CallQueue:
         self.unrelated_syncs: Dict[int, List[Call]] = {}
 
     def calls_in_order(self) -> Iterator[Tuple[int, Call]]:
-        """What the function calls_in_order() yields."""
+        """Yields the calls in the order of their operations in the trace. Before each is the number
+        of the log's line at which it is placed: its first or last one, or, for a sync, the last one
+        of a change. LogError if an argument isn't as strace writes it."""
         self.place_calls()
         self.queue = sorted(map(self.placed_call, self.calls), reverse=True)
         while self.queue or self.moved_calls:
@@ -136,7 +131,7 @@ class CallQueue:
         """Sets the moment of each call, and unrelated_syncs, by the paths of syncs and changes.
         LogError as in may_cover()."""
         self.moments.update((id(call), moment_of(call)) for call in self.calls)
-        changes = ChangeIndex([call for call in self.calls if is_change(call)])
+        changes = ChangeIndex([call for call in self.calls if call.name in CHANGES])
         for sync in self.calls:
             if sync.name in FILE_SYNCS or sync.name in WHOLE_SYNCS:
                 self.place_sync(sync, changes.changes_during(sync))
@@ -178,17 +173,10 @@ class CallQueue:
         return path is not None and any(self.are_of_same_file(path, other) for other in paths)
 
 
-def is_change(call: Call) -> bool:
-    """Whether a call, also one that failed, is of a kind that changes bytes, names or rights, or
-    sends bytes. Each setxattr is, as an access control list sets the mode. No open is, though an
-    open may make or truncate a file."""
-    return call.name in CHANGES
-
-
 def moment_of(call: Call) -> Moment:
     """The moment at which a call is placed in the trace, unless a sync and a change overlap: that
     of its beginning for a change or a close, that of its end for any other call."""
-    is_placed_at_begin = is_change(call) or call.name in ('close', 'close_range')
+    is_placed_at_begin = call.name in CHANGES or call.name in ('close', 'close_range')
     return (call.begin if is_placed_at_begin else call.end, 1)
 
 

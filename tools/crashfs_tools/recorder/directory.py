@@ -17,6 +17,8 @@ from crashfs_tools.common.tree import path_fault
 # Returns whether a path of the directory is ignored.
 IsIgnored = Callable[[str], bool]
 ScannedEntry = Union[Start, StartSymlink]
+# The bits of a mode that a trace has: the rights of owner, group and others.
+PERMISSIONS = 0o777
 # The newest version of a trace.
 NEWEST = 4
 
@@ -55,11 +57,6 @@ def group_name(number: int) -> str:
         return f'g{number}'
 
 
-def permission_bits(status: os.stat_result) -> int:
-    """The nine bits of a file's mode that are the rights of owner, group and others."""
-    return status.st_mode & 0o777
-
-
 def scan_directory(top: str, is_ignored: IsIgnored, version: int = NEWEST) -> Scan:
     """What traces of a version can have of the directory `top`, and what they can't. Ignored paths,
     and what is below them, are left out. OSError if the directory isn't there, or if an entry can't
@@ -70,7 +67,7 @@ def scan_directory(top: str, is_ignored: IsIgnored, version: int = NEWEST) -> Sc
 def read_header(top: str) -> Header:
     """The owner, group and mode of a directory; OSError if it isn't there."""
     status = os.stat(top)
-    return Header(user_name(status.st_uid), group_name(status.st_gid), permission_bits(status))
+    return Header(user_name(status.st_uid), group_name(status.st_gid), status.st_mode & PERMISSIONS)
 
 
 class Scanner:
@@ -115,7 +112,7 @@ class Scanner:
         if fault:
             self.scan.omissions.append((path, fault))
             return
-        extra_bits = stat.S_IMODE(status.st_mode) & ~0o777
+        extra_bits = stat.S_IMODE(status.st_mode) & ~PERMISSIONS
         if extra_bits:
             self.scan.extra_mode_bits[path] = extra_bits
         attributes = read_attributes(self.top + path)
@@ -191,4 +188,4 @@ def read_entry(top: str, path: str, status: os.stat_result) -> ScannedEntry:
     if stat.S_ISREG(status.st_mode):
         with open(top + path, 'rb', buffering=0) as file:
             data = read_file_bytes(file.fileno())
-    return Start(path, owner, group, permission_bits(status), data)
+    return Start(path, owner, group, status.st_mode & PERMISSIONS, data)

@@ -6,7 +6,7 @@ from __future__ import annotations
 import os.path
 import re
 from dataclasses import dataclass
-from typing import Dict, List, NamedTuple, Optional, Union
+from typing import Dict, List, NamedTuple, Optional
 from weakref import WeakSet
 
 from crashfs_tools.common import limits
@@ -18,13 +18,14 @@ from crashfs_tools.common.trace import (
     FsyncRange,
     Mkdir,
     Operation,
+    Rename,
     Symlink,
     Truncate,
     Write,
 )
 
 from . import arguments
-from .directory import IsIgnored
+from .directory import PERMISSIONS, IsIgnored
 from .live_tree import Change, LiveTree, Node
 from .output_streams import OutputStream
 from .processes import Descriptors, OpenFile, PathContext, Process
@@ -254,6 +255,22 @@ class LiveFiles:
         elif self.recording.add_operation(operation):
             node.traced_paths.add(path)
 
+    def add_new_file(self, path: str, mode: int) -> Node:
+        """Adds a new plain file at a free path, as add_new_node() does, and returns its node. Bits
+        of the mode beyond 777 are only noted, if the trace has the file."""
+        node = Node.file(mode & PERMISSIONS)
+        self.add_new_node(path, node)
+        self.recording.note_extra_bits(node.traced_path, mode)
+        return node
+
+    def rename_in_trace(self, node: Node, source: str, target: str) -> None:
+        """Renames a file in the trace; in the live tree it must have the new name already. If the
+        trace can't have the rename, which is reported, neither path is among the file's traced
+        paths."""
+        node.traced_paths.discard(source)
+        if self.recording.add_operation(Rename(source, target)):
+            node.traced_paths.add(target)
+
     def operation_that_makes(self, path: str, node: Node) -> Operation:
         """The operation that makes a node at a path, with the owner and group of the start
         conditions. A file is made without its bytes."""
@@ -304,25 +321,19 @@ class LiveFiles:
                 self.set_length(node, end)
 
     def write_bytes(self, node: Node, offset: int, data: bytes) -> None:
-        """Writes bytes to a file; in the trace too, as add_change_of_bytes() does, if the file's
-        bytes are followed and the trace has a path of it."""
+        """Writes bytes to a file; in the trace too, if the file's bytes are followed and the trace
+        has a path of it. If the trace can't have the write, that is reported, and the file's bytes
+        aren't followed any more."""
         path = node.path_of_traced_bytes
         node.write(offset, data)
-        if path is not None:
-            self.add_change_of_bytes(node, Write(path, offset, bytes(data)))
+        if path is not None and not self.recording.add_operation(Write(path, offset, bytes(data))):
+            node.drop_bytes()
 
     def set_length(self, node: Node, length: int) -> None:
-        """Cuts a file or makes it longer; in the trace too, as add_change_of_bytes() does, if the
-        file's bytes are followed and the trace has a path of it."""
+        """Cuts a file or makes it longer; in the trace too, as write_bytes() does."""
         path = node.path_of_traced_bytes
         node.resize(length)
-        if path is not None:
-            self.add_change_of_bytes(node, Truncate(path, length))
-
-    def add_change_of_bytes(self, node: Node, operation: Union[Write, Truncate]) -> None:
-        """Adds an operation to the trace that changes the bytes of a file. If the trace can't have
-        the operation, that is reported, and the file's bytes aren't followed any more."""
-        if not self.recording.add_operation(operation):
+        if path is not None and not self.recording.add_operation(Truncate(path, length)):
             node.drop_bytes()
 
     def drop_bytes(self, node: Node, reason: str) -> None:

@@ -83,11 +83,6 @@ class Node:
         return Node(is_directory=False, mode=0o777, link_target=target)
 
     @staticmethod
-    def directory(mode: int) -> Node:
-        """A new, empty directory without a name."""
-        return Node(is_directory=True, mode=mode)
-
-    @staticmethod
     def unknown() -> Node:
         """A new file without a name, which the trace won't have: its bytes and mode aren't
         known."""
@@ -149,7 +144,7 @@ def new_node(entry: ScannedEntry) -> Node:
     if isinstance(entry, StartSymlink):
         return Node.symbolic_link(entry.link)
     if entry.data is None:
-        return Node.directory(entry.mode)
+        return Node(is_directory=True, mode=entry.mode)
     return Node.file(entry.mode, entry.data)
 
 

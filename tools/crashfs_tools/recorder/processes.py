@@ -2,10 +2,11 @@
 
 from __future__ import annotations
 
+from copy import copy
 from dataclasses import dataclass, field
 from typing import Dict, Iterable, Optional, Set
 
-from .arguments import CURRENT_DIRECTORY, Descriptor
+from .arguments import CURRENT_DIRECTORY, Descriptor, parse_digits
 from .live_tree import Node
 from .mappings import Memory
 from .output_streams import OutputStream
@@ -72,17 +73,6 @@ class Descriptors:
         processes share."""
         return Descriptors(dict(self.files), set(self.closed_by_exec))
 
-    def copy_after_exec(self) -> Descriptors:
-        """The table after an exec: a new one, which no thread shares, without the descriptors that
-        an exec closes. The old one stays as it is."""
-        return Descriptors(
-            {
-                number: file
-                for number, file in self.files.items()
-                if number not in self.closed_by_exec
-            }
-        )
-
 
 @dataclass
 class PathContext:
@@ -92,9 +82,11 @@ class PathContext:
     directory: str
     umask: int
 
-    def copy(self) -> PathContext:
-        """The context of a forked process, which later changes of this one don't change."""
-        return PathContext(self.directory, self.umask)
+    def mode_of_new_node(self, word: str) -> int:
+        """The mode of a file or directory that is made with the mode in an argument (`word`):
+        without the bits of the umask. It may have bits beyond 777. LogError if the argument isn't
+        in octal digits."""
+        return parse_digits(word, 8) & ~self.umask & 0o7777
 
     def update_directory(self, new_paths: Dict[str, str]) -> None:
         """Gives the working directory its new path if it is one of some directories that were
@@ -137,7 +129,7 @@ class Process:
         has_shared_memory = 'CLONE_VM' in flags or fork.name == 'vfork'
         return Process(
             self.descriptors if 'CLONE_FILES' in flags else self.descriptors.copy(),
-            self.path_context if 'CLONE_FS' in flags else self.path_context.copy(),
+            self.path_context if 'CLONE_FS' in flags else copy(self.path_context),
             self.memory if has_shared_memory else self.memory.copy(),
         )
 

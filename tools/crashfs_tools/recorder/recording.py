@@ -28,7 +28,7 @@ from crashfs_tools.common.trace import (
 )
 from crashfs_tools.common.tree import Tree, least_file_size
 
-from .directory import NEWEST
+from .directory import NEWEST, PERMISSIONS
 from .output_streams import OutputStream, OutputStreams, SayEach
 from .strace_log import Call
 from .troubles import Troubles
@@ -140,6 +140,12 @@ class Recording:
         """Adds a note, as in add_trouble(): something that the trace doesn't have, and that can't
         make a crash state good or bad."""
         self.add_trouble(what, where, is_note=True)
+
+    def note_extra_bits(self, path: Optional[str], mode: int) -> None:
+        """Adds a note of the bits beyond 777 of a mode that the file or directory at a path of the
+        trace gets. Nothing if the mode has none, or if the path is None: the trace lacks it."""
+        if path is not None and mode & ~PERMISSIONS:
+            self.report_note(f'it gets the mode bits {mode & ~PERMISSIONS:o}, beyond 777', path)
 
     def add_trouble(self, what: str, where: str, *, is_note: bool) -> None:
         """Adds a trouble: what happened, and where, which is a path or a stream. The last line that

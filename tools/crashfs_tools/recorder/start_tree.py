@@ -23,8 +23,7 @@ def files_at_start(
 ) -> LiveFiles:
     """The files at the start of a session, from a scan. Adds the scan to the recording's start tree
     too, which must be empty, and reports what that leaves out."""
-    root = Node.directory(scan.header.mode)
-    root.traced_paths = {'/'}
+    root = Node(is_directory=True, mode=scan.header.mode, traced_paths={'/'})
     tree = LiveTree(root)
     files = LiveFiles(recording, conditions, is_ignored, tree, has_copies=has_copies)
     add_start_tree(recording, tree, scan)

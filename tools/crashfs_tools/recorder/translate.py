@@ -8,6 +8,7 @@ from crashfs_tools.common.file_bytes import Bytes
 
 from . import arguments, call_order, mapped_stores
 from .arguments import LogError
+from .call_order import CallQueue
 from .calls import data as data_calls
 from .calls import modes, names, opens
 from .calls import processes as process_calls
@@ -91,12 +92,12 @@ class Translator:
         if SOCKETS in self.recording.streams.acknowledging_descriptors:
             self.recording.streams.line_connections = connections_with_lines(self.log.calls)
         if self.file_copies.copies:
-            calls_by_paths = [call for _, call in call_order.calls_in_order(self.log.calls)]
+            calls_by_paths = [call for _, call in CallQueue(self.log.calls).calls_in_order()]
             self.call_copies = mapped_stores.copies_by_call(
                 self.log.calls, calls_by_paths, self.file_copies
             )
-        are_of_same_file = self.files.are_of_same_file
-        for line, call in call_order.calls_in_order(self.log.calls, are_of_same_file):
+        queue = CallQueue(self.log.calls, self.files.are_of_same_file)
+        for line, call in queue.calls_in_order():
             self.files.add_ended_syncs(line)
             self.recording.current_call = call
             self.translate_call(call)
@@ -149,8 +150,7 @@ class Translator:
         open, the paths of files that it would make or truncate. Empty for a call that changes
         nothing, or only extended attributes."""
         is_open = call.name in call_order.OPENS
-        is_change = call_order.is_change(call) and call.name not in call_order.LIST_CHANGES
-        if not (is_open or is_change):
+        if not is_open and call.name not in call_order.CHANGES - call_order.LIST_CHANGES:
             return []
         process = self.find_process(call.thread, call.end)
         if call.name in call_order.DESCRIPTOR_CHANGES:

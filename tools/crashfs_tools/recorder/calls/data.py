@@ -8,7 +8,7 @@ from typing import Optional
 
 from crashfs_tools.recorder import arguments
 from crashfs_tools.recorder.live_tree import END
-from crashfs_tools.recorder.output_streams import OutputStream, sent_bytes
+from crashfs_tools.recorder.output_streams import sent_bytes
 from crashfs_tools.recorder.processes import OpenFile, Process, node_of
 from crashfs_tools.recorder.live_files import LiveFiles
 from crashfs_tools.recorder.strace_log import Call
@@ -121,7 +121,10 @@ def write_to_descriptor(
     reason = f'{call.name}: {missing_reason}'
     stream = files.find_output_stream(process, call, index)
     if stream is not None:
-        write_to_stream(files, stream, written, reason)
+        if written is not None:
+            files.recording.add_output(stream, written)
+        elif stream.is_acknowledged:
+            files.recording.report(reason, stream.name)
         return
     file = files.find_open_file(process, call, index)
     if file is None or file.node is None or file.node.is_directory:
@@ -130,17 +133,6 @@ def write_to_descriptor(
         files.drop_bytes(file.node, reason)
     else:
         write_to_file(files, file, written, offset, flags)
-
-
-def write_to_stream(
-    files: LiveFiles, stream: OutputStream, data: Optional[bytes], missing_reason: str
-) -> None:
-    """Adds bytes that were written to a stream. If they aren't known (None), missing_reason is
-    reported, unless the stream acknowledges nothing."""
-    if data is not None:
-        files.recording.add_output(stream, data)
-    elif stream.is_acknowledged:
-        files.recording.report(missing_reason, stream.name)
 
 
 def write_to_file(

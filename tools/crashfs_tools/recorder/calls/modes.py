@@ -8,15 +8,14 @@ from typing import Dict, Optional
 
 from crashfs_tools.common.trace import Chmod, Chown
 from crashfs_tools.recorder import acl, arguments
-from crashfs_tools.recorder.arguments import parse_integer, parse_octal
-from crashfs_tools.recorder.directory import group_name, user_name
+from crashfs_tools.recorder.arguments import parse_digits, parse_integer
+from crashfs_tools.recorder.directory import PERMISSIONS, group_name, user_name
 from crashfs_tools.recorder.live_tree import Node
 from crashfs_tools.recorder.processes import Process, node_of
 from crashfs_tools.recorder.live_files import LiveFiles
 from crashfs_tools.recorder.strace_log import Call
 
 UNCHANGED = {'-1', '4294967295', '0xffffffff'}
-PERMISSIONS = 0o777
 
 
 def on_chmod(files: LiveFiles, process: Process, call: Call) -> None:
@@ -39,32 +38,16 @@ def set_mode(files: LiveFiles, node: Optional[Node], word: str) -> None:
     trace, a chmod is added, and has_new_rights of the node is set. Bits beyond 777 are only noted.
     Nothing if the node is None, as it isn't followed."""
     # Some programs also pass the bits of the file's kind, which the kernel ignores.
-    mode = parse_octal(word) & 0o7777
+    mode = parse_digits(word, 8) & 0o7777
     if node is None:
         return
     node.mode = mode & PERMISSIONS
     path = path_in_trace(node)
     if path is None:
         return
-    note_extra_bits(files, node, mode)
+    files.recording.note_extra_bits(path, mode)
     if mode & PERMISSIONS != files.recording.tree.entries[path].mode:
         node.has_new_rights = files.recording.add_operation(Chmod(path, mode & PERMISSIONS))
-
-
-def mode_of_new_node(process: Process, word: str) -> int:
-    """The mode of a file or directory that a process makes: that in an argument (`word`) without
-    the bits of the umask. It may have bits beyond 777, which note_extra_bits() notes."""
-    return parse_octal(word) & ~process.path_context.umask & 0o7777
-
-
-def note_extra_bits(files: LiveFiles, node: Node, mode: int) -> None:
-    """Notes the bits beyond 777 of a mode that a file or directory gets. Nothing if the mode has
-    none, or if the trace doesn't have the file."""
-    path = path_in_trace(node)
-    if path is not None and mode & ~PERMISSIONS:
-        files.recording.report_note(
-            f'it gets the mode bits {mode & ~PERMISSIONS:o}, beyond 777', path
-        )
 
 
 def on_chown(files: LiveFiles, process: Process, call: Call) -> None:

@@ -7,10 +7,9 @@ from __future__ import annotations
 from typing import Optional
 
 from crashfs_tools.common.entry import parent_of
-from crashfs_tools.common.trace import Link, Rename, Rmdir, Unlink
+from crashfs_tools.common.trace import Link, Rmdir, Unlink
 from crashfs_tools.recorder import arguments
-from crashfs_tools.recorder.calls.modes import PERMISSIONS, mode_of_new_node, note_extra_bits
-from crashfs_tools.recorder.directory import target_fault
+from crashfs_tools.recorder.directory import PERMISSIONS, target_fault
 from crashfs_tools.recorder.live_tree import Node
 from crashfs_tools.recorder.live_files import LiveFiles
 from crashfs_tools.recorder.processes import Process, move_working_directories
@@ -54,17 +53,9 @@ def remove_name(files: LiveFiles, path: Optional[str]) -> None:
         return
     node.traced_paths.discard(path)
     if node.names and not node.traced_paths:
-        rename_in_trace(files, node, path, node.name)
+        files.rename_in_trace(node, path, node.name)
     else:
         files.recording.add_operation(Unlink(path))
-
-
-def rename_in_trace(files: LiveFiles, node: Node, source: str, target: str) -> None:
-    """Renames a file in the trace; in the live tree it must have the new name already. If the trace
-    can't have the rename, which is reported, neither path is among the file's traced paths."""
-    node.traced_paths.discard(source)
-    if files.recording.add_operation(Rename(source, target)):
-        node.traced_paths.add(target)
 
 
 def remove_directory(files: LiveFiles, full_path: Optional[str]) -> None:
@@ -106,10 +97,10 @@ def make_directory(files: LiveFiles, process: Process, path: Optional[str], mode
     """Makes a directory with the mode in an argument, without the bits of the umask and of SET_ID;
     the sticky bit is only noted. Nothing if the path is None."""
     if path is not None:
-        bits = mode_of_new_node(process, mode_word) & ~SET_ID
-        node = Node.directory(bits & PERMISSIONS)
+        bits = process.path_context.mode_of_new_node(mode_word) & ~SET_ID
+        node = Node(is_directory=True, mode=bits & PERMISSIONS)
         files.add_new_node(path, node)
-        note_extra_bits(files, node, bits)
+        files.recording.note_extra_bits(node.traced_path, bits)
 
 
 def on_link(files: LiveFiles, process: Process, call: Call) -> None:
@@ -210,18 +201,10 @@ def make_file(files: LiveFiles, process: Process, path: Optional[str], mode_word
     if path is None:
         return
     if 'S_IFREG' in mode_word or not mode_word.startswith('S_IF'):
-        add_new_file(files, path, mode_of_new_node(process, mode_word.rpartition('|')[2]))
+        bits = process.path_context.mode_of_new_node(mode_word.rpartition('|')[2])
+        files.add_new_file(path, bits)
     else:
         add_untraceable_node(files, path, 'a device or a named pipe was made')
-
-
-def add_new_file(files: LiveFiles, path: str, mode: int) -> Node:
-    """Adds a new plain file at a free path, in the trace too if that has its directory, and returns
-    its node. Bits of the mode beyond 777 are only noted."""
-    node = Node.file(mode & PERMISSIONS)
-    files.add_new_node(path, node)
-    note_extra_bits(files, node, mode)
-    return node
 
 
 def on_bind(files: LiveFiles, process: Process, call: Call) -> None:

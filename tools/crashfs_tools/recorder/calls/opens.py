@@ -9,8 +9,7 @@ from typing import Optional
 
 from crashfs_tools.recorder import arguments
 from crashfs_tools.recorder.arguments import parse_integer
-from crashfs_tools.recorder.calls.modes import PERMISSIONS, mode_of_new_node
-from crashfs_tools.recorder.calls.names import add_new_file
+from crashfs_tools.recorder.directory import PERMISSIONS
 from crashfs_tools.recorder.live_tree import Node
 from crashfs_tools.recorder.processes import OpenFile, Process
 from crashfs_tools.recorder.live_files import UNKNOWN, LiveFiles
@@ -21,29 +20,29 @@ CREAT_FLAGS = 'O_WRONLY|O_CREAT|O_TRUNC'
 
 def on_open(files: LiveFiles, process: Process, call: Call) -> None:
     """Opens a path, which may be relative to the working directory, as open_path() does."""
-    word, flags, mode_word = call.argument(0), call.argument(1), call.argument(2)
-    path = files.path_argument(process, call, 0, follow_last_link=may_follow_last_link(flags))
-    open_path(files, process, call, word=word, path=path, flags=flags, mode_word=mode_word)
+    base, word, flags = process.path_context.directory, call.argument(0), call.argument(1)
+    open_path(files, process, call, base, word, flags=flags, mode_word=call.argument(2))
 
 
 def on_openat(files: LiveFiles, process: Process, call: Call) -> None:
     """Opens a path that may be relative to a directory's descriptor, as open_path() does."""
-    open_path_at(files, process, call, flags=call.argument(2), mode_word=call.argument(3))
+    base, word, flags = process.directory_of(call.descriptor()), call.argument(1), call.argument(2)
+    open_path(files, process, call, base, word, flags=flags, mode_word=call.argument(3))
 
 
 def on_openat2(files: LiveFiles, process: Process, call: Call) -> None:
     """Opens a path as on_openat() does. Flags and mode are fields of one argument, `how`: the flags
     are looked for in all its text. If it has no mode, the mode is 0."""
-    how = call.argument(2)
+    base, word, how = process.directory_of(call.descriptor()), call.argument(1), call.argument(2)
     match = re.search(r'mode=(0[0-7]*)', how)
-    open_path_at(files, process, call, flags=how, mode_word=match[1] if match else '0')
+    mode_word = match[1] if match else '0'
+    open_path(files, process, call, base, word, flags=how, mode_word=mode_word)
 
 
 def on_creat(files: LiveFiles, process: Process, call: Call) -> None:
     """Opens a path as on_open() does, with CREAT_FLAGS: makes the file, or truncates it."""
-    word, mode_word = call.argument(0), call.argument(1)
-    path = files.path_argument(process, call, 0, follow_last_link=True)
-    open_path(files, process, call, word=word, path=path, flags=CREAT_FLAGS, mode_word=mode_word)
+    base, word, mode_word = process.path_context.directory, call.argument(0), call.argument(1)
+    open_path(files, process, call, base, word, flags=CREAT_FLAGS, mode_word=mode_word)
 
 
 def may_follow_last_link(flags: str) -> bool:
@@ -52,53 +51,42 @@ def may_follow_last_link(flags: str) -> bool:
     return 'O_NOFOLLOW' not in flags and 'O_EXCL' not in flags
 
 
-def open_path_at(
-    files: LiveFiles, process: Process, call: Call, *, flags: str, mode_word: str
-) -> None:
-    """Opens the path of a call's second argument, which may be relative to the directory of its
-    first, a descriptor, as open_path() does."""
-    path = files.path_argument_at(process, call, 0, follow_last_link=may_follow_last_link(flags))
-    word = call.argument(1)
-    open_path(files, process, call, word=word, path=path, flags=flags, mode_word=mode_word)
-
-
 def open_path(
     files: LiveFiles,
     process: Process,
     call: Call,
-    *,
+    base: str,
     word: str,
-    path: Optional[str],
+    *,
     flags: str,
     mode_word: str,
 ) -> None:
     """Sets the open file of the descriptor that an open returned. If the path in its argument
     `word` means an open file or stream, as /dev/stdout does, that is opened again. Else it is the
     file at opened_path(), which open_node() makes or truncates; if that is None, the descriptor
-    isn't followed. `path` is that argument's path in the tree."""
+    isn't followed. A relative path begins at the directory with the absolute path `base`."""
     file = files.open_file_of_path(process, word)
     if file is not None:
         file = reopen_file(files, file, flags)
     else:
-        path = opened_path(files, call, word=word, path=path, flags=flags)
+        path = opened_path(files, call, base, word, flags)
         node = open_node(files, process, path, flags, mode_word)
         file = None if node is None else OpenFile.opened_with(node, flags)
     process.descriptors.set_file(call.result, file, is_closed_by_exec='O_CLOEXEC' in flags)
 
 
-def opened_path(
-    files: LiveFiles, call: Call, *, word: str, path: Optional[str], flags: str
-) -> Optional[str]:
+def opened_path(files: LiveFiles, call: Call, base: str, word: str, flags: str) -> Optional[str]:
     """The path in the tree of the file that an open has opened, by the path that strace shows for
     the descriptor; None if it shows another text, as for a pipe. If it shows nothing, or the file
-    is unlinked, it is the given path: if strace cut that in the argument `word`, and the open may
-    make or truncate a file, this is reported."""
+    is unlinked, it is the path in the argument `word`, as LiveFiles.resolve_argument() returns it:
+    if strace cut that, and the open may make or truncate a file, this is reported."""
     shown = call.result_descriptor
     if shown.text is not None and not shown.is_deleted:
         return files.resolve_path(shown.path) if shown.path else None
     if arguments.parse_path(word) is None and ('O_CREAT' in flags or 'O_TRUNC' in flags):
         files.recording.report(f'{call.name} of a path that strace cut', '/')
-    return path
+    follow_last_link = may_follow_last_link(flags)
+    return files.resolve_argument(base, word, follow_last_link=follow_last_link)
 
 
 def reopen_file(files: LiveFiles, file: OpenFile, flags: str) -> OpenFile:
@@ -122,12 +110,12 @@ def open_node(
         return None
     if 'O_PATH' in flags:
         return files.tree.node_at(path)
-    bits = mode_of_new_node(process, mode_word or '0')
+    bits = process.path_context.mode_of_new_node(mode_word or '0')
     if 'O_TMPFILE' in flags:
         return new_temporary_file(files, bits)
     node = files.tree.node_at(path)
     if node is None and 'O_CREAT' in flags:
-        return add_new_file(files, path, bits)
+        return files.add_new_file(path, bits)
     if node is None:
         files.recording.report(f'opened, and it was made {UNKNOWN}', path)
     elif 'O_TRUNC' in flags and not node.is_directory and node.size:

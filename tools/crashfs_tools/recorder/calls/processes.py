@@ -4,9 +4,10 @@ NAME that has returned; LogError if an argument isn't as strace writes it."""
 from __future__ import annotations
 
 import os.path
+from copy import copy
 
 from crashfs_tools.recorder import arguments
-from crashfs_tools.recorder.processes import Process
+from crashfs_tools.recorder.processes import Descriptors, Process
 from crashfs_tools.recorder.live_files import LiveFiles
 from crashfs_tools.recorder.mappings import Memory
 from crashfs_tools.recorder.strace_log import Call
@@ -22,8 +23,11 @@ def on_clone(files: LiveFiles, process: Process, call: Call) -> None:
 def on_execve(files: LiveFiles, process: Process, call: Call) -> None:
     """Starts another program in a process: closes the descriptors that an exec closes, and unmaps
     all files. From then on the process shares nothing with other threads."""
-    process.descriptors = process.descriptors.copy_after_exec()
-    process.path_context = process.path_context.copy()
+    files_by_number, closed = process.descriptors.files, process.descriptors.closed_by_exec
+    process.descriptors = Descriptors(
+        {number: file for number, file in files_by_number.items() if number not in closed}
+    )
+    process.path_context = copy(process.path_context)
     process.memory = Memory()
 
 
@@ -46,7 +50,7 @@ def on_fchdir(files: LiveFiles, process: Process, call: Call) -> None:
 
 def on_umask(files: LiveFiles, process: Process, call: Call) -> None:
     """Sets the umask, for all threads that share it."""
-    process.path_context.umask = arguments.parse_octal(call.argument(0))
+    process.path_context.umask = arguments.parse_digits(call.argument(0), 8)
 
 
 def on_chroot(files: LiveFiles, process: Process, call: Call) -> None:

@@ -7,11 +7,7 @@ from __future__ import annotations
 from typing import Dict, Optional
 
 from crashfs_tools.common.trace import Rename
-from crashfs_tools.recorder.calls.names import (
-    remove_directory_name,
-    remove_name,
-    rename_in_trace,
-)
+from crashfs_tools.recorder.calls.names import remove_directory_name, remove_name
 from crashfs_tools.recorder.live_files import LiveFiles
 from crashfs_tools.recorder.live_tree import Node
 from crashfs_tools.recorder.processes import Process, move_working_directories
@@ -164,7 +160,7 @@ def rename_node(files: LiveFiles, source: str, target: str, node: Node) -> None:
     if node.is_directory:
         rename_directory_in_trace(files, node, source, target)
     elif source in node.traced_paths:
-        rename_in_trace(files, node, source, target)
+        files.rename_in_trace(node, source, target)
     elif not node.traced_paths:
         files.recording.report('renamed to from a file that is not in the trace', target)
 
