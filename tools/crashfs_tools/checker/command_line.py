@@ -3,7 +3,7 @@
 from __future__ import annotations
 
 import argparse
-from typing import Dict, List, Optional, Tuple
+from typing import Any, Dict, List, Optional, Tuple
 
 from crashfs_tools.common.command import (
     parse_command_line,
@@ -96,175 +96,141 @@ def parse_seconds(text: str) -> float:
     return seconds
 
 
-def add_state_options(parser: argparse.ArgumentParser) -> None:
-    """Adds the options that say whether all crash states of the trace are tried, or which
-    families."""
-    parser.add_argument(
-        '--every',
+# The options in the order of --help, with what argparse takes for each. A value is the field of
+# Options that has the option's name, or the name `dest`.
+OPTIONS: Dict[str, Dict[str, Any]] = {
+    '--jobs': dict(
+        metavar='N',
+        type=parse_job_count,
+        default=processor_count(),
+        help='run N commands at once (default: one per processor, %(default)s)',
+    ),
+    '--shard': dict(
+        metavar='I/N',
+        type=parse_shard,
+        default=Shard(),
+        help='try only part I of N; --merge merges the reports',
+    ),
+    # Whether all crash states of the trace are tried, or which families.
+    '--every': dict(
         metavar='N',
         type=parse_positive,
         help='all crash states if at most N of them differ, however long that takes '
         f'(without a number: {MOST_STATES:,})',
-    )
-    parser.add_argument(
-        '--families',
+    ),
+    '--families': dict(
         action='store_true',
         help='not all crash states, but the prefixes, those with one hole, --lost and --files',
-    )
-    parser.add_argument(
-        '--prefixes', action='store_true', help='the prefixes only: a crash lost what came last'
-    )
-    parser.add_argument(
-        '--quick',
+    ),
+    '--prefixes': dict(action='store_true', help='the prefixes only: a crash lost what came last'),
+    '--quick': dict(
         action='store_true',
         help='the prefixes and those with one hole; --lost and --files only if given',
-    )
-
-
-def add_plan_options(parser: argparse.ArgumentParser) -> None:
-    """Adds the options that leave states out of the plan, or add a family to it; --window is for
-    tests, and not shown by --help."""
-    parser.add_argument(
-        '--in',
+    ),
+    # What leaves states out of the plan, or adds a family to it. --window is for tests.
+    '--in': dict(
         metavar='PROFILE',
         dest='profile',
         help='only states that this profile allows, such as ordered',
-    )
-    parser.add_argument('--window', metavar='N', type=parse_positive, help=argparse.SUPPRESS)
-    parser.add_argument(
-        '--lost',
+    ),
+    '--window': dict(metavar='N', type=parse_positive, help=argparse.SUPPRESS),
+    '--lost': dict(
         action='store_true',
         help='for each micro-operation, the smallest state that has it '
         '(adds to --prefixes, --quick or --serve)',
-    )
-    parser.add_argument(
-        '--files',
+    ),
+    '--files': dict(
         action='store_true',
         help='for each file, the states without its unsynced changes (as --lost)',
-    )
-
-
-def add_run_options(parser: argparse.ArgumentParser) -> None:
-    """Adds the options that say how a check runs: second crashes, a single state, when the check
-    stops, and from where it continues."""
-    parser.add_argument(
-        '--nested',
+    ),
+    # How a check runs: second crashes, a single state, when it stops, and from where it continues.
+    '--nested': dict(
         metavar='N',
         type=parse_positive,
         default=0,
         help='crash the recovery too: record COMMAND in N states, and try each crash '
         'state of that recovery by a second run of COMMAND (needs strace)',
-    )
-    parser.add_argument(
-        '--state',
+    ),
+    '--state': dict(
         metavar='N',
         type=parse_state,
         help='try only state N, and leave it laid out as the crash left it; N/M is '
         'state M of the recovery of state N',
-    )
-    parser.add_argument('--fail-fast', action='store_true', help='stop at the first failing state')
-    parser.add_argument(
-        '--time-limit',
+    ),
+    '--fail-fast': dict(action='store_true', help='stop at the first failing state'),
+    '--time-limit': dict(
         metavar='S',
         type=parse_seconds,
         help='stop after S seconds, and report what was tried',
-    )
-    parser.add_argument(
-        '--resume',
+    ),
+    '--resume': dict(
         metavar='FILE',
         help='continue a check that was stopped, from its --json file; if there is '
         'no such file, start from the beginning',
-    )
-
-
-def add_earlier_result_options(parser: argparse.ArgumentParser) -> None:
-    """Adds the options that name what earlier checks left: a file of accepted failures, and a
-    directory of outcomes."""
-    parser.add_argument(
-        '--accept',
+    ),
+    # What earlier checks left: a file of accepted failures, and a directory of outcomes.
+    '--accept': dict(
         metavar='FILE',
         help='a JSON list of known failures: they are reported, and do not change the status',
-    )
-    parser.add_argument(
-        '--cache',
+    ),
+    '--cache': dict(
         metavar='DIR',
         help='keep outcomes in this directory: a state with the same files and lines is not tried '
         'again, unless a file that COMMAND opens has changed (needs strace)',
-    )
-
-
-def add_output_options(parser: argparse.ArgumentParser) -> None:
-    """Adds the options for files that are written in addition to the report."""
-    parser.add_argument(
-        '--json', metavar='FILE', help='write the outcomes, for --merge, --resume and other tools'
-    )
-    parser.add_argument('--junit', metavar='FILE', help='write the report as JUnit XML')
-    parser.add_argument(
-        '--tap', metavar='FILE', help='write the report in the Test Anything Protocol'
-    )
-    parser.add_argument(
-        '--html', metavar='FILE', help='write the report as one page, to be opened in a browser'
-    )
-
-
-def add_program_options(parser: argparse.ArgumentParser) -> None:
-    """Adds the options that say how long COMMAND may take, and which program computes the
-    states."""
-    parser.add_argument(
-        '--timeout',
+    ),
+    # Files that are written in addition to the report.
+    '--json': dict(
+        metavar='FILE', help='write the outcomes, for --merge, --resume and other tools'
+    ),
+    '--junit': dict(metavar='FILE', help='write the report as JUnit XML'),
+    '--tap': dict(metavar='FILE', help='write the report in the Test Anything Protocol'),
+    '--html': dict(metavar='FILE', help='write the report as one page, to be opened in a browser'),
+    # How long COMMAND may take, and which program computes the states.
+    '--timeout': dict(
         metavar='S',
         type=parse_seconds,
         default=TIMEOUT,
         help=f'kill a command after S seconds (default {TIMEOUT:g})',
-    )
-    parser.add_argument(
-        '--crashfs',
+    ),
+    '--crashfs': dict(
         metavar='PATH',
         help='the program crashfs (default: the one on PATH, then next to this tool, then the one '
         'that tools/build made)',
-    )
-    parser.add_argument(
-        '--unproved',
+    ),
+    '--unproved': dict(
         action='store_true',
         help='use the Python implementation, even if there is a crashfs',
-    )
-
-
-def add_state_source_options(parser: argparse.ArgumentParser) -> None:
-    """Adds the options by which the states, or their outcomes, come from a server, from disks, or
-    from the reports of earlier checks."""
-    parser.add_argument(
-        '--serve',
+    ),
+    # States, or their outcomes, from a server, from disks, or from the reports of earlier checks.
+    '--serve': dict(
         metavar='ADDR',
         type=parse_address,
         help='mount each state from the `crashfs serve --again --client linux` that '
         'listens at this host and port, with the same trace and plan (as root)',
-    )
-    parser.add_argument(
-        '--uname',
+    ),
+    '--uname': dict(
         metavar='NAME',
         help="with --serve: the user who attaches (default: the root's owner)",
-    )
-    parser.add_argument(
-        '--disks',
+    ),
+    '--disks': dict(
         metavar='LIST',
         type=parse_names,
         help='make the session again on disk images of these file systems, such as '
         'ext4,xfs,btrfs, and report on which of them a crash left a failing state (as root)',
-    )
-    parser.add_argument(
-        '--merge',
+    ),
+    '--merge': dict(
         metavar='FILE',
         nargs='+',
         help='try nothing; merge the reports of all shards from their --json files; with '
         'TRACE before it, and the options of the shards, --html and --json '
         'also show how files differ',
-    )
+    ),
+}
 
 
 def make_parser() -> argparse.ArgumentParser:
-    """The parser of TRACE and all options, without COMMAND. Each value that it reads has the name
-    of a field of Options."""
+    """The parser of TRACE and OPTIONS, without COMMAND. Each value that it reads has the name of a
+    field of Options."""
     parser = argparse.ArgumentParser(
         prog=NAME,
         description=DESCRIPTION,
@@ -276,27 +242,8 @@ def make_parser() -> argparse.ArgumentParser:
     )
     parser.add_argument('--version', action='version', version=version_text(NAME))
     parser.add_argument('trace', metavar='TRACE', nargs='?', help='the trace')
-    parser.add_argument(
-        '--jobs',
-        metavar='N',
-        type=parse_job_count,
-        default=processor_count(),
-        help='run N commands at once (default: one per processor, %(default)s)',
-    )
-    parser.add_argument(
-        '--shard',
-        metavar='I/N',
-        type=parse_shard,
-        default=Shard(),
-        help='try only part I of N; --merge merges the reports',
-    )
-    add_state_options(parser)
-    add_plan_options(parser)
-    add_run_options(parser)
-    add_earlier_result_options(parser)
-    add_output_options(parser)
-    add_program_options(parser)
-    add_state_source_options(parser)
+    for name, settings in OPTIONS.items():
+        parser.add_argument(name, **settings)
     return parser
 
 
