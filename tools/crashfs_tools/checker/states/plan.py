@@ -55,18 +55,13 @@ class State(NamedTuple):
 
 class Offsets(NamedTuple):
     """How many states, micro-operations and acknowledged lines of a session come before a plan.
-    lines has the session's line of each line of the plan's trace, or is empty if they are the
-    same."""
+    lines has for each line of the plan's trace the number, from 1, of the session's line that it
+    comes from; it is empty if they are the same."""
 
     states: int = 0
     operations: int = 0
     says: int = 0
     lines: Tuple[int, ...] = ()
-
-    def session_line(self, number: int) -> int:
-        """The number of the session's line from which a line of the plan's trace comes; both are
-        counted from 1."""
-        return self.lines[number - 1] if self.lines else number
 
     def values_by_own_lines(self, values: Dict[int, str]) -> Dict[int, str]:
         """Takes values by line numbers of the session, and returns them by line numbers of the
@@ -96,12 +91,13 @@ class AllStates(NamedTuple):
 
 class Needs:
     """Which micro-operations each one needs, by any chain, itself among them: a set for each place.
-    No micro-operation needs a later one."""
+    No micro-operation needs a later one. `full` is the set of all micro-operations."""
 
     def __init__(self, masks: Sequence[int]) -> None:
         """`masks` has for each place the set that its micro-operation needs; it must not change
         later."""
         self.masks = masks
+        self.full = prefix_set(len(masks))
         self._sets_needing: Dict[int, int] = {}
 
     def is_needed(self, earlier: int, by: int) -> bool:
@@ -118,11 +114,6 @@ class Needs:
                 [place, *(later for later in later_places if self.is_needed(place, by=later))]
             )
         return self._sets_needing[place]
-
-    @property
-    def full(self) -> int:
-        """The set of all micro-operations."""
-        return prefix_set(len(self.masks))
 
     def sets_without_lines(self, line_numbers: Iterable[int]) -> List[int]:
         """For each line of the trace that has micro-operations, in the order of the lines, the
@@ -166,7 +157,9 @@ class Plan:
     """The micro-operations, the states of crashes, and what each state keeps. first is the number
     of the first listed state; the others follow it. kept has the set of each listed state, by its
     number. states are the listed ones that may be tried: a crash may leave them, also under the
-    profile that is wanted. all_states is None if only families of states were asked for."""
+    profile that is wanted. all_states is None if only families of states were asked for;
+    has_all_states says whether each different crash state is listed. first_place is the session's
+    place of the first micro-operation, 0 if there is none."""
 
     def __init__(
         self,
@@ -181,8 +174,10 @@ class Plan:
         returns no names, and no profile may be wanted."""
         assert len(profiles.of_sets) in (0, len(listed))
         self.all_states = all_states
+        self.has_all_states = all_states is not None and all_states.are_listed
         self.profiles = profiles
         self.operations = operations
+        self.first_place = operations[0].place if operations else 0
         self.listed = listed
         self.needs = needs
         self.first = first
@@ -225,16 +220,6 @@ class Plan:
         """The listed states of families, which come first; all listed states if only families were
         asked for."""
         return self.listed[: self.all_states.families] if self.all_states else self.listed
-
-    @property
-    def has_all_states(self) -> bool:
-        """Whether each different crash state is listed. False if only families were asked for."""
-        return self.all_states is not None and self.all_states.are_listed
-
-    @property
-    def first_place(self) -> int:
-        """The session's place of the first micro-operation; 0 if the plan has none."""
-        return self.operations[0].place if self.operations else 0
 
     def has_state(self, number: int) -> bool:
         """Whether a state of this number is listed."""

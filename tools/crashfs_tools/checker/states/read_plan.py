@@ -25,7 +25,8 @@ def read_plan(
     for part_listing in (listing, *more_listings):
         reader.add_part(part_listing)
     needs = Needs(reader.needs)
-    return Plan(reader.operations, reader.states, needs, offsets.states, profiles=reader.profiles())
+    profiles = SetProfiles(reader.profile_names, tuple(reader.profile_bits))
+    return Plan(reader.operations, reader.states, needs, offsets.states, profiles=profiles)
 
 
 class PlanReader:
@@ -41,43 +42,34 @@ class PlanReader:
         self.operations: List[PlannedMicroOperation] = []
         self.states: List[State] = []
         self.needs: List[int] = []
-        # The names of the profiles, and those of each state as bits.
+        # The names of the profiles, which all allow the first state, since its set is empty; and
+        # the profiles of each state as bits. Both are empty if the program prints no profiles.
         self.profile_names: Tuple[str, ...] = ()
         self.profile_bits: List[int] = []
 
-    def profiles(self) -> SetProfiles:
-        """The profiles of each state that was added, in the order of the states; none if the
-        program prints no profiles. Their names are those of the first state, which all profiles
-        allow, since its set is empty."""
-        return SetProfiles(self.profile_names, tuple(self.profile_bits))
-
     def add_part(self, listing: str) -> None:
-        """Adds the operations and states of a part, from what `list --json` printed. In the program
-        the picks of all parts begin with the same number; here the picks of a further part get the
-        numbers that follow those of the states so far. PlanError for a line of another form."""
+        """Adds the states of a part, from what `list --json` printed, and the operations if it is
+        the first part: all parts have the same. In the program the picks of all parts begin with
+        the same number; here the picks of a further part get the numbers that follow those of the
+        states so far. PlanError for a line of another form."""
         self.is_first = not self.states
         self.number_offset = 0 if self.is_first else len(self.states) - len(self.operations) - 1
         for line in listing.rstrip('\n').split('\n'):
             try:
-                self.add_line(json.loads(line))
+                fields = json.loads(line)
+                if 'op' not in fields:
+                    self.add_state(fields)
+                elif self.is_first:
+                    self.operations.append(parse_operation(fields, self.offsets))
+                    self.needs.append(set_of(fields['needs']))
             except LINE_FAULTS as error:
                 raise PlanError(f'crashfs list printed: {line}') from error
 
-    def add_line(self, fields: Dict[str, Any]) -> None:
-        """Adds the operation or the state of a line. All parts have the same operations, so only
-        those of the first part are added. KeyError, TypeError, ValueError, AttributeError or
-        OverflowError for fields of another form."""
-        if 'op' not in fields:
-            self.add_state(fields)
-        elif self.is_first:
-            self.operations.append(parse_operation(fields, self.offsets))
-            self.needs.append(set_of(fields['needs']))
-
     def add_state(self, fields: Dict[str, Any]) -> None:
         """Adds the state of a line, with a number that is unique among all parts. Of a further part
-        only picks are added: its prefixes are those of the first part. KeyError or another error as
-        in add_line(); ValueError also if a profile isn't among those of the first state, or if only
-        some states have profiles."""
+        only picks are added: its prefixes are those of the first part. One of LINE_FAULTS for
+        fields of another form; ValueError also if a profile isn't among those of the first state,
+        or if only some states have profiles."""
         if not self.is_first and fields['kind'] != 'pick':
             return
         state = parse_state(fields, self.offsets)
@@ -97,12 +89,13 @@ def parse_operation(fields: Dict[str, Any], offsets: Offsets) -> PlannedMicroOpe
     """The micro-operation of a line of `list --json`, in places and lines of the session. KeyError
     if a field is missing."""
     details = ' '.join(str(fields[key]) for key in DETAILS if key in fields)
+    line = fields['line']
     return PlannedMicroOperation(
         fields['op'] + offsets.operations,
         fields['kind'],
         fields.get('path') or '',
         details,
-        offsets.session_line(fields['line']),
+        offsets.lines[line - 1] if offsets.lines else line,
     )
 
 
