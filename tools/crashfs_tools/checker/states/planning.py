@@ -3,6 +3,7 @@
 from __future__ import annotations
 
 import os
+from dataclasses import dataclass
 from functools import reduce
 from operator import and_
 from typing import Iterable, List, Optional, Sequence, Tuple
@@ -31,16 +32,16 @@ class TooLarge(Refused):
     """A trace that the program takes only in windows."""
 
 
+@dataclass
 class Planner:
-    """Makes plans of traces, by one program, with the states that a check's options ask for. A
-    trace is the path of its file. Each method that runs the program raises Refused for a trace with
-    a fault, and PlanError if these tools don't know what the program prints."""
+    """Makes plans of traces, by one program, with the states that a check's options ask for. The
+    guard has the directory for files of picks, and the program's environment. A trace is the path
+    of its file. Each method that runs the program raises Refused for a trace with a fault, and
+    PlanError if these tools don't know what the program prints."""
 
-    def __init__(self, options: Options, program: Crashfs, guard: Guard) -> None:
-        """The guard has the directory for files of picks, and the program's environment."""
-        self.options = options
-        self.program = program
-        self.guard = guard
+    options: Options
+    program: Crashfs
+    guard: Guard
 
     def plan(self, trace: str, offsets: Offsets = Offsets()) -> PlannedTrace:
         """The plan of a trace at these offsets in its session. It has the families that the options
@@ -129,8 +130,7 @@ class Planner:
             drawn_sets = all_crash_sets.drawn_sets(self.options.draw_count, SEED) or []
         more_sets = self.without_listed(needs, different_sets or drawn_sets)
         picks = list(dict.fromkeys([*family_sets, *more_sets]))
-        parts = divide_picks(picks, self.most_picks(needs), len(needs.masks))
-        planned = self.plan_picks(trace, offsets, parts)
+        planned = self.plan_picks(trace, offsets, self.divide_picks(picks, needs))
         # The plan lists them first, then the picks, of which those of families come first.
         prefixes_and_holes = len(planned.plan.listed) - len(picks)
         all_states = AllStates(
@@ -139,7 +139,7 @@ class Planner:
             are_read=all_crash_sets.are_read,
             most=self.options.most_states,
             families=prefixes_and_holes + len(family_sets),
-            drawn=numbers_of_sets(planned.plan, drawn_sets),
+            drawn=numbers_of_sets(planned.plan, drawn_sets) if drawn_sets else (),
         )
         planned.plan = self.with_profiles(planned.plan, reading_sets, all_states)
         return planned
@@ -163,11 +163,15 @@ class Planner:
             raise Refused(f'--in {wanted}: the profiles of this trace are {known_names}')
         return plan.with_states(plan.listed, all_states, SetProfiles(names, profile_bits, wanted))
 
-    def most_picks(self, needs: Needs) -> int:
-        """How many picks the first part of a plan can have in addition to its prefixes and, without
-        --prefixes, its holes. Below 0 if these are too many already."""
-        holes = 0 if self.options.prefixes else needs.hole_count
-        return limits.STATES - 1 - len(needs.masks) - holes
+    def divide_picks(self, picks: List[int], needs: Needs) -> List[List[int]]:
+        """Divides picks into the parts of a plan whose micro-operations have these needs: each part
+        gets as many as fit next to its prefixes and, in the first part without --prefixes, its
+        holes. The first part may get none."""
+        part_size = limits.STATES - 1 - len(needs.masks)
+        hole_count = 0 if self.options.prefixes else needs.hole_count
+        first_end = max(0, part_size - hole_count)
+        later_begins = range(first_end, len(picks), part_size)
+        return [picks[:first_end], *(picks[begin : begin + part_size] for begin in later_begins)]
 
     def plan_picks(
         self, trace: str, offsets: Offsets, picks_of_parts: Sequence[Sequence[int]]
@@ -216,8 +220,8 @@ class Planner:
 
     def family_sets(self, reading_sets: ReadingSets) -> List[int]:
         """The sets of --lost and --files, if the options ask for them and, if they ask for all
-        crash states, the largest set without each line. Each set is there once; those for which
-        is_always_listed() are left out."""
+        crash states, the largest set without each line. Each set is there once; those that need no
+        pick are left out, as in without_listed()."""
         from crashfs_tools.reading.plan import file_sets
 
         needs = reading_sets.needs
@@ -230,16 +234,12 @@ class Planner:
         return self.without_listed(needs, dict.fromkeys(sets))
 
     def without_listed(self, needs: Needs, sets: Iterable[int]) -> List[int]:
-        """The sets that need a pick, in their order: those for which is_always_listed() is
-        False."""
-        return [members for members in sets if not self.is_always_listed(needs, members)]
-
-    def is_always_listed(self, needs: Needs, members: int) -> bool:
-        """Whether a set needs no pick, because the plan has it as a prefix or hole. With --prefixes
-        or --serve each set needs a pick: a server's picks have all sets of the families."""
+        """The sets that need a pick, in their order: those that aren't the set of a prefix or hole,
+        which the plan has anyway. With --prefixes or --serve each set needs a pick: a server's
+        picks have all sets of the families."""
         if self.options.prefixes or self.options.serve is not None:
-            return False
-        return needs.is_prefix_or_hole(members)
+            return list(sets)
+        return [members for members in sets if not needs.is_prefix_or_hole(members)]
 
     def write_picks(self, trace: str, ending: str, sets: Iterable[int]) -> str:
         """Writes a file of picks, with a line for each set, to the guard's directory, in place of
@@ -302,16 +302,6 @@ def find_sets_of_all_states(
         for name in other_names
         for members in all_crash_sets.different_sets(most_sets, name) or []
     ]
-
-
-def divide_picks(picks: List[int], room: int, operation_count: int) -> List[List[int]]:
-    """Divides picks into the parts of a plan with operation_count micro-operations. The first part
-    gets at most `room` picks, none if `room` is below 0; each other part gets as many as fit next
-    to its prefixes."""
-    part_size = limits.STATES - 1 - operation_count
-    first_end = max(0, room)
-    later_begins = range(first_end, len(picks), part_size)
-    return [picks[:first_end], *(picks[begin : begin + part_size] for begin in later_begins)]
 
 
 def make_parts(plan: Plan, options_of_parts: List[List[str]], pick_counts: List[int]) -> List[Part]:
