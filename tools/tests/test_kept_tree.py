@@ -6,11 +6,12 @@ import subprocess
 import time
 import unittest
 from dataclasses import replace
+from types import SimpleNamespace
 from unittest import mock
 
-from crashfs_tools.checker.states.plan_trees import has_large_trees
 from crashfs_tools.checker.states import kept_tree
 from crashfs_tools.checker.states.kept_tree import KeptTree
+from crashfs_tools.checker.states.plan_trees import PlanTrees
 from crashfs_tools.common.entry import Entry
 from crashfs_tools.common.file_bytes import read_file_bytes
 from crashfs_tools.common.sparse import SparseBytes
@@ -385,7 +386,9 @@ class Checks(InStore):
             (say_of(1_048_575), False),
             (say_of(524_288) + '\n' + say_of(524_288), True),
         ):
-            self.assertEqual(has_large_trees(self.write('much.trace', text)), expected, text[:99])
+            planned = SimpleNamespace(trace=self.write('much.trace', text))
+            trees = PlanTrees(mock.Mock(), planned, mock.Mock(), keeps_all=False)
+            self.assertEqual(trees.are_large, expected, text[:99])
 
     def test_a_small_tree_is_laid_out_whole(self):
         no_changes = self.write(

@@ -7,10 +7,12 @@ import unittest
 from typing import Any, List
 from unittest import mock
 
-from crashfs_tools.checker.states import layout as layouts
-from crashfs_tools.checker.states.layout import Archive, trees_of_small_plan
+from crashfs_tools.checker.states import plan_trees
+from crashfs_tools.checker.states.layout import Archive
 from crashfs_tools.checker.states.plan import PlannedTrace
+from crashfs_tools.checker.states.plan_trees import PlanTrees
 from crashfs_tools.common.command import Refused
+from crashfs_tools.common.guard import Guard
 from crashfs_tools.common.program import BUILT, Crashfs, ProgramFault
 
 from .support import EXAMPLES, FAKE
@@ -71,12 +73,14 @@ class Starts(Listing):
 
 
 class Archived(Listing):
-    def trees(self, planned: PlannedTrace) -> Any:
-        return trees_of_small_plan(Crashfs(FAKE, is_unproved=True), planned, {})
+    def kept_trees(self, planned: PlannedTrace, keeps_all: bool = True) -> Any:
+        program, guard = Crashfs(FAKE, is_unproved=True), Guard('test', may_reap=False)
+        with guard:
+            return PlanTrees(program, planned, guard, keeps_all).kept
 
     def test_each_state_of_a_small_plan_has_its_tree(self) -> None:
         planned = self.planned(STORE)
-        program, trees = Crashfs(FAKE, is_unproved=True), self.trees(planned)
+        program, trees = Crashfs(FAKE, is_unproved=True), self.kept_trees(planned)
         # No program is started for trees that are kept.
         layout = Archive(Crashfs('/none'), planned, self.temporary, {}, trees)
         for state in planned.plan.listed:
@@ -100,14 +104,15 @@ class Archived(Listing):
             ({'MOST_TREES': count - 1, 'MOST_BYTES': 1 << 20}, False),
             ({'MOST_TREES': count, 'MOST_BYTES': 11}, False),
         ):
-            with self.subTest(bounds), mock.patch.multiple(layouts, **bounds):
-                self.assertEqual(self.trees(planned) is not None, is_kept)
+            with self.subTest(bounds), mock.patch.multiple(plan_trees, **bounds):
+                self.assertEqual(len(self.kept_trees(planned)), count if is_kept else 0)
+        self.assertEqual(self.kept_trees(planned, keeps_all=False), {})
 
     def test_a_program_that_leaves_a_state_out_is_named(self) -> None:
         planned = self.planned(STORE)
         planned.parts[0] = planned.parts[0]._replace(end=2)
         with self.assertRaisesRegex(ProgramFault, 'crashfs tar wrote no state 2'):
-            self.trees(planned)
+            self.kept_trees(planned)
 
 
 class OtherNeeds(Listing):

@@ -1,11 +1,11 @@
-"""What states are laid out by, and one way of it: from the archives that `crashfs tar` writes. Of a
-small plan all trees are read from one archive and kept: the program is started once for them."""
+"""What states are laid out by, and one way of it: from the archives that `crashfs tar` writes."""
 
 from __future__ import annotations
 
 import os
 from abc import ABC, abstractmethod
 from contextlib import contextmanager
+from dataclasses import dataclass
 from itertools import chain, groupby
 from typing import (
     Callable,
@@ -14,7 +14,6 @@ from typing import (
     Iterable,
     Iterator,
     List,
-    Optional,
     Set,
     Tuple,
     TypeVar,
@@ -28,14 +27,12 @@ from crashfs_tools.common.removal import FOLDER, remove_tree, set_folder_mode
 from crashfs_tools.common.program import Crashfs, ProgramFault
 from crashfs_tools.common.sparse import SparseBytes
 
-from .plan import Plan, PlannedTrace, Request
+from .plan import PlannedTrace, Request
 from .rewriting import PIECE_BYTES, Bytes, has_bytes
 
 NEW_FILE = os.O_WRONLY | os.O_CREAT | os.O_EXCL | os.O_NOFOLLOW | os.O_CLOEXEC
 # A directory's mode while it is filled.
 FILLED_MODE = 0o700
-# Of more trees, or more bytes of files, each process reads an archive of its own at the same time.
-MOST_TREES, MOST_BYTES = 256, 1 << 24
 
 # What a program's tree is made into while it is read.
 Value = TypeVar('Value')
@@ -59,26 +56,17 @@ class Layout(ABC):
         processes may lay out states at once."""
 
 
+@dataclass
 class Archive(Layout):
-    """Lays states out below a folder, each as a directory whose name is the state's number. kept
-    has trees of the plan that are in memory, maybe none: if it has those of all states that are
-    wanted, the program isn't started."""
+    """Lays states out below a folder, which must exist, each as a directory whose name is the
+    state's number. The environment is that of the program. kept has trees of the plan that are in
+    memory, maybe none: if it has those of all states that are wanted, the program isn't started."""
 
-    def __init__(
-        self,
-        program: Crashfs,
-        planned: PlannedTrace,
-        folder: str,
-        environment: Dict[str, str],
-        kept: TreesByState,
-    ) -> None:
-        """The folder must exist. The environment is that of the program. Nothing is made or started
-        yet."""
-        self.program = program
-        self.planned = planned
-        self.folder = folder
-        self.environment = environment
-        self.kept = kept
+    program: Crashfs
+    planned: PlannedTrace
+    folder: str
+    environment: Dict[str, str]
+    kept: TreesByState
 
     @contextmanager
     def laid_out(self, number: int, directory: str) -> Iterator[None]:
@@ -163,30 +151,6 @@ def with_all_wanted(
         yield number, value
     if missing_numbers:
         raise ProgramFault(0, f'crashfs tar wrote no state {min(missing_numbers)}'.encode())
-
-
-def is_small(plan: Plan) -> bool:
-    """Whether a plan has at most MOST_TREES different trees, so that they may be kept in memory."""
-    return len({state.same for state in plan.listed}) <= MOST_TREES
-
-
-def trees_of_small_plan(
-    program: Crashfs, planned: PlannedTrace, environment: Dict[str, str]
-) -> Optional[TreesByState]:
-    """All trees of a plan, each by the number of the first state that has it. None if they are too
-    many, or have too many bytes, to be kept in memory. ProgramFault if the program lacks one."""
-    if not is_small(planned.plan):
-        return None
-    trees: TreesByState = {}
-    byte_count = 0
-    first_numbers = {state.same for state in planned.plan.listed}
-    numbered_trees = read_trees(program, planned, first_numbers, environment, list_tree)
-    for number, tree in numbered_trees:
-        trees[number] = tree
-        byte_count += sum(len(entry.data or b'') for _, entry in tree)
-        if byte_count > MOST_BYTES:
-            return None
-    return trees
 
 
 def unused_path(path: str) -> str:

@@ -1,7 +1,9 @@
-"""The trees of a plan's states, which the program makes, and those of them that are in memory."""
+"""The trees of a plan's states, which the program makes, and those of them that are in memory. Of a
+small plan all may be read from one archive: the program is started once for them."""
 
 from __future__ import annotations
 
+from dataclasses import dataclass
 from functools import cached_property
 from typing import TYPE_CHECKING, Iterable, Iterator, List, Sequence, Set, Tuple
 
@@ -10,8 +12,8 @@ from crashfs_tools.common.guard import Guard
 from crashfs_tools.common.program import Crashfs
 from crashfs_tools.common.trace_lines import is_large_trace
 
-from .layout import TreesByState, list_tree, read_trees, trees_of_small_plan
-from .plan import PlannedTrace
+from .layout import TreesByState, list_tree, read_trees
+from .plan import Plan, PlannedTrace
 
 if TYPE_CHECKING:
     from crashfs_tools.common.entry import Entries
@@ -19,46 +21,63 @@ if TYPE_CHECKING:
 # Trees are large if a trace has so many start lines, or so many bytes in its lines and in what they
 # make files grow to.
 MUCH_ENTRIES, MUCH_BYTES = 32, 1 << 20
+# Of more trees, or more bytes of files, each process reads an archive of its own at the same time.
+MOST_TREES, MOST_BYTES = 256, 1 << 24
 
 
+@dataclass
 class PlanTrees:
-    """The trees of one plan's states. Those that were needed are kept, unless the trace's trees are
-    large; with keeps_all, all trees of a small plan."""
+    """The trees of one plan's states, which the program makes with the guard's environment. Those
+    that were needed are kept, unless the trace's trees are large; with keeps_all, all trees of a
+    small plan."""
 
-    def __init__(
-        self, program: Crashfs, planned: PlannedTrace, guard: Guard, *, keeps_all: bool
-    ) -> None:
-        """Nothing is read yet. The program gets the guard's environment."""
-        self.program = program
-        self.planned = planned
-        self.guard = guard
-        self.keeps_all = keeps_all
+    program: Crashfs
+    planned: PlannedTrace
+    guard: Guard
+    keeps_all: bool
 
     @cached_property
     def are_large(self) -> bool:
-        """Whether the trace has so many start lines or bytes that its trees aren't kept in memory.
-        Errors as in has_large_trees()."""
-        return has_large_trees(self.planned.trace)
+        """Whether the trace has at least MUCH_ENTRIES start lines, or MUCH_BYTES bytes in its lines
+        and in the sizes that truncates set. Its trees then take longer to lay out than a recovery
+        runs, and aren't kept in memory. OSError if the trace can't be read, TraceError if a line is
+        no JSON."""
+        with open(self.planned.trace, **TEXT) as lines:
+            return is_large_trace(lines, MUCH_ENTRIES, MUCH_BYTES)
 
     @cached_property
     def kept(self) -> TreesByState:
-        """The trees in memory: with keeps_all those of a small plan, which are read now, then also
-        those of keep(). ProgramFault if the program lacks one of a small plan."""
-        if not self.keeps_all or self.are_large:
+        """The trees in memory. With keeps_all they are those of a small plan, which are read now,
+        unless they have more than MOST_BYTES; then also those of keep(). ProgramFault if the
+        program lacks a tree of a small plan; errors as are_large."""
+        plan = self.planned.plan
+        if not self.keeps_all or self.are_large or not is_small(plan):
             return {}
-        return trees_of_small_plan(self.program, self.planned, self.guard.environment) or {}
+        trees: TreesByState = {}
+        byte_count = 0
+        first_numbers = {state.same for state in plan.listed}
+        environment = self.guard.environment
+        numbered_trees = read_trees(
+            self.program, self.planned, first_numbers, environment, list_tree
+        )
+        for number, tree in numbered_trees:
+            trees[number] = tree
+            byte_count += sum(len(entry.data or b'') for _, entry in tree)
+            if byte_count > MOST_BYTES:
+                return {}
+        return trees
 
     def keep(self, numbers: Iterable[int], next_numbers: Iterable[int] = ()) -> None:
         """Adds the trees of the states of these numbers to `kept`, unless the trees are large. If
         one of them must be read, the same run of the program gives those of next_numbers, which are
-        needed next. ProgramFault if the program lacks one: those before it are kept."""
+        needed next. ProgramFault if the program lacks one: those before it are kept. Other errors
+        as in are_large."""
         if self.are_large or self.first_numbers(numbers) <= self.kept.keys():
             return
         missing_numbers = self.first_numbers([*numbers, *next_numbers]) - self.kept.keys()
+        environment = self.guard.environment
         self.kept.update(
-            read_trees(
-                self.program, self.planned, missing_numbers, self.guard.environment, list_tree
-            )
+            read_trees(self.program, self.planned, missing_numbers, environment, list_tree)
         )
 
     def first_numbers(self, numbers: Iterable[int]) -> Set[int]:
@@ -97,9 +116,6 @@ def without_root(tree: Entries) -> Entries:
     return {path: entry for path, entry in tree.items() if path != '/'}
 
 
-def has_large_trees(trace_path: str) -> bool:
-    """Whether a trace has at least MUCH_ENTRIES start lines, or MUCH_BYTES bytes in its lines and
-    in the sizes that truncates set: then its trees take longer to lay out than a recovery runs.
-    OSError if the file can't be read, TraceError if a line is no JSON."""
-    with open(trace_path, **TEXT) as lines:
-        return is_large_trace(lines, MUCH_ENTRIES, MUCH_BYTES)
+def is_small(plan: Plan) -> bool:
+    """Whether a plan has at most MOST_TREES different trees, so that they may be kept in memory."""
+    return len({state.same for state in plan.listed}) <= MOST_TREES

@@ -15,9 +15,9 @@ from crashfs_tools.common.guard import Guard
 from crashfs_tools.common.program import Crashfs, ProgramFault, is_plan_too_large
 
 from .all_sets import AllSets, ReadingSets, all_sets
-from .layout import is_small
 from .place_sets import places_of, size_of
 from .plan import AllStates, Needs, Offsets, Part, Plan, PlannedTrace, SetProfiles, State
+from .plan_trees import is_small
 from .read_plan import read_plan
 
 # Sets are drawn by the same seed each time.
