@@ -89,18 +89,31 @@ class Campaign:
 
     def add_failure(self, seed: int, key: str, failure: Failure) -> None:
         """Counts a failure of the session that was recorded last, which is that of `seed`; to be
-        called once for each of its keys. Keeps this session, cut to the shortest part that fails in
+        called once for each of its keys. Keeps the session, cut to the shortest part that fails in
         the same way, if the failure is new, or if that part has fewer acknowledged lines than the
         kept one: then it prints a line. OSError if its trace can't be read; raises too what
         Shrinking does."""
         shrinking = Shrinking(self.sessions, key, lines_of_trace(self.sessions.trace))
         known_failure = self.book.entries.get(key)
         if known_failure is None:
-            new_failure = KnownFailure(failure, seed, len(self.book.entries) + 1)
-            self.keep_session(new_failure, seed, shrinking, shrinking.shortest_length())
-            self.book.entries[key] = new_failure
-            self.print_progress(f'seed {seed}: new: {failure.cause}')
-            return
+            self.add_new_failure(seed, failure, shrinking)
+        else:
+            self.count_known_failure(seed, failure, known_failure, shrinking)
+
+    def add_new_failure(self, seed: int, failure: Failure, shrinking: Shrinking) -> None:
+        """Adds a failure that the book doesn't have, and keeps its session, cut by `shrinking`.
+        Raises what Shrinking does: then the book doesn't have it."""
+        new_failure = KnownFailure(failure, seed, len(self.book.entries) + 1)
+        self.keep_session(new_failure, seed, shrinking, shrinking.shortest_length())
+        self.book.entries[shrinking.key] = new_failure
+        self.print_progress(f'seed {seed}: new: {failure.cause}')
+
+    def count_known_failure(
+        self, seed: int, failure: Failure, known_failure: KnownFailure, shrinking: Shrinking
+    ) -> None:
+        """Counts one more session of a failure that the book has, and keeps it, cut by `shrinking`,
+        if it is then shorter than the kept one. `failure` is that of this session. Raises what
+        Shrinking does: then the session is counted."""
         known_failure.sessions += 1
         line_count = shrinking.shortest_length(known_failure.most_lines)
         if line_count:
