@@ -22,7 +22,7 @@ def read_stamp(library: Path) -> bytes:
 
 def read_stamps(copy: Path, names: Iterable[str]) -> Dict[str, bytes]:
     """The stamps of the libraries that these crates have in a copy of the repository, as
-    read_stamp() returns them."""
+    read_stamp() returns them; errors as there."""
     return {name: read_stamp(library_folder(copy, name)) for name in names}
 
 

@@ -69,9 +69,9 @@ def move_others_aside(commit: str, folder: Path, crates: Path = CRATES) -> str:
 
 
 def move_back(folder: Path, crates: Path = CRATES) -> None:
-    """Moves the edits that move_others_aside() moved into `folder` back to their crates. Nothing
-    happens if there are none. OSError if something can't be moved, also if a crate has a folder of
-    edits again: then the edits of some crates are moved."""
+    """Moves the edits that move_others_aside() moved into `folder` back to their crates; the empty
+    folders in `folder` stay. Nothing happens if there are no edits. OSError if something can't be
+    moved, also if a crate has a folder of edits again: then the edits of some crates are moved."""
     for aside in sorted(folder.glob(f'*/{EDITS}')):
         edits = crates / aside.parent.name / EDITS
         if edits.exists():

@@ -44,7 +44,7 @@ def row_cells(row: Row) -> Iterator[str]:
     yield states_cell(row)
     yield failing_cell(row)
     yield from (profile_cell(row, profile) for profile in PROFILES)
-    yield from (disk_cell(row, file_system) for file_system in DISKS)
+    yield from (disk_cell(row, filesystem) for filesystem in DISKS)
 
 
 def states_cell(row: Row) -> str:
@@ -74,11 +74,11 @@ def profile_cell(row: Row, profile: str) -> str:
     return f'{row["profiles"].get(profile, 0):,}' if row['failing'] else ''
 
 
-def disk_cell(row: Row, file_system: str) -> str:
+def disk_cell(row: Row, filesystem: str) -> str:
     """In how many of the different trees on disks of a file system the recovery fails, or `none`;
     in brackets how many of the failing trees are outside the model, if any are. Empty if the
     session wasn't tried on this file system."""
-    counts = row['disks'].get(file_system)
+    counts = row['disks'].get(filesystem)
     if counts is None:
         return ''
     text = f'{counts["failing"]:,} of {counts["trees"]:,}' if counts['failing'] else 'none'

@@ -119,7 +119,8 @@ def case_areas() -> List[str]:
 
 def cases_in(area: str) -> List[DescribedTest]:
     """The tests of a folder of CASES, sorted by file. The sentence of a test is the text before the
-    first section of its file, as one line. Empty if there is no such folder."""
+    first section of its file, as one line. Empty if there is no such folder. OSError if a file
+    can't be read."""
     cases: List[DescribedTest] = []
     for path in sorted((CASES / area).glob('*.case')):
         text = path.read_text(encoding='utf-8').partition('\n== ')[0]
@@ -147,7 +148,7 @@ def words_in(path: Path, file: str) -> List[Word]:
 
 def words_of(crate: str) -> List[Word]:
     """The public words of a crate's `specs/`, sorted by file, and in the order of each file. Empty
-    if the crate has no such folder."""
+    if the crate has no such folder; errors as words_in()."""
     folder = CRATES / crate / 'specs'
     return [
         word

@@ -130,7 +130,7 @@ def lines_of_tools() -> Iterator[Line]:
 
 def lines_of_crates() -> Iterator[Line]:
     """The lines of all texts of the crates' files that may_print() accepts; comment lines aren't
-    read."""
+    read. UnicodeDecodeError if a file isn't UTF-8."""
     for path in sorted(filter(may_print, CRATES.glob('*/src/**/*.rt'))):
         yield from lines_of_texts(path, texts_in_rattle(path.read_text('utf-8')))
 

@@ -77,8 +77,8 @@ class Client:
         return self.wait_for_reply()
 
     def ask_all(self, requests: List[bytes]) -> int:
-        """Sends all requests before it waits for their replies, and returns how many were granted,
-        as an Rerror raises nothing here. The requests must fit the buffers of both ends, since the
+        """Sends all requests before it waits for their replies, and returns how many were granted:
+        an Rerror raises nothing here. The requests must fit the buffers of both ends, since the
         server may wait until its replies are read. OSError if the connection ends."""
         self.stream.sendall(b''.join(requests))
         granted_count = 0

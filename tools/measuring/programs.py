@@ -63,11 +63,11 @@ class Tally:
         self.not_built.append(name)
         print(f'== {name}: not built: {", ".join(programs)}', flush=True)
 
-    def add_failure(self, why: str) -> None:
+    def add_failure(self, reason: str) -> None:
         """Prints that the benchmark of the last begin_benchmark() has failed, and why.
         print_summary() then returns 1, and names a benchmark once for each of its failures."""
         self.failed.append(self.benchmark)
-        print(f'{self.benchmark} failed: {why}', flush=True)
+        print(f'{self.benchmark} failed: {reason}', flush=True)
 
     def add_line(self, line: str) -> None:
         """Prints a line. If it is a row that says `within` or `past` of its bound, in the form of

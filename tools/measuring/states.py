@@ -51,12 +51,12 @@ class TimedCommand(NamedTuple):
 def time_command(words: List[str], environment: Optional[Dict[str, str]] = None) -> TimedCommand:
     """Runs a command to its end, however long it takes, in this environment, or in that of this
     process if it is None. OSError if the command can't be started, or if its status isn't 0."""
-    began = time.monotonic()
+    start_time = time.monotonic()
     with subprocess.Popen(
         words, stdout=subprocess.PIPE, stdin=subprocess.DEVNULL, text=True, env=environment
     ) as child:
         output, usage = read_to_end(child)
-    wall_seconds = time.monotonic() - began
+    wall_seconds = time.monotonic() - start_time
     if child.returncode != 0:
         raise OSError(f'{words[0]} ended with status {child.returncode}: {output[-200:]}')
     return TimedCommand(output, usage.processor_seconds, wall_seconds)

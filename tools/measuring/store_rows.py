@@ -9,6 +9,7 @@ from pathlib import Path
 from typing import Any, Dict, Iterator, List
 from typing import Counter as Counts
 
+from crashfs_tools.checker.findings.sightings import OUTSIDE
 from crashfs_tools.checker.report.counts import set_count_of_windows
 from crashfs_tools.checker.running.read_results import read_json
 from crashfs_tools.checker.running.results import Results
@@ -114,7 +115,7 @@ def disk_counts(report: Dict[str, Any]) -> Dict[str, Any]:
         return {}
     outside: Counts[str] = Counter()
     for disk in disks['further']:
-        if disk['where'] == 'outside the model':
+        if disk['where'] == OUTSIDE:
             outside.update(disk['crashes'].keys())
     return {
         name: {'trees': counts['different'], 'failing': counts['failing'], 'outside': outside[name]}

@@ -104,8 +104,10 @@ def installed_version(package: str) -> str:
     `1.23+dfsg1-4`. If the package is installed for several architectures, the first version that
     dpkg-query prints. Empty if it isn't installed; OSError if there is no dpkg-query."""
     words = ['dpkg-query', '-W', '-f', '${Status} ${Version}\n', package]
-    process = subprocess.run(words, stdout=subprocess.PIPE, stderr=subprocess.DEVNULL, check=False)
-    for line in process.stdout.decode().splitlines():
+    completed = subprocess.run(
+        words, stdout=subprocess.PIPE, stderr=subprocess.DEVNULL, check=False
+    )
+    for line in completed.stdout.decode().splitlines():
         status, _, version = line.rpartition(' ')
         if status == 'install ok installed':
             return re.split('[-+]', version.rpartition(':')[2])[0]
@@ -124,10 +126,11 @@ class SessionCheck:
         self.report_path = folder / 'report.json'
 
     def make_row(self) -> Dict[str, Any]:
-        """Makes the session's trace, checks it, and returns the session's row, with the version of
-        the store's package. Waits for the scripts without limit, and ignores their status. NoResult
-        if a package is missing, or if no trace or no report is made. OSError if dpkg-query or a
-        script isn't there; errors as row_of_check()."""
+        """Builds the store's program, makes the session's trace, checks it, and returns the
+        session's row, with the version of the store's package. The program stays with the scripts.
+        Waits for the scripts without limit, and ignores their status. NoResult if a package is
+        missing, or if no trace or no report is made. OSError if dpkg-query or a script isn't there;
+        errors as row_of_check()."""
         missing = self.session.missing_packages()
         if missing:
             raise NoResult(f'not installed: {", ".join(missing)}')
@@ -192,8 +195,8 @@ def run_command(words: List[str]) -> str:
     """Runs a command to its end, however long it takes, and returns what it printed on standard
     output. Its status is ignored: callers look for the files that it makes. OSError if it can't be
     started."""
-    process = subprocess.run(words, stdin=subprocess.DEVNULL, stdout=subprocess.PIPE, check=False)
-    return process.stdout.decode('utf-8', 'replace')
+    completed = subprocess.run(words, stdin=subprocess.DEVNULL, stdout=subprocess.PIPE, check=False)
+    return completed.stdout.decode('utf-8', 'replace')
 
 
 def make_and_save_row(session: Session, options: argparse.Namespace) -> bool:

@@ -68,7 +68,8 @@ def alternative_text(needs: List[Need], last_line: int, rename: int) -> str:
     for need in needs:
         texts_by_place.setdefault(need.later, []).append(f'{need.earlier} ({need.rule})')
     texts = '; '.join(
-        f'{later} needs {" and ".join(names)}' for later, names in texts_by_place.items()
+        f'{later} needs {" and ".join(earlier_texts)}'
+        for later, earlier_texts in texts_by_place.items()
     )
     return (
         'Arrows from each micro-operation to those that it needs, without what follows from '

@@ -45,8 +45,8 @@ def runs_of(row: str, sign: str) -> List[range]:
 
 def draw_states(picture: Picture, rows: List[str], y: float) -> None:
     """Adds the states of rows that begin at the height y: for each sign of RESULTS a path, whose
-    dashes are the states with the sign. States with other signs, which weren't tried, aren't drawn.
-    Doesn't change the picture's y."""
+    dashes are the states with the sign. States with other signs, which weren't tried or gave no
+    answer, aren't drawn. Doesn't change the picture's y."""
     for sign, (colour, _) in RESULTS.items():
         picture.add(path_element(path_steps(rows, sign, y), f'cells {colour}'))
 

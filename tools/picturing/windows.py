@@ -68,7 +68,7 @@ def window_of(planned: PlannedTrace) -> Window:
 
 def plan_windows() -> List[Window]:
     """The windows into which a check divides the session of session_text(), in their order. No
-    state is tried, and no file is left. All children of this process are ended."""
+    state is tried, and no file is left. This process stays a reaper, as after each Guard."""
     with tempfile.TemporaryDirectory() as folder, Guard('crashfs-picture') as guard:
         trace = Path(folder, 'session.trace')
         trace.write_text(session_text(), 'utf-8')

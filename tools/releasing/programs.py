@@ -17,8 +17,8 @@ def output_of(*words: str) -> str:
 
 
 def commit_of_tree() -> str:
-    """The commit that is checked out, with `-dirty` if a file that git tracks differs from it; new
-    files don't count. Errors as output_of()."""
+    """The commit that is checked out, with `-dirty` if a file that git tracks differs from it;
+    untracked files don't count. Errors as output_of()."""
     is_dirty = bool(output_of('git', 'status', '--porcelain', '-uno'))
     return output_of('git', 'rev-parse', 'HEAD') + ('-dirty' if is_dirty else '')
 

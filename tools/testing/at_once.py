@@ -51,7 +51,7 @@ class Progress:
             self.done.add(name)
 
     def text(self) -> str:
-        """The line: how many parts are done, how many seconds after they began, and which are
+        """The line: how many parts are done, how many seconds ago the parts began, and which are
         running, in alphabetical order."""
         running = ', '.join(sorted(self.running))
         seconds = time.monotonic() - self.start_time
