@@ -10,7 +10,7 @@ from typing import Dict, List, Tuple
 from crashfs_tools.reading import StatePlan, ReadingFault, Reading, make_plan, parse_trace
 from crashfs_tools.reading.classes import SetClasses
 from crashfs_tools.reading.every import count_sets, drawn_sets, every_set
-from crashfs_tools.reading.order import Order
+from crashfs_tools.reading.order import Order, order_under
 from crashfs_tools.reading.place_sets import places_of
 
 from .random_traces import RandomTrace
@@ -142,7 +142,7 @@ class Rows(unittest.TestCase):
         self.assertEqual(
             list(map(text_of, every_set(Order(reading)))), ['[]', '[1]', '[0]', '[0,1]']
         )
-        both = Order(reading).restricted_to(reading, 'ordered')
+        both = order_under(reading, 'ordered')
         self.assertEqual(list(map(text_of, every_set(both))), ['[]', '[0]', '[0,1]'])
 
     def test_what_one_of_two_profiles_makes_durable_is_not_pending(self) -> None:
@@ -150,8 +150,7 @@ class Rows(unittest.TestCase):
         sync = '{"op":"fsync","path":"/b"}'
         header = HEADERS['blocks'].replace('"trace":3', '"trace":4')
         reading = reading_of([header, creat('/a'), creat('/b'), sync, creat('/c')])
-        blocks, both = Order(reading), Order(reading).restricted_to(reading, 'journal')
-        self.assertEqual(both.profile, 'journal')
+        blocks, both = Order(reading), order_under(reading, 'journal')
         self.assertEqual((blocks.pending_set(2), both.pending_set(2)), (0b11, 0))
         self.assertEqual((blocks.pending_set(3), both.pending_set(3)), (0b111, 0b100))
 

@@ -23,7 +23,7 @@ from crashfs_tools.reading.micro import (
     WriteBlock,
 )
 from crashfs_tools.reading.names import DIRECTORY, Inode
-from crashfs_tools.reading.order import Order, Profiles, order_under, profile_names
+from crashfs_tools.reading.order import Order, order_under, profile_names
 from crashfs_tools.reading.place_sets import places_of
 from crashfs_tools.reading.states import States
 
@@ -75,6 +75,7 @@ class Rules(unittest.TestCase):
                     self.assertEqual(Order(reading, profile).needs, list(chains(reading, profile)))
 
     def test_a_profile_allows_what_a_stricter_one_does_and_all_allow_prefixes(self) -> None:
+        half_renames = 0
         for _, reading in readings(4):
             blocks, ordered, journal = (
                 Order(reading, name) for name in ('blocks', 'ordered', 'journal')
@@ -82,16 +83,21 @@ class Rules(unittest.TestCase):
             for one, two, three in zip(blocks.needs, ordered.needs, journal.needs):
                 self.assertEqual((one & ~two, two & ~three), (0, 0))
             for count in range(journal.count + 1):
-                self.assertTrue(journal.is_allowed((1 << count) - 1))
+                prefix = (1 << count) - 1
+                is_half = count > 0 and reading.operations[count - 1].rename_half == 1
+                self.assertTrue(blocks.is_allowed(prefix))
+                self.assertEqual(journal.is_allowed(prefix), not is_half)
+                half_renames += is_half
+        self.assertGreater(half_renames, 20)
 
     def test_sets_of_a_profile_are_those_that_it_may_leave(self) -> None:
         halves = 0
         for reading, members in small_ones():
-            profiles = Profiles(reading)
             for name in ('blocks', 'ordered', 'journal'):
-                wanted = [one for one in members if name in profiles.names_allowing(one)]
                 order = order_under(reading, name)
+                wanted = list(filter(Order(reading, name).is_allowed, members))
                 self.assertEqual(list(every_set(order)), wanted)
+                self.assertEqual(list(filter(order.is_allowed, members)), wanted)
                 self.assertEqual(count_sets(order), len(wanted))
                 halves += len(order.units)
         self.assertGreater(halves, 20)

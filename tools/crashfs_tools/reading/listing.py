@@ -7,7 +7,7 @@ from itertools import chain, repeat
 from typing import Any, Dict, Iterator
 
 from .micro import MicroOperation
-from .order import Profiles
+from .order import Order, profile_names
 from .place_sets import places_of
 from .plan import StatePlan
 from .states import Digest
@@ -67,16 +67,16 @@ def operation_objects(plan: StatePlan) -> Iterator[Dict[str, Any]]:
 
 
 def state_objects(plan: StatePlan) -> Iterator[Dict[str, Any]]:
-    """The fields of each state in `list --json`, with the profiles that allow its set, and the
-    first state that has an equal tree."""
-    profiles = Profiles(plan.reading)
+    """The fields of each state in `list --json`, with the first state that has an equal tree, and
+    the profiles that allow its set, each by its own rules."""
+    orders = {name: Order(plan.reading, name) for name in profile_names(plan.reading)}
     for number, (state, first_number) in enumerate(zip(plan.states, first_equal_states(plan))):
         yield {
             'state': number,
             **state.fields,
             'says': plan.trees.count_says(state.place_set),
             'same': first_number,
-            'profiles': profiles.names_allowing(state.place_set),
+            'profiles': [name for name in orders if orders[name].is_allowed(state.place_set)],
         }
 
 

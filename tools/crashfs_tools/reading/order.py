@@ -5,7 +5,7 @@ from __future__ import annotations
 from copy import copy
 from itertools import accumulate
 from operator import or_
-from typing import Dict, Iterator, List, Optional, Tuple
+from typing import Dict, Iterator, List, Tuple
 
 from .faults import ReadingFault
 from .lines import PROFILES, PROFILES_SINCE
@@ -19,7 +19,7 @@ from .micro import (
     WriteBlock,
 )
 from .names import DIRECTORY
-from .place_sets import gaps_in, places_of, set_of, sets_by_key, union_of
+from .place_sets import places_of, set_of, sets_by_key, union_of
 from .syncs import SyncPoint
 from .trace import Reading
 
@@ -81,32 +81,41 @@ def required_marks(operation: MicroOperation, reading: Reading, profile: str) ->
 
 
 class Order:
-    """Which sets of places a profile allows, by default the trace's own profile. Whether the
+    """Which sets of places a profile allows by its own rules, by default the trace's own profile.
+    But the trace's own profile always decides whether a rename is two micro-operations. Whether the
     trace's version has the profile isn't checked: see order_under(). Sets are numbers, as in
     place_sets."""
 
-    def __init__(self, reading: Reading, profile: Optional[str] = None) -> None:
+    def __init__(self, reading: Reading, profile: str = '') -> None:
         """Computes what each place needs."""
+        profile = profile or reading.profile
         self.count = len(reading.operations)
-        self.profile = profile or reading.profile
+        # The set of all places.
+        self.all_places = (1 << self.count) - 1
         # For each place, and for the end, what sync points before it cover, and what they wrote to
         # a log.
         self.synced_sets = compute_synced_sets(reading.operations, reading.syncs)
-        self.logged_sets = compute_logged_sets(reading, self.profile)
+        self.logged_sets = compute_logged_sets(reading, profile)
         # For each place what it needs, by any chain, and what needs it.
-        self.needs = self.compute_needs(reading)
+        self.needs = self.compute_needs(reading, profile)
         self.needed_by = inverse_sets(self.needs)
-        # By their first places, sets of several places that an allowed set has as a whole or not at
-        # all. Only restricted_to() adds them.
-        self.units: Dict[int, int] = {}
+        # By their first places, the sets of both halves of a rename, which an allowed set has as a
+        # whole or not at all. Only `blocks` allows a rename that is half done. The second half is
+        # always at the next place.
+        self.units = {
+            place: 0b11 << place
+            for place, operation in enumerate(reading.operations)
+            if operation.rename_half == 1 and profile != 'blocks'
+        }
 
-    def compute_needs(self, reading: Reading) -> List[int]:
-        """For each place the set of those that its micro-operation needs, by all rules and by any
-        chain, without the place itself. synced_sets and logged_sets must be computed before."""
+    def compute_needs(self, reading: Reading, profile: str) -> List[int]:
+        """For each place the set of those that its micro-operation needs, by all rules of a profile
+        and by any chain, without the place itself. synced_sets and logged_sets must be computed
+        before."""
         needs: List[int] = []
         providers: Dict[Mark, int] = {}
         for place, operation in enumerate(reading.operations):
-            required = required_marks(operation, reading, self.profile)
+            required = required_marks(operation, reading, profile)
             direct_needs = union_of(providers.get(mark, 0) for mark in required)
             direct_needs |= self.synced_sets[place] | self.logged_sets[place]  # P5, P11
             if operation.rename_half == 2:
@@ -117,11 +126,6 @@ class Order:
             provided = provided_marks(operation)
             providers.update({mark: providers.get(mark, 0) | 1 << place for mark in provided})
         return needs
-
-    @property
-    def all_places(self) -> int:
-        """The set of all places."""
-        return (1 << self.count) - 1
 
     def pending_set(self, count: int) -> int:
         """Of the first `count` micro-operations the set of those that no sync point among or right
@@ -141,9 +145,9 @@ class Order:
         return self.units.get(lowest_bit.bit_length() - 1, lowest_bit)
 
     def intersected_with(self, other: Order) -> Order:
-        """The order, with this order's profile, that allows a set exactly if this one and another
-        do. Both must be of the same micro-operations. A sync that makes something durable in one of
-        them makes it durable in the new order."""
+        """The order that allows a set exactly if this one and another do. Both must be of the same
+        micro-operations. A sync that makes something durable in one of them makes it durable in the
+        new order."""
         new_order = copy(self)
         new_order.needs, new_order.units = [], {**self.units, **other.units}
         new_order.synced_sets = list(map(or_, self.synced_sets, other.synced_sets))
@@ -156,17 +160,6 @@ class Order:
                 needs | union_of(new_order.needs[needed] for needed in places_of(needs))
             )
         new_order.needed_by = inverse_sets(new_order.needs)
-        return new_order
-
-    def restricted_to(self, reading: Reading, profile: str) -> Order:
-        """The order, with this profile, that allows a set if this order does and a file system of
-        the profile may leave the set. Except with `blocks`, both halves of a rename are one unit.
-        `reading` must be that of this order."""
-        other = Order(reading, profile)
-        if profile != 'blocks':
-            other.units = {place: 0b11 << place for place in first_halves(reading.operations)}
-        new_order = self.intersected_with(other)
-        new_order.profile = profile
         return new_order
 
     def with_earlier_lines(self, reading: Reading) -> Order:
@@ -182,9 +175,12 @@ class Order:
         return self.intersected_with(line_order)
 
     def is_allowed(self, place_set: int) -> bool:
-        """Whether a set has all that its members need. All its places must be those of the trace.
-        That it has each unit as a whole, or not at all, isn't checked."""
-        return not any(self.needed_by[gap] & place_set for gap in places_of(gaps_in(place_set)))
+        """Whether a set has all that its members need, and each unit as a whole or not at all. All
+        its places must be those of the trace."""
+        gaps = (1 << place_set.bit_length()) - 1 & ~place_set
+        return all(place_set & unit in (0, unit) for unit in self.units.values()) and not any(
+            self.needed_by[gap] & place_set for gap in places_of(gaps)
+        )
 
     def set_without(self, place_set: int, lost: int) -> int:
         """A set without the places of the set `lost`, and without all that need one of these."""
@@ -227,11 +223,6 @@ def compute_logged_sets(reading: Reading, profile: str) -> List[int]:
     return list(accumulate(logged_sets, or_))
 
 
-def first_halves(operations: List[MicroOperation]) -> List[int]:
-    """The places of the first halves of renames. The second half is always at the next place."""
-    return [place for place, operation in enumerate(operations) if operation.rename_half == 1]
-
-
 def profile_names(reading: Reading) -> List[str]:
     """The names of the profiles that a trace of this version may have, from the one that allows the
     most to the one that allows the least."""
@@ -240,32 +231,8 @@ def profile_names(reading: Reading) -> List[str]:
 
 def order_under(reading: Reading, profile: str) -> Order:
     """The order that allows a set exactly if the trace's own order does and a file system of the
-    profile may leave the set. That renames are whole is known to walks by unit_at(), not to
-    is_allowed(). ReadingFault if traces of this version can't have the profile."""
+    profile may leave the set. ReadingFault if traces of this version can't have the profile."""
     if profile not in profile_names(reading):
         raise ReadingFault('no such profile')
     order = Order(reading)
-    return order if profile == order.profile else order.restricted_to(reading, profile)
-
-
-class Profiles:
-    """Which profiles allow a set of a trace, each only by its own rules: unlike in order_under(),
-    the rules of the trace's own profile aren't added. But the trace's own profile decides whether a
-    rename is two micro-operations."""
-
-    def __init__(self, reading: Reading) -> None:
-        """Computes the order of each profile that the trace's version has."""
-        self.orders: Dict[str, Order] = {
-            name: Order(reading, name) for name in profile_names(reading)
-        }
-        self.first_halves = first_halves(reading.operations)
-
-    def names_allowing(self, place_set: int) -> List[str]:
-        """The names of the profiles whose rules allow a set, in the order of profile_names(); empty
-        if none does. Only `blocks` allows a rename that is half done."""
-        has_half = any(place_set >> place & 0b11 == 0b01 for place in self.first_halves)
-        return [
-            name
-            for name, order in self.orders.items()
-            if order.is_allowed(place_set) and not (has_half and name != 'blocks')
-        ]
+    return order if profile == reading.profile else order.intersected_with(Order(reading, profile))

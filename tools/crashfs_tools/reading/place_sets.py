@@ -35,8 +35,3 @@ def places_of(place_set: int) -> Iterator[int]:
         lowest_bit = place_set & -place_set
         yield lowest_bit.bit_length() - 1
         place_set ^= lowest_bit
-
-
-def gaps_in(place_set: int) -> int:
-    """The set of the places that a set lacks below its last one; 0 for the empty set."""
-    return (1 << place_set.bit_length()) - 1 & ~place_set

@@ -32,7 +32,7 @@ from .plan import Needs, PlanError
 
 if TYPE_CHECKING:
     from crashfs_tools.reading import Reading
-    from crashfs_tools.reading.order import Order, Profiles
+    from crashfs_tools.reading.order import Order
     from crashfs_tools.reading.states import States
 
 # What the program says if there are too many sets.
@@ -252,17 +252,21 @@ class ReadingSets:
         return tuple(profile_names(self.reading))
 
     @cached_property
-    def profiles(self) -> Profiles:
-        """The object by which the second reading finds the profiles that allow a set."""
-        from crashfs_tools.reading.order import Profiles
+    def orders_by_profile(self) -> Dict[str, Order]:
+        """The order of each of profile_names. Each has only its own rules: unlike in order(), those
+        of the trace's own profile aren't added."""
+        from crashfs_tools.reading.order import Order
 
-        return Profiles(self.reading)
+        return {name: Order(self.reading, name) for name in self.profile_names}
 
     def profile_bits(self, sets: Iterable[int]) -> List[int]:
         """For each set, in their order, the profiles that allow it, as bits: bit k is that of
         profile_names[k]."""
-        place_of = self.profile_names.index
-        return [set_of(map(place_of, self.profiles.names_allowing(members))) for members in sets]
+        orders = list(enumerate(self.orders_by_profile.values()))
+        return [
+            set_of(place for place, order in orders if order.is_allowed(members))
+            for members in sets
+        ]
 
     def order(self, profile: str = '') -> Order:
         """The order that allows what a file system of the profile with this name may leave of the
