@@ -145,7 +145,8 @@ class PlainRules:
                 return False
             if isinstance(one, WriteBlock):
                 return (
-                    sync.offset <= one.file_offset and one.file_offset + len(one.data) <= sync.end
+                    sync.offset <= one.file_offset
+                    and one.file_offset + len(one.data) <= sync.offset + sync.length
                 )
             return isinstance(one, ChangeSize)
         if isinstance(sync, DataSync):

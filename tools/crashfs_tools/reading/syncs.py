@@ -3,20 +3,19 @@ has one."""
 
 from __future__ import annotations
 
+from dataclasses import dataclass
 from typing import List
 
 from .micro import ChangeSize, CreateEntry, MicroOperation, SetFileRights, WriteBlock
 from .names import DIRECTORY, Inode
 
 
+@dataclass
 class SyncPoint:
     """A sync of everything, which comes before the micro-operation at `place`, and after those at
-    lower places. A sync point of one file or directory is of a subclass, and has the `number` of
-    the file or directory; it is -1 here."""
+    lower places. A sync point of one file or directory is of a subclass, and has its number."""
 
-    def __init__(self, place: int, number: int = -1) -> None:
-        self.place = place
-        self.number = number
+    place: int
 
     def covers(self, operation: MicroOperation) -> bool:
         """Whether the sync makes a micro-operation durable, which must come before the sync: the
@@ -29,8 +28,11 @@ class SyncPoint:
         return True
 
 
+@dataclass
 class FileSync(SyncPoint):
     """An fsync of a file, by its number."""
+
+    number: int
 
     def covers(self, operation: MicroOperation) -> bool:
         """See SyncPoint.covers: true for a change of the file's size, bytes or rights, false for a
@@ -67,15 +69,14 @@ class DataSync(FileSync):
         )
 
 
+@dataclass
 class RangeSync(DataSync):
-    """A sync of a part of a file, by the file's number, an offset and a length: of the file's
-    sizes, and of writes all of whose bytes are in the part. A part of length 0 covers sizes
+    """A sync of a part of a file, by the file's number, the part's offset and its length: of the
+    file's sizes, and of writes all of whose bytes are in the part. A part of length 0 covers sizes
     only."""
 
-    def __init__(self, place: int, number: int, offset: int, length: int) -> None:
-        super().__init__(place, number)
-        self.offset = offset
-        self.end = offset + length
+    offset: int
+    length: int
 
     def covers(self, operation: MicroOperation) -> bool:
         """See SyncPoint.covers: true for a change of the file's size, and for a write whose bytes
@@ -83,14 +84,17 @@ class RangeSync(DataSync):
         if not super().covers(operation):
             return False
         if isinstance(operation, WriteBlock):
-            end = operation.file_offset + len(operation.data)
-            return self.offset <= operation.file_offset and end <= self.end
+            begin, end = operation.file_offset, operation.file_offset + len(operation.data)
+            return self.offset <= begin and end <= self.offset + self.length
         return True
 
 
+@dataclass
 class DirectorySync(SyncPoint):
     """An fsync of a directory, by its number: of its rights, and of all changes of entries in it.
     An fsync of either directory covers a move between the two."""
+
+    number: int
 
     def covers(self, operation: MicroOperation) -> bool:
         """See SyncPoint.covers: true for a change of the directory's rights or of an entry in the
