@@ -7,16 +7,16 @@ can still get one; bytes past a file's size count as long as a later size can sh
 
 from __future__ import annotations
 
-from functools import cached_property
+from functools import reduce
+from itertools import chain
 from typing import Dict, FrozenSet, Iterator, List, NamedTuple, Optional, Set, Tuple, Union
 
-from .contents import Contents
-from .id_table import IdTable
+from .contents import Contents, IdTable
 from .micro import Acknowledgement, ChangeSize, LinkEntry, MicroOperation, Rights
 from .names import DIRECTORY, Entry, Inode
 from .order import Order
 from .place_sets import places_of, sets_by_key
-from .tables import change_entries, change_rights, reachable_paths
+from .states import change_entries, change_rights, reachable_paths
 from .trace import Reading
 
 # What a set changes of the start tree: what an entry holds then, or None if nothing, and the rights
@@ -101,7 +101,8 @@ class SetClasses:
                 continue
             lowest_bit = future & -future
             unit = self.order.unit_at(lowest_bit)
-            waiting.append((place_set | unit, future & ~unit, self.after_unit(result, unit)))
+            result_with_unit = reduce(self.after_operation, places_of(unit), result)
+            waiting.append((place_set | unit, future & ~unit, result_with_unit))
             waiting.append((place_set, self.order.future_without(future, lowest_bit), result))
 
     def shown_result(self, result: SetResult, future: int) -> SetResult:
@@ -117,14 +118,6 @@ class SetClasses:
                 if content_id != self.start_ids[file_number]:
                     shown_contents.append((file_number, content_id))
         return result._replace(file_contents=tuple(shown_contents))
-
-    def after_unit(self, result: SetResult, unit: int) -> SetResult:
-        """What a set leaves together with the micro-operations at the places of `unit`, which must
-        come after all places of the set; `result` is what the set leaves by itself. KeyError as
-        after_operation()."""
-        for place in places_of(unit):
-            result = self.after_operation(result, place)
-        return result
 
     def after_operation(self, result: SetResult, place: int) -> SetResult:
         """What a set leaves together with the micro-operation at `place`, which must come after all
@@ -218,14 +211,9 @@ class SetClasses:
         items = {}
         for path, node in nodes.items():
             item = self.shown_item(node, changes, contents)
-            if item != self.shown_item(self.start_paths.get(path), {}, {}):
+            if item != self.shown_item(self.reading.start_paths.get(path), {}, {}):
                 items[path] = item
         return frozenset(items.items())
-
-    @cached_property
-    def start_paths(self) -> Dict[str, Inode]:
-        """What is at each path of the start tree, the root among them."""
-        return dict(reachable_paths(self.reading.start.items()))
 
     def has_moved_directory(self, changes: NameChanges) -> bool:
         """Whether name changes have a directory at an entry whose path isn't the directory's
@@ -240,24 +228,21 @@ class SetClasses:
         """What is at each path of a changed entry, file or directory; None if nothing is. No
         directory may be moved: see has_moved_directory()."""
         changes = self.changes.values[result.changes_id]
-        directory_paths = self.reading.unmoved_paths
-        directories = [key for key in changes if isinstance(key, int)]
         nodes: Dict[str, Optional[Inode]] = {
-            directory_paths[number] or '/': Inode(DIRECTORY, number) for number in directories
+            self.reading.unmoved_paths[number] or '/': Inode(DIRECTORY, number)
+            for number in changes
+            if isinstance(number, int)
         }
-        for entry in self.changed_entries(result):
+        changed_entries = (key for key in changes if isinstance(key, tuple))
+        entries_of_files = (
+            self.entries_of(result.changes_id, file_number)
+            for file_number, _ in result.file_contents
+        )
+        for entry in chain(changed_entries, *entries_of_files):
             path = self.reading.unmoved_path(entry)
             # A directory that is gone and one that is made again may have the same paths.
             nodes[path] = self.node_at_entry(changes, entry) or nodes.get(path)
         return nodes
-
-    def changed_entries(self, result: SetResult) -> Iterator[Entry]:
-        """The entries that a result's name changes have, then those that hold a changed file. One
-        may come twice."""
-        changes = self.changes.values[result.changes_id]
-        yield from (key for key in changes if isinstance(key, tuple))
-        for file_number, _ in result.file_contents:
-            yield from self.entries_of(result.changes_id, file_number)
 
     def all_nodes(self, changes: NameChanges) -> Dict[str, Optional[Inode]]:
         """What is at each path after name changes, also of moved directories, and None at each path
@@ -266,7 +251,7 @@ class SetClasses:
         keys = dict.fromkeys((*self.reading.start, *changes))
         nodes = ((key, self.node_at_entry(changes, key)) for key in keys if isinstance(key, tuple))
         held_nodes = ((entry, node) for entry, node in nodes if node is not None)
-        return {**dict.fromkeys(self.start_paths), **dict(reachable_paths(held_nodes))}
+        return {**dict.fromkeys(self.reading.start_paths), **dict(reachable_paths(held_nodes))}
 
     def shown_item(
         self, node: Optional[Inode], changes: NameChanges, contents: Dict[int, int]

@@ -2,17 +2,38 @@
 
 from __future__ import annotations
 
-from typing import Dict, NamedTuple, Tuple
+from dataclasses import dataclass, field
+from functools import lru_cache
+from typing import Callable, Dict, Generic, Hashable, List, NamedTuple, Tuple, TypeVar
 
 from .data import overwritten_block
-from .id_table import IdTable
-from .micro import ChangeSize, MicroOperation, Rights, SetFileRights, WriteBlock
+from .micro import ChangeSize, Rights, SetFileRights, WriteBlock
 from .trace import Reading
 
+Value = TypeVar('Value')
 # The id of a block of zeros, which no content has.
 ZEROS = 0
 # The blocks of a content that aren't zero, ascending: the number of each, and its id.
 BlockIds = Tuple[Tuple[int, int], ...]
+
+
+@dataclass
+class IdTable(Generic[Value]):
+    """Different values, each with an id, which is its index in `values`; at first none. `key`
+    returns what is equal exactly for equal values, and can be hashed. No value is dropped."""
+
+    key: Callable[[Value], Hashable]
+    values: List[Value] = field(default_factory=list, init=False)
+    _ids: Dict[Hashable, int] = field(default_factory=dict, init=False)
+
+    def id_of(self, value: Value) -> int:
+        """The id of a value: a new one, unless an equal value has one. A value with a new id is
+        kept, not copied, and must not be changed afterwards."""
+        key = self.key(value)
+        if key not in self._ids:
+            self._ids[key] = len(self.values)
+            self.values.append(value)
+        return self._ids[key]
 
 
 class Content(NamedTuple):
@@ -36,42 +57,35 @@ class Contents:
         self.contents: IdTable[Content] = IdTable(lambda content: content)
         self.blocks: IdTable[bytes] = IdTable(lambda block_bytes: block_bytes)
         self.blocks.id_of(b'')
-        self._ids_after: Dict[Tuple[int, int], int] = {}
-        self._shown_ids: Dict[int, int] = {}
+        self.content_id_after = lru_cache(None)(self.compute_id_after)
+        self.shown_content_id = lru_cache(None)(self.compute_shown_id)
 
     def initial_content_id(self, file_number: int) -> int:
         """The id of the content with which a file is made. A file that an operation makes is empty,
         unless it is a symbolic link."""
-        data = self.reading.initial_data_of(file_number)
+        data = self.reading.initial_data[file_number]
         blocks = sorted(data.blocks.items())
         block_ids = tuple((block, self.blocks.id_of(block_bytes)) for block, block_bytes in blocks)
         rights = self.reading.initial_rights[file_number]
         return self.contents.id_of(Content(rights, data.length, block_ids))
 
-    def content_id_after(self, content_id: int, place: int) -> int:
+    def compute_id_after(self, content_id: int, place: int) -> int:
         """The id of what a content becomes by the micro-operation at `place`, which must be a
-        change of a file that has this content. It is computed only once. AssertionError as
-        content_after()."""
-        key = content_id, place
-        if key not in self._ids_after:
-            operation = self.reading.operations[place]
-            content = self.content_after(self.contents.values[content_id], operation)
-            self._ids_after[key] = self.contents.id_of(content)
-        return self._ids_after[key]
-
-    def content_after(self, content: Content, operation: MicroOperation) -> Content:
-        """What a content becomes by a change of its file: new rights, a new size, or a write to a
-        block. A smaller size drops all bytes past it; a write doesn't change the size.
-        AssertionError for any other micro-operation."""
+        change of a file that has this content: new rights, a new size, or a write to a block. A
+        smaller size drops all bytes past it; a write doesn't change the size. AssertionError for
+        any other micro-operation."""
+        content, operation = self.contents.values[content_id], self.reading.operations[place]
+        blocks = content.blocks
         if isinstance(operation, SetFileRights):
-            return content._replace(rights=operation.rights)
-        if isinstance(operation, ChangeSize):
-            blocks = content.blocks
+            content = content._replace(rights=operation.rights)
+        elif isinstance(operation, ChangeSize):
             if operation.length < content.size:
                 blocks = self.blocks_up_to(blocks, operation.length)
-            return content._replace(size=operation.length, blocks=blocks)
-        assert isinstance(operation, WriteBlock)
-        return content._replace(blocks=self.blocks_after_write(content.blocks, operation))
+            content = content._replace(size=operation.length, blocks=blocks)
+        else:
+            assert isinstance(operation, WriteBlock)
+            content = content._replace(blocks=self.blocks_after_write(blocks, operation))
+        return self.contents.id_of(content)
 
     def blocks_up_to(self, blocks: BlockIds, length: int) -> BlockIds:
         """The blocks of a content without the bytes past a length. A block of which only zeros are
@@ -92,11 +106,9 @@ class Contents:
             ids_after[write.block] = block_id
         return tuple(sorted(ids_after.items()))
 
-    def shown_content_id(self, content_id: int) -> int:
+    def compute_shown_id(self, content_id: int) -> int:
         """The id that a content, given by its own id, has without the bytes past its size, which no
-        reader sees. It is computed only once."""
-        if content_id not in self._shown_ids:
-            content = self.contents.values[content_id]
-            blocks = self.blocks_up_to(content.blocks, content.size)
-            self._shown_ids[content_id] = self.contents.id_of(content._replace(blocks=blocks))
-        return self._shown_ids[content_id]
+        reader sees."""
+        content = self.contents.values[content_id]
+        blocks = self.blocks_up_to(content.blocks, content.size)
+        return self.contents.id_of(content._replace(blocks=blocks))

@@ -2,49 +2,39 @@
 
 from __future__ import annotations
 
-from typing import Dict, Iterator, List, Optional, Tuple
+from dataclasses import dataclass, field
+from itertools import chain
+from typing import Dict, Iterator, List, Tuple
 
 
+@dataclass(eq=False)
 class Data:
     """The bytes of a file: its length, and by their numbers the blocks that aren't zero, each
     without the zeros at its end. Bytes past the length are hidden, and a larger length shows them.
     `blocks` is kept, not copied."""
 
-    def __init__(
-        self, block_size: int, length: int = 0, blocks: Optional[Dict[int, bytes]] = None
-    ) -> None:
-        self.block_size = block_size
-        self.length = length
-        self.blocks = {} if blocks is None else blocks
+    block_size: int
+    length: int = 0
+    blocks: Dict[int, bytes] = field(default_factory=dict)
 
     @staticmethod
     def from_parts(block_size: int, length: int, parts: List[Tuple[int, bytes]]) -> Data:
         """The bytes of a file of this length: its parts, each after its offset, and zeros
         elsewhere. If parts overlap the last one counts; bytes past the length are hidden."""
         data = Data(block_size, length)
-        for offset, part in parts:
-            data.write_bytes(offset, part)
+        pieces = (split_by_blocks(offset, part, block_size) for offset, part in parts)
+        for block, offset, piece in chain.from_iterable(pieces):
+            data.write_block(block, offset, piece)
         return data
 
     def copy(self) -> Data:
         """A copy: changes of one don't change the other."""
         return Data(self.block_size, self.length, dict(self.blocks))
 
-    def write_bytes(self, file_offset: int, data: bytes) -> None:
-        """Writes bytes at an offset of the file, into as many blocks as they need. The length
-        stays: bytes past it are hidden."""
-        for block, offset, piece in split_by_blocks(file_offset, data, self.block_size):
-            self.write_block(block, offset, piece)
-
     def write_block(self, block: int, offset: int, piece: bytes) -> None:
         """Writes bytes into one block, given by its number, at an offset in the block, in which
         they must also end. The length stays: bytes past it are hidden."""
-        block_bytes = self.blocks.get(block, b'')
-        self.set_block(block, overwritten_block(block_bytes, offset, piece))
-
-    def set_block(self, block: int, block_bytes: bytes) -> None:
-        """Sets a block, given by its number, to these bytes, which must come without the zeros at
-        the block's end. If there are no bytes, the block is all zeros."""
+        block_bytes = overwritten_block(self.blocks.get(block, b''), offset, piece)
         if block_bytes:
             self.blocks[block] = block_bytes
         else:
@@ -54,29 +44,28 @@ class Data:
         """Sets the length. If it gets smaller, every byte past it is dropped, also hidden ones: a
         larger length shows zeros there later."""
         if length < self.length:
-            self.clear_from(length)
+            self.blocks = self.blocks_up_to(length)
         self.length = length
 
-    def clear_from(self, offset: int) -> None:
-        """Makes all bytes from an offset on zeros, also hidden ones. The length stays."""
-        cut_block, cut_offset = divmod(offset, self.block_size)
-        for block in [block for block in self.blocks if block >= cut_block]:
-            bytes_left = self.blocks[block][:cut_offset] if block == cut_block else b''
-            self.set_block(block, bytes_left.rstrip(b'\0'))
+    def blocks_up_to(self, end: int) -> Dict[int, bytes]:
+        """The blocks, as `blocks` has them, without the bytes from the offset `end` on: these count
+        as zeros."""
+        cut_block, cut_offset = divmod(end, self.block_size)
+        blocks = {block: self.blocks[block] for block in self.blocks if block < cut_block}
+        bytes_left = self.blocks.get(cut_block, b'')[:cut_offset].rstrip(b'\0')
+        return {**blocks, cut_block: bytes_left} if bytes_left else blocks
 
     def without_hidden_bytes(self) -> Data:
         """A copy without the hidden bytes."""
-        data = self.copy()
-        data.clear_from(self.length)
-        return data
+        return Data(self.block_size, self.length, self.blocks_up_to(self.length))
 
     def __eq__(self, other: object) -> bool:
         """Whether a reader of the two files sees the same: equal lengths, and equal bytes up to the
         length. Both must have blocks of one size."""
         if not isinstance(other, Data):
             return NotImplemented
-        own_blocks = self.without_hidden_bytes().blocks
-        return self.length == other.length and own_blocks == other.without_hidden_bytes().blocks
+        own_blocks, other_blocks = (data.blocks_up_to(data.length) for data in (self, other))
+        return self.length == other.length and own_blocks == other_blocks
 
     __hash__ = None  # type: ignore[assignment]  # it changes
 

@@ -66,7 +66,7 @@ class Digests:
         """The digests of the blocks of a file that never shrinks, after the changes of a set, which
         leave this size. Blocks past the size, and some that are zeros, are left out."""
         block_writes, block_size = self.block_writes[file_number], self.reading.block_size
-        initial_blocks = self.reading.initial_data_of(file_number).blocks
+        initial_blocks = self.reading.initial_data[file_number].blocks
         has_unwritten_blocks = not initial_blocks.keys() <= block_writes.keys()
         digests = dict(self.initial_digests(file_number)) if has_unwritten_blocks else {}
         last_block, last_bytes = divmod(size, block_size)
@@ -90,13 +90,13 @@ class Digests:
 
     def compute_initial_digests(self, file_number: int) -> BlockDigests:
         """The digests of the blocks with which a file is made; those of zeros are left out."""
-        blocks = self.reading.initial_data_of(file_number).blocks
+        blocks = self.reading.initial_data[file_number].blocks
         return {block: hash_block(block_bytes) for block, block_bytes in blocks.items()}
 
     def compute_block_digest(self, file_number: int, block: int, writes: int, size: int) -> bytes:
         """The digest of the first `size` bytes of a file's block, given by its number, after a set
         of writes, all to this block."""
-        block_bytes = self.reading.initial_data_of(file_number).blocks.get(block, b'')
+        block_bytes = self.reading.initial_data[file_number].blocks.get(block, b'')
         for place in places_of(writes):
             operation = self.reading.operations[place]
             assert isinstance(operation, WriteBlock)
@@ -106,7 +106,7 @@ class Digests:
     def compute_rights_and_size(self, file_number: int, place_set: int) -> Tuple[Rights, int]:
         """The rights and the size of a file after a set of its changes; writes don't count."""
         rights = self.reading.initial_rights[file_number]
-        size = self.reading.initial_data_of(file_number).length
+        size = self.reading.initial_data[file_number].length
         for place in places_of(place_set):
             operation = self.reading.operations[place]
             if isinstance(operation, SetFileRights):
@@ -118,7 +118,7 @@ class Digests:
     def may_shrink(self, file_number: int, place_set: int) -> bool:
         """Whether a file gets shorter at any time if all changes of a set, all of this file, are
         made in their order. If not, it doesn't with any subset of them either."""
-        size = self.reading.initial_data_of(file_number).length
+        size = self.reading.initial_data[file_number].length
         for place in places_of(place_set):
             operation = self.reading.operations[place]
             if isinstance(operation, ChangeSize):

@@ -74,23 +74,20 @@ class Line:
         return self.fields['owner'], self.fields['group'], self.fields['mode']
 
     @property
-    def data(self) -> bytes:
-        """The bytes of a start file or a write. KeyError for a file in parts."""
-        return bytes_of(self.fields)
-
-    @property
     def parts(self) -> List[Tuple[int, bytes]]:
         """The parts of a start file, each after its offset. A file that isn't in parts has one
         part, with all its bytes, which may be none."""
         if 'parts' not in self.fields:
-            return [(0, self.data)]
+            return [(0, bytes_of(self.fields))]
         return [(part['at'], bytes_of(part)) for part in self.fields['parts']]
 
     @property
     def length(self) -> int:
         """The length of a start file: its `length` if it is in parts, else how many bytes it
         has."""
-        return int(self.fields['length']) if 'parts' in self.fields else len(self.data)
+        if 'parts' in self.fields:
+            return int(self.fields['length'])
+        return len(bytes_of(self.fields))
 
 
 def bytes_of(fields: Fields) -> bytes:
@@ -107,9 +104,8 @@ class LineReader:
     itself: whether it fits the tree isn't checked here. `version` is the header's, or 0 before the
     header; has_operation is set once an operation was read."""
 
-    def __init__(self) -> None:
-        self.version = 0
-        self.has_operation = False
+    version = 0
+    has_operation = False
 
     def read_line(self, number: int, text: str) -> Line:
         """The line with this number, from its text. LineFault for the first fault that the line has

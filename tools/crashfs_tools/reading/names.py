@@ -5,7 +5,7 @@ from __future__ import annotations
 from typing import Dict, List, NamedTuple, Optional, Tuple
 
 from .faults import LineFault
-from .lines import Line
+from .lines import Line, bytes_of
 
 FILE_BYTES, LARGE_FILE_BYTES = 16_777_216, 1_073_741_824
 PATH_NAMES, RECORDS, SAY_BYTES = 64, 65_536, 1_024
@@ -72,12 +72,6 @@ class NameTree:
         assert directory is not None and directory.kind == DIRECTORY
         return directory.number, path.rpartition('/')[2]
 
-    def file_number_at(self, path: str) -> int:
-        """The number of the file or symbolic link at a path. AssertionError if none is there."""
-        node = self.inode_at(path)
-        assert node is not None and node.kind != DIRECTORY
-        return node.number
-
     def path_of_entry(self, entry: Entry) -> str:
         """The path that an entry has in the tree as it is now, whether it holds something or not.
         Its directory must be there."""
@@ -87,16 +81,11 @@ class NameTree:
             path = f'/{name}{path}'
         return path
 
-    def path_of_file(self, file_number: int) -> str:
-        """The oldest of the paths of a file or symbolic link. IndexError if it has none any
-        more."""
-        return self.path_of_entry(self.entries[file_number][0])
-
     # What lines do
 
-    def add_file(self, path: str, size: int, kind: str = FILE) -> Inode:
-        """Adds a file of this size, or a symbolic link, at a free path, and returns its inode, with
-        the next number."""
+    def add_file(self, path: str, size: int, kind: str) -> Inode:
+        """Adds a file or symbolic link, as `kind` says, of this size at a free path, and returns
+        its inode, with the next number."""
         self.sizes.append(size)
         self.entries.append([])
         node = Inode(kind, len(self.sizes) - 1)
@@ -158,10 +147,6 @@ class NameTree:
         else:
             entries = self.entries[node.number]
             entries[entries.index(source)] = target
-
-    def set_size(self, file_number: int, length: int) -> None:
-        """Sets the size of a file."""
-        self.sizes[file_number] = length
 
     # What a line needs
 
@@ -279,5 +264,5 @@ def end_offset(line: Line) -> int:
         return line.length
     if line.word != 'write':
         return 0
-    size = len(line.data)
+    size = len(bytes_of(line.fields))
     return int(line.fields['offset']) + size if size else 0

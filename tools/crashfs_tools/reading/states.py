@@ -3,14 +3,25 @@
 from __future__ import annotations
 
 from functools import lru_cache
-from typing import Callable, Dict, Iterator, List, NamedTuple, Optional, Tuple, TypeVar
+from typing import Callable, Dict, Iterable, Iterator, List, NamedTuple, Optional, Tuple, TypeVar
 
 from .data import Data
 from .digests import Digests
-from .micro import Acknowledgement, ChangeSize, MicroOperation, Rights, SetFileRights, WriteBlock
-from .names import DIRECTORY, Inode
+from .micro import (
+    Acknowledgement,
+    ChangeSize,
+    CreateEntry,
+    DeleteEntry,
+    LinkEntry,
+    MicroOperation,
+    MoveEntry,
+    Rights,
+    SetDirectoryRights,
+    SetFileRights,
+    WriteBlock,
+)
+from .names import DIRECTORY, ROOT, Entry, Inode
 from .place_sets import places_of, set_of, sets_by_key
-from .tables import EntryTable, change_entries, change_rights
 from .trace import Reading
 
 
@@ -65,7 +76,6 @@ class States:
         self.says = set_of(
             place for place, operation in operations if isinstance(operation, Acknowledgement)
         )
-        self.start_nodes = dict(EntryTable(reading).paths())
         digests = Digests(reading, self.change_places, self.compute_file)
         self._nodes = lru_cache(64)(self.compute_nodes)
         self._rights_and_data = lru_cache(64)(self.compute_file)
@@ -78,14 +88,14 @@ class States:
     def tree(self, place_set: int) -> Dict[str, Item]:
         """The tree of an allowed set: what is at each path, the root among them, in the order of
         the paths. Trees share the bytes of files, which must not be changed."""
-        rows = self.walk_tree(place_set, self.rights_and_data)
+        rows = self.walk_tree(place_set, self._rights_and_data)
         return {path: Item(kind, rights, data) for path, kind, rights, data in rows}
 
     def digest(self, place_set: int) -> Digest:
         """The tree of an allowed set, in a form that is equal for sets that leave equal trees, and
         for no others. The acknowledged lines aren't in it: see count_says(). The digests of files
         that are computed for it are kept in memory."""
-        return tuple(self.walk_tree(place_set, self.rights_and_digest))
+        return tuple(self.walk_tree(place_set, self._rights_and_digest))
 
     def digest_and_says(self, place_set: int) -> Tuple[Digest, int]:
         """What an allowed set leaves: the digest of its tree, and how many acknowledged lines it
@@ -97,66 +107,56 @@ class States:
     ) -> Iterator[Tuple[str, str, Rights, Optional[DataOrDigest]]]:
         """What is at each path of an allowed set's tree, in the order of the paths: the path, its
         kind, its rights, and its data or digest, which is None for a directory. `read_file`
-        returns the last two of a file, from the file's number and the set."""
+        returns the last two of a file, from the file's number and the set of its changes."""
         nodes, directory_rights = self._nodes(place_set & self.entry_places)
         for path, node in nodes.items():
             if node.kind == DIRECTORY:
                 yield path, DIRECTORY, directory_rights[node.number], None
             else:
-                rights, data = read_file(node.number, place_set)
+                changes = place_set & self.change_places.get(node.number, 0)
+                rights, data = read_file(node.number, changes)
                 yield path, node.kind, rights, data
-
-    def rights_and_data(self, file_number: int, place_set: int) -> Tuple[Rights, Data]:
-        """The rights and bytes of a file in an allowed set. The bytes are shared, and must not be
-        changed."""
-        return self._rights_and_data(
-            file_number, place_set & self.change_places.get(file_number, 0)
-        )
-
-    def rights_and_digest(self, file_number: int, place_set: int) -> Tuple[Rights, bytes]:
-        """The rights of a file in an allowed set, and a digest of its bytes: equal exactly for
-        equal bytes, also of different files."""
-        return self._rights_and_digest(
-            file_number, place_set & self.change_places.get(file_number, 0)
-        )
 
     def compute_nodes(self, place_set: int) -> NodesAndRights:
         """What is at each path after the changes of a set, all of entries and directories, in the
-        order of the paths, and the rights of all directories, also of removed ones."""
+        order of the paths, and the rights of all directories, also of removed ones. KeyError as
+        change_entries()."""
+        entries, rights = dict(self.reading.start), dict(self.reading.start_rights)
         operations = [self.reading.operations[place] for place in places_of(place_set)]
-        has_moves = place_set & self.directory_moves
-        compute = self.nodes_after_moves if has_moves else self.unmoved_nodes
-        nodes, rights = compute(operations)
-        return dict(sorted(nodes.items())), rights
-
-    def nodes_after_moves(self, operations: List[MicroOperation]) -> NodesAndRights:
-        """As unmoved_nodes(), but directories may be moved: all paths are computed again."""
-        table = EntryTable(self.reading)
-        for operation in operations:
-            table.apply(operation)
-        return dict(table.paths()), table.rights
-
-    def unmoved_nodes(self, operations: List[MicroOperation]) -> NodesAndRights:
-        """What is at each path after these micro-operations, and the rights of all directories.
-        None of them may move a directory: then each directory is at its unmoved path, and only the
-        paths of changed entries are computed. KeyError as change_entries()."""
-        start, unmoved_path = self.reading.start, self.reading.unmoved_path
-        rights = dict(self.reading.start_rights)
-        touched = dict.fromkeys(entry for operation in operations for entry in operation.entries)
-        entries = {entry: start[entry] for entry in touched if entry in start}
-        old_paths = {unmoved_path(entry) for entry in entries}
         for operation in operations:
             change_entries(entries, operation)
             change_rights(rights, operation)
-        nodes = {path: node for path, node in self.start_nodes.items() if path not in old_paths}
-        nodes.update((unmoved_path(entry), node) for entry, node in entries.items())
-        return nodes, rights
+        if place_set & self.directory_moves:
+            nodes = dict(reachable_paths(entries.items()))
+        else:
+            nodes = self.unmoved_nodes(entries, operations)
+        return dict(sorted(nodes.items())), rights
+
+    def unmoved_nodes(
+        self, entries: Dict[Entry, Inode], operations: List[MicroOperation]
+    ) -> Dict[str, Inode]:
+        """What is at each path after micro-operations that leave these entries. None of them may
+        move a directory: then each directory is at its unmoved path, and only the paths of changed
+        entries are computed."""
+        paths = {
+            entry: self.reading.unmoved_path(entry)
+            for operation in operations
+            for entry in operation.entries
+        }
+        changed_paths = set(paths.values())
+        nodes = {
+            path: node
+            for path, node in self.reading.start_paths.items()
+            if path not in changed_paths
+        }
+        nodes.update((path, entries[entry]) for entry, path in paths.items() if entry in entries)
+        return nodes
 
     def compute_file(self, file_number: int, place_set: int) -> Tuple[Rights, Data]:
         """The rights and bytes of a file after the changes of a set, all of this file; without
         hidden bytes."""
         rights = self.reading.initial_rights[file_number]
-        data = self.reading.initial_data_of(file_number).copy()
+        data = self.reading.initial_data[file_number].copy()
         for place in places_of(place_set):
             operation = self.reading.operations[place]
             if isinstance(operation, SetFileRights):
@@ -173,3 +173,49 @@ def change_data(data: Data, operation: MicroOperation) -> None:
         data.resize(operation.length)
     elif isinstance(operation, WriteBlock):
         data.write_block(operation.block, operation.offset, operation.data)
+
+
+def change_entries(entries: Dict[Entry, Inode], operation: MicroOperation) -> None:
+    """Changes `entries` as a micro-operation does; one that touches no entry changes nothing. What
+    is made, linked or moved to an entry replaces what is there. KeyError if an entry that is
+    removed or moved isn't in the map."""
+    if isinstance(operation, (CreateEntry, LinkEntry)):
+        entries[operation.entries[0]] = operation.node
+    elif isinstance(operation, DeleteEntry):
+        del entries[operation.entries[0]]
+    elif isinstance(operation, MoveEntry):
+        entries[operation.entries[1]] = entries.pop(operation.entries[0])
+
+
+def change_rights(rights: Dict[int, Rights], operation: MicroOperation) -> None:
+    """Changes the rights of directories, by their numbers, if a micro-operation makes a directory
+    or sets its rights; any other changes nothing. So a removed directory keeps its rights here."""
+    if isinstance(operation, CreateEntry) and operation.made_directory is not None:
+        rights[operation.made_directory] = operation.rights
+    elif isinstance(operation, SetDirectoryRights):
+        rights[operation.directory_number] = operation.rights
+
+
+def reachable_paths(entries: Iterable[Tuple[Entry, Inode]]) -> Iterator[Tuple[str, Inode]]:
+    """The paths that lead from the root to what entries hold, each with what is there: the root
+    first, and each directory before what is in it. Entries of a directory that no path leads to are
+    left out."""
+    listings = directory_listings(entries)
+    yield '/', Inode(DIRECTORY, ROOT)
+    waiting = [('', ROOT)]
+    while waiting:
+        parent_path, directory = waiting.pop()
+        nodes = [(f'{parent_path}/{name}', node) for name, node in listings.get(directory, [])]
+        yield from nodes
+        waiting += [(path, node.number) for path, node in nodes if node.kind == DIRECTORY]
+
+
+def directory_listings(
+    entries: Iterable[Tuple[Entry, Inode]]
+) -> Dict[int, List[Tuple[str, Inode]]]:
+    """What each directory holds, by its number: the names of its entries, each with what is there.
+    A directory without entries is left out."""
+    listings: Dict[int, List[Tuple[str, Inode]]] = {}
+    for (directory, name), node in entries:
+        listings.setdefault(directory, []).append((name, node))
+    return listings

@@ -6,7 +6,7 @@ from typing import Dict, List
 
 from .data import Data, split_by_blocks
 from .faults import LineFault, ReadingFault, syntax_fault
-from .lines import Line, LineReader
+from .lines import Line, LineReader, bytes_of
 from .micro import (
     Acknowledgement,
     ChangeSize,
@@ -20,7 +20,7 @@ from .micro import (
     SetFileRights,
     WriteBlock,
 )
-from .names import DIRECTORY, ROOT, SYMLINK, Entry, Inode, NameTree
+from .names import DIRECTORY, FILE, ROOT, SYMLINK, Entry, Inode, NameTree
 from .syncs import DataSync, DirectorySync, FileSync, RangeSync, SyncPoint
 
 MICRO_OPERATIONS = 1_024
@@ -40,10 +40,12 @@ class Reading:
         self.profile = 'blocks'
         self.block_size = 4096
         self.start: Dict[Entry, Inode] = {}
+        # What is at each path of the start tree.
+        self.start_paths: Dict[str, Inode] = {'/': Inode(DIRECTORY, ROOT)}
         # The path of each directory if no directory is moved; the root's is empty.
         self.unmoved_paths: Dict[int, str] = {ROOT: ''}
-        # The rights with which each file or symbolic link is made, and the bytes of those that a
-        # start line makes and of all symbolic links.
+        # The rights and the bytes with which each file or symbolic link is made, by its number. The
+        # bytes are shared: copy them before you change them.
         self.initial_rights: Dict[int, Rights] = {}
         self.initial_data: Dict[int, Data] = {}
         # The rights of each directory of the start tree, and those that each inode has now.
@@ -79,13 +81,9 @@ class Reading:
         """Adds a change of a file, with the oldest of the file's paths. The change must have the
         file's number. IndexError if the file has no path any more."""
         assert operation.file_number is not None
-        operation.path = self.names.path_of_file(operation.file_number)
+        oldest_entry = self.names.entries[operation.file_number][0]
+        operation.path = self.names.path_of_entry(oldest_entry)
         self.operations.append(operation)
-
-    def initial_data_of(self, file_number: int) -> Data:
-        """The bytes with which a file is made: none if an operation makes it, unless it is a
-        symbolic link. They are shared: copy them before you change them."""
-        return self.initial_data.get(file_number, Data(self.block_size))
 
     def unmoved_path(self, entry: Entry) -> str:
         """The path that an entry has while no directory above the entry is moved. KeyError if no
@@ -95,23 +93,21 @@ class Reading:
 
     # Files, symbolic links and directories
 
-    def make_file(self, line: Line, length: int) -> Inode:
-        """Makes the file of a line, with this length, and returns its inode. The file's bytes
-        aren't set here."""
-        node = self.names.add_file(line.fields['path'], length)
-        self.initial_rights[node.number] = self.rights[node] = line.rights
+    def make_file(self, line: Line, kind: str, rights: Rights, data: Data) -> Inode:
+        """Makes the file or symbolic link of a line, as `kind` says, with these rights and bytes,
+        and returns its inode."""
+        node = self.names.add_file(line.fields['path'], data.length, kind)
+        self.initial_rights[node.number] = self.rights[node] = rights
+        self.initial_data[node.number] = data
         return node
 
     def make_symlink(self, line: Line) -> Inode:
         """Makes the symbolic link of a line, whose bytes are its target and whose mode is
         SYMLINK_MODE, and returns its inode."""
         target = line.fields['target'].encode('utf-8')
-        node = self.names.add_file(line.fields['path'], len(target), SYMLINK)
         rights = line.fields['owner'], line.fields['group'], SYMLINK_MODE
-        self.initial_rights[node.number] = self.rights[node] = rights
         data = Data.from_parts(self.block_size, len(target), [(0, target)])
-        self.initial_data[node.number] = data
-        return node
+        return self.make_file(line, SYMLINK, rights, data)
 
     def make_directory(self, line: Line) -> Inode:
         """Makes the directory of a line, with its unmoved path, and returns its inode."""
@@ -131,9 +127,8 @@ class Reading:
 
     def start_file(self, line: Line) -> None:
         """Adds a file, with its rights and bytes, also to the start tree."""
-        node = self.make_file(line, line.length)
-        self.initial_data[node.number] = Data.from_parts(self.block_size, line.length, line.parts)
-        self.add_start_entry(line, node)
+        data = Data.from_parts(self.block_size, line.length, line.parts)
+        self.add_start_entry(line, self.make_file(line, FILE, line.rights, data))
 
     def start_symlink(self, line: Line) -> None:
         self.add_start_entry(line, self.make_symlink(line))
@@ -146,12 +141,13 @@ class Reading:
     def add_start_entry(self, line: Line, node: Inode) -> None:
         """Adds the entry of a start line's path, which holds `node`, to the start tree. `names`
         must have the path already."""
-        self.start[self.names.entry_at(line.fields['path'])] = node
+        path = line.fields['path']
+        self.start[self.names.entry_at(path)] = self.start_paths[path] = node
 
     # Operations on entries: each of these adds what an `op` line of its kind does.
 
     def op_creat(self, line: Line) -> None:
-        self.add_creation(line, self.make_file(line, 0))
+        self.add_creation(line, self.make_file(line, FILE, line.rights, Data(self.block_size)))
 
     def op_mkdir(self, line: Line) -> None:
         self.add_creation(line, self.make_directory(line))
@@ -207,14 +203,15 @@ class Reading:
         """Adds a write: a new size if the write ends past the file's end, then its blocks. In
         version 4, if the file ends inside a page and the write past that page, the file first gets
         the page's end as its size. A write of no bytes does nothing."""
-        file_number = self.names.file_number_at(line.fields['path'])
+        file_number = self.names.require_inode(line.fields['path']).number
         begin, size = line.fields['offset'], self.names.sizes[file_number]
-        end = begin + len(line.data)
-        if line.data and end > size:
+        data = bytes_of(line.fields)
+        end = begin + len(data)
+        if data and end > size:
             if self.version >= 4 and size < page_end(size) < end:
                 self.change_size(file_number, page_end(size))
             self.change_size(file_number, end)
-        self.write_blocks(file_number, begin, line.data)
+        self.write_blocks(file_number, begin, data)
 
     def write_blocks(self, file_number: int, file_offset: int, data: bytes) -> None:
         """Adds a micro-operation for each block of a file that gets some of these bytes; none if
@@ -226,7 +223,7 @@ class Reading:
         """Adds a truncate: a new size, or nothing if the file has this size. In version 4 a file
         whose new end is inside a page and before its old end gets zeros first: from the new end to
         the end of that page or to the old end, whichever comes first."""
-        file_number = self.names.file_number_at(line.fields['path'])
+        file_number = self.names.require_inode(line.fields['path']).number
         length, size = line.fields['length'], self.names.sizes[file_number]
         if size == length:
             return
@@ -237,7 +234,7 @@ class Reading:
 
     def change_size(self, file_number: int, length: int) -> None:
         """Sets the size of a file, and adds the micro-operation that does so."""
-        self.names.set_size(file_number, length)
+        self.names.sizes[file_number] = length
         self.add_change(ChangeSize(file_number, length))
 
     def op_chmod(self, line: Line) -> None:
@@ -276,12 +273,12 @@ class Reading:
         self.syncs.append(sync_type(len(self.operations), node.number))
 
     def op_fdatasync(self, line: Line) -> None:
-        file_number = self.names.file_number_at(line.fields['path'])
+        file_number = self.names.require_inode(line.fields['path']).number
         self.syncs.append(DataSync(len(self.operations), file_number))
 
     def op_fsync_range(self, line: Line) -> None:
         """Adds the sync point of a range of a file, which may end above 2^64 - 1."""
-        file_number = self.names.file_number_at(line.fields['path'])
+        file_number = self.names.require_inode(line.fields['path']).number
         offset, length = line.fields['offset'], line.fields['length']
         self.syncs.append(RangeSync(len(self.operations), file_number, offset, length))
 
