@@ -66,7 +66,7 @@ def reported_in(recording: Recording) -> Tuple[Dict[str, List[str]], Set[str]]:
     """What is reported of each case's files, with how many times, and what is reported beside."""
     found: Dict[str, List[str]] = {}
     elsewhere = set()
-    for trouble in recording.troubles:
+    for trouble in recording.troubles.values():
         match = re.match('/([^/]+)/(.*)', trouble.where)
         if match:
             times = f' {len(trouble.lines)}' if len(trouble.lines) > 1 else ''

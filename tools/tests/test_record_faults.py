@@ -130,7 +130,7 @@ class WithoutStrace(InRecordings):
             recording = recording_of(log, start)
         self.assertEqual(len(recording.trace.start), 2)
         self.assertEqual(len(recording.trace.operations), 1)
-        (told,) = map(str, list(recording.troubles))
+        (told,) = map(str, list(recording.troubles.values()))
         self.assertEqual(
             told,
             '/: the start tree leaves out 1 of its files and directories: a trace has 2 at most',

@@ -50,7 +50,7 @@ class Stores(unittest.TestCase):
             [short(one) for one in recording.trace.operations],
             ['write /g 0 child', 'write /f 0 parent', 'fsyncrange /f 0 4096'],
         )
-        troubles = list(recording.troubles)
+        troubles = list(recording.troubles.values())
         self.assertEqual({trouble.where for trouble in troubles}, {'/f', '/g'})
         for trouble in troubles:
             self.assertIn('while other threads or processes ran', str(trouble))
@@ -64,7 +64,7 @@ class Stores(unittest.TestCase):
             [short(one) for one in recording.trace.operations],
             ['write /f 0 parent', 'fsyncrange /f 0 4096'],
         )
-        self.assertEqual(len(list(recording.troubles)), 1)
+        self.assertEqual(len(list(recording.troubles.values())), 1)
 
     def test_an_older_copy_doesn_t_undo_a_newer_one(self):
         # The parent's copy comes first, but the parent's call is after the child's in the trace.
@@ -76,7 +76,7 @@ class Stores(unittest.TestCase):
                 [short(one) for one in recording.trace.operations],
                 ['write /f 0 parent', 'fsyncrange /f 0 4096'],
             )
-            self.assertEqual(len(list(recording.troubles)), 1)
+            self.assertEqual(len(list(recording.troubles.values())), 1)
 
     def test_a_copy_after_a_call_that_failed_counts(self):
         recording = after_copies([FileCopy(3, 1, True, {0: b'row' + bytes(5)})], FAILED)
@@ -84,7 +84,7 @@ class Stores(unittest.TestCase):
             [short(one) for one in recording.trace.operations],
             ['write /f 0 row', 'fsyncrange /f 0 4096'],
         )
-        self.assertEqual(list(recording.troubles), [])
+        self.assertEqual(list(recording.troubles.values()), [])
 
     def test_a_sure_copy_is_before_its_call(self):
         recording = after_copies([FileCopy(8, 1, True, {0: b'parent\0\0'})])
@@ -92,7 +92,7 @@ class Stores(unittest.TestCase):
             [short(one) for one in recording.trace.operations],
             ['write /f 0 parent', 'fsyncrange /f 0 4096'],
         )
-        self.assertEqual(list(recording.troubles), [])
+        self.assertEqual(list(recording.troubles.values()), [])
 
 
 if __name__ == '__main__':

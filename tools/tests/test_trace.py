@@ -29,9 +29,8 @@ from crashfs_tools.common.trace_read import read_trace, tree_at_end
 from crashfs_tools.common.trace_lines import parse_trace_text
 from crashfs_tools.common.tree import Tree
 from crashfs_tools.recorder.comparison import (
-    ProgramReader,
-    ReplayReader,
-    lines_of_file,
+    entries_by_program,
+    entries_by_replay,
     lines_on_differences,
 )
 from crashfs_tools.recorder.directory import Scan
@@ -213,8 +212,8 @@ class Traces(unittest.TestCase):
         for name in EXAMPLE_TRACES:
             path = str(EXAMPLES / name)
             self.assertEqual(
-                ReplayReader(lines_of_file(path)).read_entries(),
-                ProgramReader(Crashfs(FAKE), path).read_entries(),
+                entries_by_replay(example(name).split('\n')),
+                entries_by_program(Crashfs(FAKE), path),
             )
 
     def test_modes_and_owners_are_counted_where_they_change(self):
@@ -279,7 +278,7 @@ class Traces(unittest.TestCase):
         def scan(*entries: Start) -> Scan:
             return Scan(Header('u', 'u', 0o755), list(entries))
 
-        last = ReplayReader(lines_of_file(str(EXAMPLES / 'store.trace'))).read_entries()
+        last = entries_by_replay(example('store.trace').split('\n'))
         self.assertEqual(sorted(last), ['/log', '/table'])
         log = Start('/log', 'kv', 'kv', 0o640, b'')
         table = Start('/table', 'kv', 'kv', 0o640, b'a=2\n')

@@ -19,7 +19,7 @@ class Calls(unittest.TestCase):
             with self.subTest(shown):
                 recording = recording_of(log, start)
                 self.assertEqual([short(one) for one in recording.trace.operations], wanted)
-                self.assertEqual(list(map(str, list(recording.troubles))), [])
+                self.assertEqual(list(map(str, list(recording.troubles.values()))), [])
 
     def test_lines_of_standard_output_are_reported_whole_and_in_their_place(self):
         log = [
@@ -36,7 +36,7 @@ class Calls(unittest.TestCase):
             '1 write(3</d/a.tmp>, "hi", 2) = 2',
         ]
         recording = recording_of(log, [], lambda path: path.endswith('.tmp'))
-        self.assertEqual((recording.trace.operations, list(recording.troubles)), ([], []))
+        self.assertEqual((recording.trace.operations, list(recording.troubles.values())), ([], []))
 
     @needs_version_3
     def test_the_sync_of_a_write_counts_from_its_end(self):
@@ -80,7 +80,7 @@ class Calls(unittest.TestCase):
             with self.subTest(call):
                 recording = recording_of(log, FILE)
                 self.assertEqual(recording.trace.operations, [])
-                self.assertEqual(list(recording.troubles), [])
+                self.assertEqual(list(recording.troubles.values()), [])
 
 
 class WorkingDirectories(unittest.TestCase):
@@ -89,7 +89,7 @@ class WorkingDirectories(unittest.TestCase):
     def assert_operations(self, log, wanted, start=(), ignored=None):
         recording = recording_of(log, start, ignored)
         self.assertEqual([short(one) for one in recording.trace.operations], wanted)
-        return [str(one) for one in recording.troubles]
+        return [str(one) for one in recording.troubles.values()]
 
     def test_a_directory_that_is_renamed_away_takes_its_processes_along(self):
         for rename, paths_back in (

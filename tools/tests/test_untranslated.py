@@ -270,7 +270,7 @@ class Troubles(unittest.TestCase):
         for are_notes, rows in [(False, TROUBLES), (True, NOTES)]:
             for wanted, start, log in rows:
                 with self.subTest(wanted):
-                    told = list(recording_of(log, start).troubles)
+                    told = list(recording_of(log, start).troubles.values())
                     self.assertEqual(len(told), 1, told)
                     self.assertTrue(str(told[0]).startswith(wanted), str(told[0]))
                     self.assertEqual(told[0].is_note, are_notes)
@@ -279,7 +279,7 @@ class Troubles(unittest.TestCase):
         for wanted, start, log in OLD_TROUBLES:
             with self.subTest(wanted):
                 recording = recording_of(log, start, version=3)
-                told = list(recording.troubles)
+                told = list(recording.troubles.values())
                 self.assertEqual(len(told), 1, told)
                 self.assertTrue(str(told[0]).startswith(wanted), str(told[0]))
                 self.assertEqual((recording.trace.version, recording.trace.operations), (3, []))
@@ -290,7 +290,7 @@ class Troubles(unittest.TestCase):
         for words in ('"s", AT_FDCWD</d>, "/etc/s"', '"/etc/s", AT_FDCWD</d>, "s"'):
             exchange = f'1 renameat2(AT_FDCWD</d>, {words}, RENAME_EXCHANGE) = 0'
             recording = recording_of([open_f, exchange, change], IN_DIRECTORY)
-            self.assertEqual([one.where for one in recording.troubles], ['/s'])
+            self.assertEqual([one.where for one in recording.troubles.values()], ['/s'])
             self.assertEqual(recording.trace.operations, [])
 
     def test_an_exchange_of_a_name_with_itself_changes_nothing(self):
@@ -299,7 +299,7 @@ class Troubles(unittest.TestCase):
             exchange = f'1 renameat2({words}, RENAME_EXCHANGE) = 0'
             change = '1 truncate("/d/s/f", 0) = 0'
             recording = recording_of([exchange, change], IN_DIRECTORY)
-            self.assertEqual(list(recording.troubles), [])
+            self.assertEqual(list(recording.troubles.values()), [])
             self.assertEqual(len(recording.trace.operations), 1)
 
     def test_a_cut_open_that_changes_nothing_is_not_reported(self):
@@ -312,14 +312,14 @@ class Troubles(unittest.TestCase):
             'openat(AT_FDCWD</d>, "/etc/n", O_WRONLY|O_CREAT, 0666) = ?',
         ):
             with self.subTest(line):
-                self.assertEqual(list(recording_of(['1 ' + line], FILE).troubles), [])
+                self.assertEqual(list(recording_of(['1 ' + line], FILE).troubles.values()), [])
 
     def test_a_cut_open_of_a_link_names_the_file(self):
         link = StartSymlink('/l', 'u', 'u', 'f')
         for flags, wanted in (('', ['/f']), ('|O_NOFOLLOW', [])):
             line = f'1 openat(AT_FDCWD</d>, "l", O_WRONLY|O_TRUNC{flags}) = ?'
             recording = recording_of([line], [*FILE, link])
-            self.assertEqual([one.where for one in recording.troubles], wanted)
+            self.assertEqual([one.where for one in recording.troubles.values()], wanted)
 
     def test_an_open_whose_path_strace_cut_is_reported_if_it_may_change_a_file(self):
         for line, wanted in (
@@ -331,7 +331,7 @@ class Troubles(unittest.TestCase):
         ):
             with self.subTest(line):
                 recording = recording_of(['1 ' + line], FILE)
-                self.assertEqual([one.where for one in recording.troubles], wanted)
+                self.assertEqual([one.where for one in recording.troubles.values()], wanted)
 
     def test_both_names_of_a_cut_rename_may_differ_at_the_end(self):
         recording = recording_of(['1 rename("f", "b") = ?'], FILE)

@@ -197,7 +197,7 @@ class Needs(unittest.TestCase):
         name = 'n' * 256
         for line in (f'symlink("a", "{name}") = 0', f'rename("s", "{name}") = 0'):
             recording = recording_of(['1 ' + line], IN_DIRECTORY)
-            self.assertTrue(list(recording.troubles), line)
+            self.assertTrue(list(recording.troubles.values()), line)
             found = recording.trace.version, recording.tree.version, recording.newest_version_reason
             self.assertEqual(found, (3, 3, ''), line)
         self.assertFalse(recording.add_operation(Truncate('/none', 1 << 25)))

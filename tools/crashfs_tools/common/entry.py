@@ -21,6 +21,13 @@ class Entry:
     link: Optional[str] = None
 
     @property
+    def kind(self) -> str:
+        """What it is, in words: `a file`, `a directory` or `a symbolic link`."""
+        if self.link is not None:
+            return 'a symbolic link'
+        return 'a directory' if self.is_directory else 'a file'
+
+    @property
     def is_directory(self) -> bool:
         """Whether it is a directory: it has neither bytes nor a target."""
         return self.data is None and self.link is None

@@ -47,5 +47,4 @@ def restart_trace(recording: Recording) -> None:
     recording.begin_trace(header)
     for line in lines:
         recording.add_start_line(line)
-    recording.troubles.forget_lines()
     recording.has_late_start = True

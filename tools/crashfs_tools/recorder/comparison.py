@@ -3,8 +3,7 @@ recording."""
 
 from __future__ import annotations
 
-from abc import ABC, abstractmethod
-from typing import Collection, Dict, Iterable, Iterator, List
+from typing import Collection, Dict, Iterable, List
 
 from crashfs_tools.common.entry import Entries, Entry, ancestors_and_path
 from crashfs_tools.common.program import Crashfs
@@ -15,55 +14,20 @@ from crashfs_tools.common.tree import Tree, symlink_entry
 from .directory import Scan, ScannedEntry
 
 
-class LastStateReader(ABC):
-    """A way to compute a trace's last state; name is what the summary calls it."""
-
-    name: str
-
-    @abstractmethod
-    def read_entries(self) -> Entries:
-        """The entries of the last state, without the root; to be called once."""
-
-
-class ReplayReader(LastStateReader):
-    """Computes the last state by the recorder's own replay of a trace's lines."""
-
-    name = "the recorder's replay"
-
-    def __init__(self, lines: Iterable[str]) -> None:
-        """Reads nothing yet. The lines may end in line feeds."""
-        self.lines = lines
-
-    def read_entries(self) -> Entries:
-        """The entries at the end of the replay, without the root; to be called once, as it reads
-        the lines. TraceError, ValueError or KeyError for a trace that `crashfs` would refuse, as in
-        tree_at_end(); any error that the lines raise, as an OSError of lines_of_file()."""
-        tree = tree_at_end(self.lines)
-        del tree.entries['/']
-        return tree.entries
+def entries_by_replay(lines: Iterable[str]) -> Entries:
+    """The entries at a trace's end, without the root, by the recorder's own replay of its lines,
+    which may end in line feeds. TraceError, ValueError or KeyError for a trace that `crashfs` would
+    refuse, as in tree_at_end(); any error that the lines raise."""
+    tree = tree_at_end(lines)
+    del tree.entries['/']
+    return tree.entries
 
 
-class ProgramReader(LastStateReader):
-    """Computes the last state by `crashfs tar`: it is the last of the prefixes."""
-
-    name = 'crashfs tar'
-
-    def __init__(self, program: Crashfs, trace_path: str) -> None:
-        """Starts nothing yet."""
-        self.program, self.trace_path = program, trace_path
-
-    def read_entries(self) -> Entries:
-        """The entries of the last state that the program writes, without the root. ProgramFault if
-        the program refuses the trace or can't be started."""
-        number = self.program.count_states(self.trace_path, with_holes=False) - 1
-        return self.program.tree_of_state(self.trace_path, number)
-
-
-def lines_of_file(path: str) -> Iterator[str]:
-    """Yields the lines of a trace's file, which is opened for the first of them and closed after
-    the last. OSError if it can't be read, ValueError for bytes that aren't UTF-8."""
-    with open(path, encoding='utf-8', newline='\n') as lines:
-        yield from lines
+def entries_by_program(program: Crashfs, trace_path: str) -> Entries:
+    """The entries at a trace's end, without the root, by `crashfs tar`: they are those of the last
+    prefix. ProgramFault if the program refuses the trace or can't be started."""
+    number = program.count_states(trace_path, with_holes=False) - 1
+    return program.tree_of_state(trace_path, number)
 
 
 def lines_on_differences(
@@ -94,13 +58,6 @@ def tree_entry(entry: ScannedEntry) -> Entry:
     return Entry(entry.owner, entry.group, entry.mode, entry.data)
 
 
-def kind_of_entry(entry: Entry) -> str:
-    """The kind of an entry in words: `a file`, `a directory` or `a symbolic link`."""
-    if entry.link is not None:
-        return 'a symbolic link'
-    return 'a directory' if entry.is_directory else 'a file'
-
-
 def is_at_or_below(path: str, others: Collection[str]) -> bool:
     """Whether a path is one of some others, or below one of them. The root counts only for the path
     `/` itself."""
@@ -111,9 +68,8 @@ def entry_differences(at_end: Entry, traced: Entry) -> List[str]:
     """A sentence for each difference between an entry at the end and the one in the trace; empty if
     there is none. If their kinds differ, or the targets of symbolic links, nothing else is
     compared."""
-    kind, traced_kind = kind_of_entry(at_end), kind_of_entry(traced)
-    if kind != traced_kind:
-        return [f'it is {kind} at the end, and {traced_kind} in the trace']
+    if at_end.kind != traced.kind:
+        return [f'it is {at_end.kind} at the end, and {traced.kind} in the trace']
     if at_end.link != traced.link:
         text_at_end = f'it is a symbolic link to {at_end.link} at the end'
         return [f'{text_at_end}, and one to {traced.link} in the trace']
@@ -151,15 +107,9 @@ def first_paths_of_files(tree: Tree) -> Dict[str, str]:
     """For each path of a tree the first, in the order of a scan, of all paths of its file: the path
     itself if the file has no earlier one."""
     first_paths: Dict[int, str] = {}
-    for path in sorted(tree.files, key=scan_order):
+    for path in sorted(tree.files, key=lambda path: path.split('/')):
         first_paths.setdefault(tree.files[path], path)
     return {path: first_paths[number] for path, number in tree.files.items()}
-
-
-def scan_order(path: str) -> List[str]:
-    """The key that sorts paths as a scan finds them: a directory's entries by their names, and what
-    is below an entry directly after it."""
-    return path.split('/')
 
 
 def lines_on_changed_attributes(

@@ -59,15 +59,18 @@ def group_name(number: int) -> str:
 
 def scan_directory(top: str, is_ignored: IsIgnored, version: int = NEWEST) -> Scan:
     """What traces of a version can have of the directory `top`, and what they can't. Ignored paths,
-    and what is below them, are left out. OSError if the directory isn't there, or if an entry can't
-    be read or is removed meanwhile."""
-    return Scanner(top, is_ignored, version, read_header(top)).scan_all()
-
-
-def read_header(top: str) -> Header:
-    """The owner, group and mode of a directory; OSError if it isn't there."""
+    and what is below them, are left out. A file that also has a name outside the directory, or an
+    ignored one, is noted. OSError if the directory isn't there, or if an entry can't be read or is
+    removed meanwhile."""
     status = os.stat(top)
-    return Header(user_name(status.st_uid), group_name(status.st_gid), status.st_mode & PERMISSIONS)
+    owner, group = user_name(status.st_uid), group_name(status.st_gid)
+    header = Header(owner, group, status.st_mode & PERMISSIONS)
+    scanner = Scanner(top, is_ignored, version, header)
+    scanner.scan_below('')
+    for inode, path in scanner.first_paths.items():
+        if scanner.unseen_names[inode] > 0:
+            scanner.scan.notes.append((path, 'a name outside the directory'))
+    return scanner.scan
 
 
 class Scanner:
@@ -76,27 +79,16 @@ class Scanner:
     found yet."""
 
     def __init__(self, top: str, is_ignored: IsIgnored, version: int, header: Header) -> None:
-        """Reads nothing yet. The header is that of the directory `top`, as read_header() returns
-        it."""
+        """Reads nothing yet. The header is that of the directory `top`."""
         self.top, self.is_ignored, self.version = top, is_ignored, version
         self.scan = Scan(header)
         self.first_paths: Dict[Tuple[int, int], str] = {}
         self.unseen_names: Dict[Tuple[int, int], int] = {}
 
-    def scan_all(self) -> Scan:
-        """Scans the whole directory, and returns the scan; to be called once. A file that also has
-        a name outside the directory, or an ignored one, is noted. OSError if an entry can't be
-        read, or is removed meanwhile."""
-        self.scan_below('')
-        for inode, path in self.first_paths.items():
-            if self.unseen_names[inode] > 0:
-                self.scan.notes.append((path, 'a name outside the directory'))
-        return self.scan
-
     def scan_below(self, parent: str) -> None:
         """Adds the entries of a directory that aren't ignored, in the order of their names, and
         what is below them. `parent` is the directory's path in the scan, but empty for the root.
-        OSError as in scan_all()."""
+        OSError as in scan_directory()."""
         with os.scandir(self.top + parent) as entries:
             names = sorted(entry.name for entry in entries)
         for name in names:
@@ -107,7 +99,7 @@ class Scanner:
     def add_entry(self, path: str, status: os.stat_result) -> None:
         """Adds the entry at a path, and what is below it. `status` is the entry's, not that of a
         link's target. If a trace can't have the entry, it is added to the omissions, and nothing
-        below it is added. OSError as in scan_all()."""
+        below it is added. OSError as in scan_directory()."""
         fault = path_fault(path) or self.kind_fault(path, status)
         if fault:
             self.scan.omissions.append((path, fault))

@@ -137,9 +137,11 @@ def read_link_target(path: str) -> Optional[str]:
 
 
 def record(options: RecordOptions) -> int:
-    """Records a session, writes the trace, and returns the status of report_written_trace(). The
-    options are changed as by prepare_options(). Refused, LogError, Stopped or OSError if no trace
-    is written, or if writing it fails."""
+    """Records a session, replaces OUT by the trace, and returns the status of
+    report_written_trace(). Only OUT's owner may read a trace that has a file or directory which not
+    everybody may read. The options are changed as by prepare_options(). Refused, LogError, Stopped
+    or OSError if no trace is written, or if writing it fails: write_whole_file() says what is left
+    then."""
     prepare_options(options)
     # A wrong --crashfs is refused before COMMAND runs.
     Crashfs.find(options.crashfs)
@@ -154,7 +156,8 @@ def record(options: RecordOptions) -> int:
     )
     run = run_or_load_log(options, files)
     translate_run(options, files, run)
-    write_trace(options, recording)
+    mode = 0o600 if is_private(recording.trace) else 0o666
+    write_whole_file(options.out, (line + '\n' for line in recording.trace.lines()), mode)
     return report_written_trace(options, recording, start_scan, run)
 
 
@@ -202,13 +205,6 @@ def run_or_load_log(options: RecordOptions, files: LiveFiles) -> RecordedRun:
     return run
 
 
-def write_trace(options: RecordOptions, recording: Recording) -> None:
-    """Replaces OUT by the trace. Only OUT's owner may read it if the trace has a file or directory
-    that not everybody may read. OSError as in write_whole_file(), which says what is left then."""
-    mode = 0o600 if is_private(recording.trace) else 0o666
-    write_whole_file(options.out, (line + '\n' for line in recording.trace.lines()), mode)
-
-
 def report_recording(
     options: RecordOptions, recording: Recording, start_scan: Scan, run: RecordedRun
 ) -> int:
@@ -246,8 +242,9 @@ def print_text(text: str) -> None:
 def translate_run(options: RecordOptions, files: LiveFiles, run: RecordedRun) -> None:
     """Translates the log of a run into the recording's operations, and reports what the trace
     can't have, and the faults of the run. With stacks it prints the programs of which no source
-    line is known. Refused if the log of --from-log changes nothing; LogError if a line isn't as
-    strace writes it; OSError if addr2line can't be started."""
+    line is known. Refused if the log of --from-log has no operation in the directory but
+    acknowledgements, also before a later start of the trace; LogError if a line isn't as strace
+    writes it; OSError if addr2line can't be started."""
     recording = files.recording
     report_run_faults(options, recording, run)
     recording.streams.add_text_of_output(run.output_pipe)
@@ -256,7 +253,12 @@ def translate_run(options: RecordOptions, files: LiveFiles, run: RecordedRun) ->
     translate_with_begin_after(options, files, run)
     for path in files_with_path(recording.trace, files.conditions.top):
         recording.report_note(OWN_PATH, path)
-    refuse_log_without_changes(options, files)
+    if options.from_log is not None and not recording.change_count:
+        # Most likely the directory had another path there.
+        raise Refused(
+            f'{options.from_log} changes nothing below {files.conditions.top}: '
+            '--log-dir is the path that DIR had there'
+        )
 
 
 def translate_with_begin_after(options: RecordOptions, files: LiveFiles, run: RecordedRun) -> None:
@@ -294,17 +296,6 @@ def report_run_faults(options: RecordOptions, recording: Recording, run: Recorde
     if run.still_running_text:
         text = f'a process that COMMAND left could not be ended: {run.still_running_text}'
         recording.report(text, '/')
-
-
-def refuse_log_without_changes(options: RecordOptions, files: LiveFiles) -> None:
-    """Refused if the log of --from-log has no operation in the directory but acknowledgements, also
-    before a later start of the trace: most likely the directory had another path there. Nothing
-    without --from-log."""
-    if options.from_log is not None and not files.recording.change_count:
-        raise Refused(
-            f'{options.from_log} changes nothing below {files.conditions.top}: '
-            '--log-dir is the path that DIR had there'
-        )
 
 
 def main(arguments: Optional[List[str]] = None) -> int:

@@ -68,11 +68,6 @@ class RecordOptions:
     trace_version: str
     is_ignored: IgnoreRules = field(init=False)
 
-    def __post_init__(self) -> None:
-        """Sets what the parser can't: that standard output acknowledges something without
-        --say-fd."""
-        self.acknowledging_descriptors = self.acknowledging_descriptors or [*DEFAULT_DESCRIPTORS]
-
     @property
     def version(self) -> Optional[int]:
         """The version of the trace; None for the oldest that has all that happens."""
@@ -253,6 +248,8 @@ def read_options(arguments: List[str]) -> RecordOptions:
         parser.error('--from-log goes with no COMMAND, --mapped, --stacks or --keep-log')
     if values.profile == JOURNAL and values.trace_version == VERSIONS[0]:
         parser.error(f'--profile {JOURNAL} needs --trace-version {VERSIONS[-1]} or {AUTO}')
+    # argparse would add the descriptors of --say-fd to a default.
+    values.acknowledging_descriptors = values.acknowledging_descriptors or [*DEFAULT_DESCRIPTORS]
     return RecordOptions(command=command, **vars(values))
 
 

@@ -2,8 +2,8 @@
 
 from __future__ import annotations
 
-from dataclasses import dataclass
-from typing import Callable, Optional, Sequence, Set
+from dataclasses import dataclass, field
+from typing import Callable, Dict, List, Optional, Sequence, Set, Tuple
 
 from crashfs_tools.common import limits
 from crashfs_tools.common.trace import (
@@ -31,7 +31,6 @@ from crashfs_tools.common.tree import Tree, least_file_size
 from .directory import NEWEST, PERMISSIONS
 from .output_streams import OutputStream, OutputStreams, SayEach
 from .strace_log import Call
-from .troubles import Troubles
 
 
 @dataclass(frozen=True)
@@ -45,6 +44,25 @@ class TraceSettings:
     profile: str = BLOCKS
     block: int = BLOCK_SIZES[-1]
     version: Optional[int] = None
+
+
+@dataclass
+class Trouble:
+    """Something that the trace doesn't have: what it is, the path or stream where it happened, and
+    the numbers of the trace's lines after which it happened, ascending. A note (is_note) changes no
+    verdict on the crash states."""
+
+    what: str
+    where: str
+    is_note: bool = False
+    lines: List[int] = field(default_factory=list)
+
+    def __str__(self) -> str:
+        """The trouble in words, as `/f: a symbolic link was made (after line 7, 2 times)`: only its
+        first line is named. If it has no lines, there is nothing in brackets."""
+        times = f', {len(self.lines)} times' if len(self.lines) > 1 else ''
+        after = f' (after line {self.lines[0]}{times})' if self.lines else ''
+        return f'{self.where}: {self.what}{after}'
 
 
 def path_to_report(operation: Operation) -> str:
@@ -84,7 +102,8 @@ def large_file_reason(path: str) -> str:
 
 
 class Recording:
-    """The trace, the tree at its end, the streams that COMMAND writes to, and the troubles.
+    """The trace, the tree at its end, the streams that COMMAND writes to, and the troubles, in the
+    order in which they came, by what they are and where they happened.
 
     current_call is the call that is translated now; None before the first and after the last. What
     is at one of differing_paths at the end may differ from the trace, as at the troubles' paths.
@@ -96,9 +115,9 @@ class Recording:
         """Begins a trace that has only the header, as begin_trace() does, and makes the streams
         that the settings ask for."""
         self.settings = settings
+        self.troubles: Dict[Tuple[str, str], Trouble] = {}
         self.begin_trace(header)
         self.streams = OutputStreams(settings.acknowledging_descriptors, settings.say_each)
-        self.troubles = Troubles()
         self.differing_paths: Set[str] = set()
         self.current_call: Optional[Call] = None
         self.on_acknowledged: Callable[[Say], None] = lambda acknowledgement: None
@@ -107,13 +126,15 @@ class Recording:
 
     def begin_trace(self, header: Header) -> None:
         """Begins the trace, in the oldest version that the settings allow, and a tree of the root
-        only. An earlier trace and tree are dropped; all else of the recording stays, also
-        change_count."""
+        only. An earlier trace and tree are dropped, and so are the lines of the troubles, which
+        stay, as does all else of the recording, also change_count."""
         profile, block = self.settings.profile, self.settings.block
         version = self.settings.version or WRITTEN_VERSION
         self.trace = Trace(header, version=version, profile=profile, block=block)
         self.tree = Tree(header.owner, header.group, header.mode, block, version, profile)
         self.newest_version_reason = f'--trace-version {NEWEST}' if version >= NEWEST else ''
+        for trouble in self.troubles.values():
+            trouble.lines.clear()
         if profile == JOURNAL:
             self.use_newest_version(f'--profile {JOURNAL}')
 
@@ -149,12 +170,13 @@ class Recording:
 
     def add_trouble(self, what: str, where: str, *, is_note: bool) -> None:
         """Adds a trouble: what happened, and where, which is a path or a stream. The last line that
-        the trace has now becomes its line; it gets none if no call is translated. If the trouble is
-        known already, only the line is added to it. A note (is_note) is as in report_note()."""
-        line = None
+        the trace has now becomes its line; it gets none if no call is translated. If there is a
+        trouble with this `what` and `where`, only the line is added to it. A note (is_note) is as
+        in report_note()."""
+        new_trouble = Trouble(what, where, is_note=is_note)
+        trouble = self.troubles.setdefault((what, where), new_trouble)
         if self.current_call is not None:
-            line = self.trace.line_number(len(self.trace.operations)) - 1
-        self.troubles.add(what, where, line, is_note=is_note)
+            trouble.lines.append(self.trace.line_number(len(self.trace.operations)) - 1)
 
     @property
     def may_have_newest_version(self) -> bool:

@@ -26,13 +26,6 @@ def files_at_start(
     root = Node(is_directory=True, mode=scan.header.mode, traced_paths={'/'})
     tree = LiveTree(root)
     files = LiveFiles(recording, conditions, is_ignored, tree, has_copies=has_copies)
-    add_start_tree(recording, tree, scan)
-    return files
-
-
-def add_start_tree(recording: Recording, tree: LiveTree, scan: Scan) -> None:
-    """Adds a scan to the live tree, which must have only the root, and to the trace's start tree.
-    What the start tree leaves out is reported."""
     for entry in scan.entries[: limits.RECORDS - 1]:
         source = scan.links.get(entry.path)
         if source is None:
@@ -42,6 +35,7 @@ def add_start_tree(recording: Recording, tree: LiveTree, scan: Scan) -> None:
     add_excess_entries(recording, tree, scan.entries[limits.RECORDS - 1 :])
     add_omissions(recording, tree, scan)
     report_notes(recording, scan)
+    return files
 
 
 def add_start_node(recording: Recording, tree: LiveTree, node: Node, line: StartLine) -> None:

@@ -14,10 +14,8 @@ from crashfs_tools.common.program import Crashfs, ProgramFault
 from crashfs_tools.common.trace import Say, Trace
 
 from .comparison import (
-    ProgramReader,
-    LastStateReader,
-    ReplayReader,
-    lines_of_file,
+    entries_by_program,
+    entries_by_replay,
     lines_on_changed_attributes,
     lines_on_differences,
     lines_on_links,
@@ -27,11 +25,12 @@ from .comparison import (
 from .directory import NEWEST, Scan, scan_directory
 from .options import RecordOptions
 from .output_streams import ERRORS, OutputStream
-from .recording import Recording
-from .troubles import Trouble
+from .recording import Recording, Trouble
 
 WHOLE, NOT_WHOLE, NOTED = 0, 3, 4
 NOT_COMPARED = 'its last state was compared with nothing'
+# What computed the last state.
+BY_PROGRAM, BY_REPLAY = 'crashfs tar', "the recorder's replay"
 
 
 @dataclass
@@ -56,7 +55,7 @@ def final_report(
     it didn't fail), with the likely cause; and, without --no-say, on why a loss could stay hidden.
     compare_directory() adds the differences later."""
     report = FinalReport()
-    troubles = list(recording.troubles)
+    troubles = list(recording.troubles.values())
     report.lines = [f'not in the trace: {trouble}' for trouble in troubles if not trouble.is_note]
     report.notes = [f'not in the trace: {line}' for line in lines_on_notes(troubles)]
     if failure is not None:
@@ -156,15 +155,17 @@ def compare_directory(
 ) -> str:
     """Compares the directory with the trace's last state, adds the differences to the report, and
     returns the result in words, with the name of the reader. If the directory can't be read, that
-    is in the report, and nothing is compared. It raises what last_state_readers() and
-    ReplayReader.read_entries() do; the report is as it was then."""
+    is in the report, and nothing is compared. Errors as read_last_state(): the report is as it was
+    then."""
     try:
         at_end = scan_directory(options.directory, options.is_ignored, options.version or NEWEST)
     except OSError as error:
         report.lines.append(f'{error.filename}: {error.strerror}: {NOT_COMPARED}')
         return NOT_COMPARED
-    last_state, reader_name = read_last_state(last_state_readers(options, recording))
-    reported = recording.troubles.reported_paths() | recording.differing_paths
+    last_state, reader_name = read_last_state(options, recording)
+    troubles = recording.troubles.values()
+    reported = {trouble.where for trouble in troubles if not trouble.is_note}
+    reported |= recording.differing_paths
     omitted = {path for path, _ in at_end.omissions}
     differences = (
         lines_on_differences(at_end, last_state, reported | omitted)
@@ -172,7 +173,7 @@ def compare_directory(
         + lines_on_links(at_end, recording.tree, reported)
     )
     report.lines += differences
-    known_paths = {trouble.where for trouble in recording.troubles}
+    known_paths = {trouble.where for trouble in troubles}
     report.notes += lines_on_changed_attributes(at_start, at_end, known_paths)
     report.notes += lines_on_new_notes(at_start, at_end, known_paths)
     verdict = 'differs from' if differences else 'equals'
@@ -180,44 +181,27 @@ def compare_directory(
     return f'its last state {verdict} the directory{exception} (by {reader_name})'
 
 
-def read_last_state(readers: List[LastStateReader]) -> Tuple[Entries, str]:
-    """The entries of the trace's last state, without the root, and the name of the reader that
-    computed them: the first one that raises no ProgramFault. The last one's errors are raised."""
-    *preferred_readers, last_reader = readers
-    for reader in preferred_readers:
-        try:
-            return reader.read_entries(), reader.name
-        except ProgramFault:
-            pass
-    return last_reader.read_entries(), last_reader.name
-
-
-def last_state_readers(options: RecordOptions, recording: Recording) -> List[LastStateReader]:
-    """The readers of the last state, in the order in which they must be tried, and at least one:
-    the program, if it reads the trace's version and the trace isn't too long for it, then a replay.
-    If has_trace() is False for OUT, there is only a replay of the trace in memory. Refused if
-    --crashfs names no program; OSError as in Crashfs.program_for_version()."""
-    if not has_trace(options.out):
-        return [ReplayReader(recording.trace.lines())]
-    readers: List[LastStateReader] = [ReplayReader(lines_of_file(options.out))]
-    program = None if needs_windows(recording) else Crashfs.find(options.crashfs)
+def read_last_state(options: RecordOptions, recording: Recording) -> Tuple[Entries, str]:
+    """The entries of the trace's last state, without the root, and the name of what computed them:
+    the program, if it takes OUT as a whole; else a replay, of the trace in memory if OUT is no
+    plain file. Refused if --crashfs names no program; OSError as in Crashfs.program_for_version(),
+    and if OUT can't be read; other errors as entries_by_replay()."""
+    # `-` is standard output, also if there is a file of this name.
+    if options.out == '-' or not os.path.isfile(options.out):
+        return entries_by_replay(recording.trace.lines()), BY_REPLAY
+    program = None
+    # A longer trace is checked in windows: no plan has all of it.
+    if recording.tree.micro_operations <= MICRO_OPERATIONS:
+        program = Crashfs.find(options.crashfs)
     if program is not None:
         program = program.program_for_version(recording.trace.version)
-        if not program.is_unproved:
-            readers.insert(0, ProgramReader(program, options.out))
-    return readers
-
-
-def has_trace(out: str) -> bool:
-    """Whether OUT is a plain file, which has the trace once that is written. False for `-`, which
-    is standard output, also if there is a file of this name."""
-    return out != '-' and os.path.isfile(out)
-
-
-def needs_windows(recording: Recording) -> bool:
-    """Whether the trace has more micro-operations than one plan may have, so that crashfs-check
-    checks it in windows."""
-    return recording.tree.micro_operations > MICRO_OPERATIONS
+    if program is not None and not program.is_unproved:
+        try:
+            return entries_by_program(program, options.out), BY_PROGRAM
+        except ProgramFault:
+            pass
+    with open(options.out, encoding='utf-8', newline='\n') as lines:
+        return entries_by_replay(lines), BY_REPLAY
 
 
 def summary_line(options: RecordOptions, recording: Recording, comparison: str) -> str:

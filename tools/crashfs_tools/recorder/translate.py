@@ -71,10 +71,11 @@ class Translator:
         self.forks = forks_by_result(log.calls)
 
     def translate_log(self) -> None:
-        """Translates the whole log, and ends the recording, whose current_call is None then.
-        LogError if an argument isn't as strace writes it, with the number of its call's last line,
-        or without a number if the calls can't be put in order. After a LogError the recording has
-        what the calls before did, and isn't ended."""
+        """Translates the whole log, and then adds what comes after the last call, when current_call
+        is None: lines of output without a line feed, the stores that the last copy shows, and
+        reports on names and mapped files that the trace lacks. LogError if an argument isn't as
+        strace writes it, with the number of its call's last line, or without a number if the calls
+        can't be put in order: then the recording has what the calls before did."""
         try:
             self.translate_calls()
         except LogError as error:
@@ -82,7 +83,11 @@ class Translator:
             where = f', in line {call.end}' if call else ''
             raise LogError(f'{error}{where}') from error
         self.recording.current_call = None
-        self.end_recording()
+        self.recording.end_streams()
+        self.add_stores([copy for copy in self.file_copies.copies if copy.is_last])
+        for path in self.file_copies.unopened_paths:
+            self.recording.report('mapped, and it could not be opened to be followed', path)
+        self.report_untraced_names()
 
     def translate_calls(self) -> None:
         """Translates all calls in the order of their operations, each as the recording's
@@ -105,15 +110,6 @@ class Translator:
                 # The trace has their bytes now.
                 call.arguments = []
         self.files.add_ended_syncs(None)
-
-    def end_recording(self) -> None:
-        """Adds what comes after the last call: lines of output without a line feed, the stores that
-        the last copy shows, and reports on names and mapped files that the trace lacks."""
-        self.recording.end_streams()
-        self.add_stores([copy for copy in self.file_copies.copies if copy.is_last])
-        for path in self.file_copies.unopened_paths:
-            self.recording.report('mapped, and it could not be opened to be followed', path)
-        self.report_untraced_names()
 
     def translate_call(self, call: Call) -> None:
         """Translates a call or an event. Of a call that failed or was cut only the stores that its

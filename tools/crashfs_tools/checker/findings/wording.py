@@ -34,9 +34,7 @@ def failing_states_text(count: int) -> str:
 def kind_text(entry: Entry) -> str:
     """What an entry is, without its size: `a file`, `a directory` or a symbolic link with its
     target."""
-    if entry.link is not None:
-        return f'a symbolic link to {entry.link}'
-    return 'a directory' if entry.is_directory else 'a file'
+    return entry.kind if entry.link is None else f'{entry.kind} to {entry.link}'
 
 
 def size_text(entry: Entry) -> str:
