@@ -162,6 +162,14 @@ class Replays(InReplays):
             self.assertEqual(owners.users.number('toor'), 0)
         self.assertEqual(owners.users.name(0), 'root')
 
+    def test_a_user_and_a_group_of_one_name_have_the_numbers_of_their_accounts(self) -> None:
+        user, group = mock.Mock(pw_uid=7), mock.Mock(gr_gid=8)
+        with mock.patch('pwd.getpwnam', return_value=user), mock.patch(
+            'grp.getgrnam', return_value=group
+        ):
+            owners = Owners(read_trace(ALL_KINDS))
+        self.assertEqual((owners.users.number('root'), owners.groups.number('root')), (7, 8))
+
     def test_each_kind_of_operation_has_its_call(self) -> None:
         self.assertEqual(set(CALLS), set(KINDS.values()))
 

@@ -4,7 +4,7 @@ from __future__ import annotations
 
 import grp
 import pwd
-from typing import Dict
+from typing import Callable, Dict
 
 from crashfs_tools.common.trace import (
     Chown,
@@ -24,10 +24,10 @@ FIRST_UNKNOWN = 200_000
 class AccountNumbers:
     """The numbers of users, or of groups. A name keeps the first number that it is given."""
 
-    def __init__(self, *, is_for_groups: bool) -> None:
-        """With is_for_groups they are numbers of groups, otherwise of users. No name has a number
-        yet."""
-        self.is_for_groups = is_for_groups
+    def __init__(self, account_number: Callable[[str], int]) -> None:
+        """account_number returns the number that this machine's accounts have for a name, and
+        raises KeyError if they have none. No name has a number yet."""
+        self.account_number = account_number
         self.numbers: Dict[str, int] = {}
         self.names: Dict[int, str] = {}
 
@@ -43,7 +43,7 @@ class AccountNumbers:
         """A number for a name that has none. Only number() stores it: until then another unknown
         name would get the same one."""
         try:
-            return grp.getgrnam(name).gr_gid if self.is_for_groups else pwd.getpwnam(name).pw_uid
+            return self.account_number(name)
         except KeyError:
             return FIRST_UNKNOWN + len(self.numbers)
 
@@ -59,8 +59,8 @@ class Owners:
 
     def __init__(self, trace: Trace) -> None:
         """Gives each name of the trace its number, for which the system's accounts are read."""
-        self.users = AccountNumbers(is_for_groups=False)
-        self.groups = AccountNumbers(is_for_groups=True)
+        self.users = AccountNumbers(lambda name: pwd.getpwnam(name).pw_uid)
+        self.groups = AccountNumbers(lambda name: grp.getgrnam(name).gr_gid)
         for line in (trace.header, *trace.start, *trace.operations):
             if isinstance(line, (Header, Start, StartSymlink, Creat, Mkdir, Symlink, Chown)):
                 self.users.number(line.owner)
