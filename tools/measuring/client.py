@@ -63,7 +63,7 @@ class Client:
         return fields
 
     def read_whole(self, count: int) -> bytes:
-        """Waits for so many bytes of the replies, and returns them. OSError if the connection ends
+        """Waits for `count` bytes of the replies, and returns them. OSError if the connection ends
         before that."""
         data = self.replies.read(count)
         if len(data) < count:

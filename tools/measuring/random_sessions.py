@@ -57,9 +57,9 @@ SYNCS = (Fsync, Fdatasync, FsyncRange, Sync)
 
 
 def draw_session(seed: int, operation_count: int) -> Trace:
-    """The session of a seed, with so many operations, 0 or more. After each sync, and at the end, a
-    line is acknowledged; these lines aren't counted. A seed always gives the same session: results
-    and pages name sessions by their seeds."""
+    """The session of a seed, with operation_count operations, 0 or more. After each sync, and at
+    the end, a line is acknowledged; these lines aren't counted. A seed always gives the same
+    session: results and pages name sessions by their seeds."""
     session = DrawnSession(seed)
     session.draw_operations(operation_count)
     return session.trace
@@ -92,11 +92,11 @@ class DrawnSession:
         return start
 
     def draw_boolean(self, *, true_once_in: int) -> bool:
-        """Draws true or false: true once in so many draws, on average."""
+        """Draws true or false: true with a chance of one in true_once_in."""
         return self.random.randrange(true_once_in) == 0
 
     def draw_operations(self, count: int) -> None:
-        """Adds so many useful operations, 0 or more, to the trace, with acknowledged lines as
+        """Adds `count` useful operations, 0 or more, to the trace, with acknowledged lines as
         draw_session() says. The last line of the session is added, too: call this only once."""
         for _ in range(count):
             operation = self.draw_useful_operation()

@@ -105,9 +105,9 @@ class Checks:
 
 
 def measure_c_program(folder: str, state_count: int) -> Times:
-    """The times of the C program for so many states, all of which it tries. It is compiled in the
-    folder, and works there. CalledProcessError if it can't be compiled, OSError if there is no cc,
-    or if the program fails."""
+    """The times of the C program for state_count states, all of which it tries. It is compiled in
+    the folder, and works there. CalledProcessError if it can't be compiled, OSError if there is no
+    cc, or if the program fails."""
     program = os.path.join(folder, 'states')
     subprocess.run(['cc', '-O2', '-o', program, str(SOURCE)], check=True)
     command = time_command([program, folder, str(state_count), '/bin/true', *SIZES])
@@ -179,8 +179,8 @@ def add_time_rows(times: AllTimes, tally: Tally) -> None:
 
 
 def rate_line(check: Times, jobs: int) -> str:
-    """The line that says how long a check with so many jobs took, and how many states it had and
-    tried in a second."""
+    """The line that says how long a check by this number of jobs took, and how many states it had
+    and tried in a second."""
     return (
         f'{check.state_count} states, {check.tried_count} of them tried, by {jobs} jobs: '
         f'{check.wall_seconds:.3f} s, {check.state_count / check.wall_seconds:.0f} states and '

@@ -112,10 +112,9 @@ def book_of_fields(path: Path, fields: Dict[str, Any], first_seed: int) -> Book:
 
 def failure_key(failure: Failure) -> str:
     """What is the same of a failure in all sessions: its cause up to the first colon, and its first
-    sentence, if there is one, with `#` in place of each number, with the word `line` if that is
-    before it, each quoted text, and each word of six or more hexadecimal digits, such as a random
-    name. The file has these keys: if they were made in another way, known failures would count as
-    new."""
+    sentence, if there is one, with `#` in place of what varies: numbers of lines (`line 7`), other
+    numbers, quoted texts, and words of six or more hexadecimal digits, such as random names. The
+    file has these keys: if they were made in another way, known failures would count as new."""
     kind = failure.cause.partition(':')[0]
     return VARYING.sub('#', ': '.join([kind, *failure.text[:1]]))
 

@@ -46,7 +46,7 @@ class Campaign:
         a session that has begun is finished. The folder `work` is made first, in place of an old
         one, and removed in the end, also after an exception; what remove_tree() can't remove stays,
         without an error. OSError if the folder can't be made, or as remove_tree(). Raises what
-        try_seed() does: that seed isn't counted as tried, and the next run tries it again."""
+        try_seed() does: the next run tries that seed again, unless the book was saved with it."""
         begin_time, last_seed = time.monotonic(), self.options.seeds[1]
         remove_tree(str(self.work))
         self.work.mkdir()
@@ -125,11 +125,11 @@ class Campaign:
     def keep_session(
         self, entry: KnownFailure, seed: int, shrinking: Shrinking, line_count: int
     ) -> None:
-        """Keeps the session of a seed, up to so many acknowledged lines (0: all of it), as the
-        shortest one of a failure: replaces the entry's trace and page, and then notes the session
-        in the entry. If a check of the cut session finds the failure, the entry describes it as
-        found there. Raises what Shrinking.write_part() does: the entry is as before, but a file of
-        it may be replaced."""
+        """Keeps the session of a seed, up to the acknowledged line number line_count (0: all of
+        it), as the shortest one of a failure: replaces the entry's trace and page, and then notes
+        the session in the entry. If a check of the cut session finds the failure, the entry
+        describes it as found there. Raises what Shrinking.write_part() does: the entry is as
+        before, but a file of it may be replaced."""
         cut_failure = shrinking.write_part(
             line_count, self.results / entry.trace, self.results / entry.page
         )

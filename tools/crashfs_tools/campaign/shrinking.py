@@ -33,7 +33,7 @@ def lines_of_trace(trace: Path) -> List[str]:
 
 class Shrinking:
     """Searches for the shortest part of a session that still has the failure with a key. A part is
-    the beginning of the session up to so many acknowledged lines: say_places has the places of
+    the beginning of the session up to one of its acknowledged lines: say_places has the places of
     these among the trace's lines, and cut is the file that a part is written to."""
 
     def __init__(self, sessions: Sessions, key: str, lines: List[str]) -> None:
@@ -46,10 +46,10 @@ class Shrinking:
         self.cut = sessions.folder / 'cut.trace'
 
     def find_failure(self, line_count: int, page: Optional[Path] = None) -> Optional[Failure]:
-        """Writes the session up to so many acknowledged lines (0: all of it) to the file `cut`, and
-        checks that part, as Sessions.check() does with this page. Returns the failure with the key;
-        None if the check doesn't find it. Raises what Sessions.check() does, and OSError if `cut`
-        can't be written."""
+        """Writes the session, up to the acknowledged line number line_count (0: all of it), to the
+        file `cut`, and checks that part, as Sessions.check() does with this page. Returns the
+        failure with the key; None if the check doesn't find it. Raises what Sessions.check() does,
+        and OSError if `cut` can't be written."""
         last_place = self.say_places[line_count - 1] if line_count else len(self.lines) - 1
         text = ''.join(self.lines[: last_place + 1])
         self.cut.write_text(text, 'utf-8', 'surrogateescape')
@@ -75,10 +75,11 @@ class Shrinking:
         return high
 
     def write_part(self, line_count: int, trace: Path, page: Path) -> Optional[Failure]:
-        """Writes the session up to so many acknowledged lines (0: all of it) to the file `trace`,
-        and the report on it to `page`. Returns the failure as a check finds it in this part; None
-        if the check doesn't find it: the trace is written even so, and the page if the check makes
-        a report. Raises what find_failure() does, and OSError if the trace can't be written."""
+        """Writes the session, up to the acknowledged line number line_count (0: all of it), to the
+        file `trace`, and the report on it to `page`. Returns the failure as a check finds it in
+        this part; None if the check doesn't find it: the trace is written even so, and the page if
+        the check makes a report. Raises what find_failure() does, and OSError if the trace can't be
+        written."""
         failure = self.find_failure(line_count, page)
         trace.write_bytes(self.cut.read_bytes())
         return failure

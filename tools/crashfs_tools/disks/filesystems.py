@@ -86,9 +86,9 @@ NAME_MAKERS = (Creat, Mkdir, Link, Symlink)
 
 
 def with_room_for(filesystem: FileSystem, session_bytes: int) -> FileSystem:
-    """The file system with images that have room for a session of so many bytes. Each byte above
-    USUAL_BYTES adds two to the size, rounded up to whole MiB, since a file system may keep a file's
-    old bytes until the new ones are committed."""
+    """The file system with images that have room for a session of session_bytes bytes. Each byte
+    above USUAL_BYTES adds two to the size, rounded up to whole MiB, since a file system may keep a
+    file's old bytes until the new ones are committed."""
     extra_bytes = max(0, session_bytes - USUAL_BYTES)
     return replace(filesystem, size=filesystem.size + -(-2 * extra_bytes // MEBIBYTE) * MEBIBYTE)
 

@@ -45,10 +45,10 @@ class Flush(NamedTuple):
 
 
 def possible_flushes(kind: FlushKind, unsynced: Unsynced, operation_count: int) -> Iterator[Flush]:
-    """The flushes of a kind, after so many operations, that may write something that no other flush
-    writes. ONE has a flush for each file with unsynced bytes, but none for a single file, as BOTH
-    is the same. EARLIER has a flush for each of earlier_changes(). Other kinds have one, but
-    without unsynced bytes BYTES and BOTH have none."""
+    """The flushes of a kind, after the first operation_count operations, that may write something
+    that no other flush writes. ONE has a flush for each file with unsynced bytes, but none for a
+    single file, as BOTH is the same. EARLIER has a flush for each of earlier_changes(). Other kinds
+    have one, but without unsynced bytes BYTES and BOTH have none."""
     if kind is FlushKind.ONE:
         file_count = len(unsynced) if len(unsynced) > 1 else 0
         yield from (Flush(kind, file_place) for file_place in range(file_count))

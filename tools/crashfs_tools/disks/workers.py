@@ -69,7 +69,7 @@ class DiskWorkers(Generic[Task, Result]):
                 busy_pipes.remove(pipe)
 
     def start_processes(self, count: int) -> None:
-        """Starts so many processes. OSError as start_process(): the ones that were started before
+        """Starts `count` processes. OSError as start_process(): the ones that were started before
         run on, until the end of the `with`."""
         for _ in range(count):
             self.start_process()
