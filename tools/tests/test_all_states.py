@@ -201,8 +201,9 @@ class Reported(InFolder):
                 'unproved: the Python implementation found which states there are, ',
             ),
         ]:
-            self.assertIn(line, self.check('--every', *words)[0])
-            self.assertEqual(len(self.check('--every', *words)), 2)
+            first, second = self.check('--every', *words)[:2]
+            self.assertIn(line, first)
+            self.assertIn(' all 13 crash states (21 sets): none fails', second)
 
     def test_shards_of_all_states_are_merged(self) -> None:
         files = [self.path(f'{part}.json') for part in (1, 2)]

@@ -159,7 +159,7 @@ class Rest(Listing):
         return ran.stdout.splitlines()
 
     def test_the_report_says_how_much_was_tried_and_what_draws_show(self) -> None:
-        head, drawn, rest = self.check('--every', '100')
+        head, _, drawn, rest = self.check('--every', '100')
         self.assertRegex(
             head,
             '^many.trace: 10 micro-operations, [0-9]+ of 1,024 crash states tried: '
@@ -201,7 +201,7 @@ class Rest(Listing):
             self.check('--every', '100', '--shard', f'{part}/2', '--json', path)
         merged = self.run_tool('crashfs-check', '--merge', *paths).stdout.splitlines()
         whole = self.check('--every', '100')
-        self.assertEqual(merged[:2], whole[:2])
+        self.assertEqual(merged[:2], [whole[0], whole[2]])
         self.assertRegex(merged[2], '^  all are more than 100, and would take .*: --every N$')
 
 

@@ -144,7 +144,8 @@ class Stops(InCounted):
         self.ran()
         self.write('on', '')
         ran = self.check('--resume', 'r.json', self.good, command=command)
-        self.assertEqual((ran.returncode, sorted(self.ran())), (0, sorted(silent)))
+        # Then the start tree is tried with all acknowledged lines.
+        self.assertEqual((ran.returncode, sorted(self.ran())), (0, sorted([*silent, 0])))
 
     def test_only_the_same_check_goes_on(self):
         self.check('--json', 'r.json', self.good, command=['true'])
@@ -213,8 +214,8 @@ class Stops(InCounted):
         self.assertEqual(self.ran(), [11, 0, 1, 2, 3, 3, 3])
         ran = self.check('--families', '--fail-fast', self.good, command=['true'])
         self.assertEqual(
-            ran.stdout.partition(': ')[2],
-            '11 micro-operations, 20 states, ' '13 different: none fails\n',
+            ran.stdout.splitlines()[0].partition(': ')[2],
+            '11 micro-operations, 20 states, 13 different: none fails',
         )
 
     def test_the_first_failure_ends_a_check_that_tries_its_states_in_turns(self):

@@ -215,7 +215,8 @@ class Tried(InWindows):
         self.assertEqual((ran.returncode, ran.stderr), (0, ''))
         numbers = [int(line) for line in self.read('log').split()]
         self.assertEqual(numbers[0], NUMBER_OF_END)
-        self.assertEqual(sorted(numbers[1:]), sorted(set(numbers[1:]) - {NUMBER_OF_END}))
+        # After the states of the first window the start tree is tried with all acknowledged lines.
+        self.assertEqual(sorted(numbers[1:]), sorted([0, *set(numbers[1:]) - {NUMBER_OF_END}]))
         self.assertGreater(len(numbers), 15)
 
     def test_no_state_is_tried_twice(self):
@@ -345,9 +346,13 @@ class Limits(InWindows):
         ran = self.run_tool('crashfs-check', '--crashfs', FAKE, '--prefixes', trace, '--', 'true')
         self.assertEqual((ran.returncode, ran.stderr), (0, ''))
         self.assertEqual(
-            ran.stdout,
-            'long.trace: 1,201 micro-operations in 2 windows, 1,202 '
-            'states, 1,202 different: none fails\n',
+            ran.stdout.splitlines(),
+            [
+                'long.trace: 1,201 micro-operations in 2 windows, 1,202 states, 1,202 different: '
+                'none fails',
+                '  COMMAND passes even if the whole session is lost: does it look for what was '
+                'acknowledged?',
+            ],
         )
 
     def test_a_window_has_no_more_states_than_a_plan_takes(self):

@@ -16,6 +16,7 @@ from crashfs_tools.checker.running.progress import Progress
 from crashfs_tools.checker.running.recoveries import FunctionRecovery
 from crashfs_tools.checker.running.results import AllResults, Head, Results, known_states
 from crashfs_tools.checker.running.runner import do_nothing
+from crashfs_tools.checker.running.total_loss import total_loss_question
 from crashfs_tools.checker.running.trials import Trials
 from crashfs_tools.common.command import Refused, print_line, with_program_path
 from crashfs_tools.common.guard import Guard
@@ -283,9 +284,9 @@ class Check:
 
     def report_details(self, window: Window) -> None:
         """Adds to the report what is found after a window's states: how files differ, what the
-        advice changes, second crashes, and what disks leave. Does nothing for a shard or a server.
-        Disks are left out if second crashes ended the check. What was added before an exception
-        stays."""
+        advice changes, or if COMMAND passes where all is lost, second crashes, and what disks
+        leave. Does nothing for a shard or a server. Disks are left out if second crashes ended the
+        check. What was added before an exception stays."""
         if self.is_of_shard_or_server:
             return
         trials, findings = window.trials, window.findings
@@ -294,6 +295,8 @@ class Check:
 
             add_details(trials, self.trace.planner.planner_of_copies(trials.plan), findings)
             self.report.replace_last_window(findings)
+        elif self.report.counts.windows == 1:
+            self.report.total_loss_question = total_loss_question(trials)
         if self.options.nested:
             self.report_recoveries(window)
         if self.options.disks is not None and not self.end_cause:

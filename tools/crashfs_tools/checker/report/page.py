@@ -34,7 +34,11 @@ def page_pieces(report: CheckReport) -> Iterator[str]:
         '<meta name="viewport" content="width=device-width">\n'
         f'<title>{title}</title>\n<style>{STYLE}</style></head>\n<body>\n<h1>{title}</h1>\n'
     )
-    first_lines = [*report_text.first_lines(), *report_text.recovery_counts()]
+    first_lines = [
+        *report_text.first_lines(),
+        *report_text.question_lines(),
+        *report_text.recovery_counts(),
+    ]
     yield elements('p class="summary"', first_lines)
     yield about_line(report)
     groups = sorted(report.groups(), key=lambda group: group.accepted_entry is not None)

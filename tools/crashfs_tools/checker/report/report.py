@@ -62,6 +62,8 @@ class CheckReport:
         self.sightings: Optional[Sightings] = None
         # Options that were given and not done, each with the reason.
         self.not_done: List[str] = []
+        # Asked if COMMAND passes where all that was acknowledged is lost; else empty.
+        self.total_loss_question = ''
 
     def add(self, findings: Findings) -> None:
         """Adds the findings of a window; with has_page also the window's drawing, if it is the

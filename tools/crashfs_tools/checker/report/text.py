@@ -57,6 +57,7 @@ class ReportText:
         return self.first_lines() + [
             cut_text(escape_unprintable(line))
             for line in [
+                *folded_lines(self.question_lines(), '  '),
                 *self.entry_lines(shown),
                 *self.all_syncs_lines(shown),
                 *self.covered_lines(shown, covered),
@@ -146,6 +147,12 @@ class ReportText:
         if self.counts.is_by_second_reading:
             return [SETS_UNPROVED, self.summary()]
         return [self.summary()]
+
+    def question_lines(self) -> List[str]:
+        """The question that is asked if COMMAND passes where all is lost. No line if some state
+        fails: then it notices losses."""
+        question = self.report.total_loss_question
+        return [question] if question and not self.counts.failing_count else []
 
     def cache_lines(self) -> List[str]:
         """A line that counts the outcomes from earlier checks; no line if there are none."""
