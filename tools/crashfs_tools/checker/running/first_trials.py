@@ -4,6 +4,7 @@ so it is COMMAND that is wrong if it doesn't."""
 from __future__ import annotations
 
 import os
+from dataclasses import dataclass
 from typing import List, Optional, Sequence
 
 from crashfs_tools.checker.states.plan import PlannedTrace, State
@@ -17,19 +18,15 @@ END_TREE, START_TREE = "the tree at the session's end", 'the start tree'
 LOSSLESS = 'where nothing is lost'
 
 
+@dataclass
 class FirstTrials:
-    """Tries the tree at the session's end and the start tree. end_plan is the plan of a trace that
-    has only the tree at the end, if the plan of the trials lacks that tree, as that of a window."""
+    """Tries the tree at the session's end and the start tree. The results must be of the plan of
+    the trials. end_plan is the plan of a trace that has only the tree at the end, if the plan of
+    the trials lacks that tree, as that of a window."""
 
-    def __init__(
-        self, trials: Trials, results: Results, end_plan: Optional[PlannedTrace] = None
-    ) -> None:
-        """The results must be of the plan of the trials. Nothing is tried yet."""
-        self.trials = trials
-        self.results = results
-        self.end_plan = end_plan
-        # Whether a command is tried, not a function.
-        self.is_command = trials.options.function is None
+    trials: Trials
+    results: Results
+    end_plan: Optional[PlannedTrace] = None
 
     def run(self) -> None:
         """Tries the two trees, first that at the end. Refused if COMMAND fails in one of them;
@@ -67,6 +64,11 @@ class FirstTrials:
         if number in self.trials.wanted_numbers(self.results):
             self.results.outcomes[number] = outcome
         return outcome
+
+    @property
+    def is_command(self) -> bool:
+        """Whether a command is tried, not a function."""
+        return self.trials.options.function is None
 
     def refusal(self, outcome: Outcome, place: str, hints: List[str]) -> Refused:
         """A new Refused for an outcome that is BAD: the first line of its text has the place and
