@@ -127,9 +127,8 @@ class Order(Listing):
 class Paces(unittest.TestCase):
     def test_a_pace_is_too_slow_once(self) -> None:
         now = [0.0]
-        pace = Pace(600.0, lambda: now[0])
         for each, is_slow in ((0.59, False), (0.61, True)):
-            pace.begin(1_000)
+            pace = Pace(1_000, 600.0, lambda: now[0])
             found = []
             for number in range(2 * MEASURED_STATES):
                 now[0] += each

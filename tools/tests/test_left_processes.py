@@ -147,7 +147,7 @@ class Reapers(InRuns):
         checker = self.checker(script, **more)
         workers = StateWorkers(checker, OneState(self.path('state')), 1, outcomes.__setitem__)
         try:
-            workers.run(set(wanted), dict.fromkeys(wanted, 0))
+            workers.run(dict.fromkeys(wanted, 0))
         finally:
             workers.end(lambda spared: None)
         return outcomes
@@ -195,7 +195,7 @@ class Reapers(InRuns):
             workers = StateWorkers(self.checker('true'), layout, 1, mock.Mock())
             with self.assertRaisesRegex(OSError, 'No space left on device') as raised:
                 try:
-                    workers.run({0}, {0: 0})
+                    workers.run({0: 0})
                 finally:
                     workers.end(lambda spared: None)
         self.assertEqual(raised.exception.filename, '/link\udcff')

@@ -24,33 +24,25 @@ class TooSlow(Exception):
 
 
 class Pace:
-    """Measures how long states take as they are tried. All of them together may take most_seconds:
-    infinity for no limit."""
+    """Measures how long state_count states take as they are tried. All of them together may take
+    most_seconds: infinity for no limit."""
 
     def __init__(
-        self, most_seconds: float = float('inf'), clock: Callable[[], float] = time.monotonic
+        self, state_count: int, most_seconds: float, clock: Callable[[], float] = time.monotonic
     ) -> None:
-        """Begins with 0 states: call begin() with how many there are. `clock` returns seconds."""
+        """No state is counted yet, and the time begins now. `clock` returns seconds."""
+        self.state_count = state_count
         self.most_seconds = most_seconds
         self.clock = clock
-        self.begin(0)
-
-    def begin(self, state_count: int) -> None:
-        """Begins a new measurement with no state counted: state_count states will be tried."""
-        self.state_count = state_count
         self.tried_count = 0
-        self.begin_time = self.clock()
+        self.begin_time = clock()
 
     def count_state(self) -> None:
         """Counts one more state as tried. TooSlow once, when MEASURED_STATES are counted, if all
-        states would take longer than most_seconds at this pace. After that most_seconds is
-        infinite."""
+        states would take longer than most_seconds at this pace."""
         self.tried_count += 1
-        if (
-            self.tried_count == MEASURED_STATES
-            and self.seconds * self.state_count > self.most_seconds
-        ):
-            self.most_seconds = float('inf')
+        is_measured = self.tried_count == MEASURED_STATES
+        if is_measured and self.seconds * self.state_count > self.most_seconds:
             raise TooSlow
 
     @property
@@ -63,8 +55,8 @@ class Pace:
 class Progress:
     """Shows how many states of a part of a check were tried: on a terminal in one line that
     changes, else in a new line every EVERY_SECONDS, also if parts take less time than that; or, on
-    a terminal only, how many moments on disks. If the stream is None, nothing is shown. `pace`
-    counts the states of the part, without a limit."""
+    a terminal only, how many moments on disks. If the stream is None, nothing is shown. `pace` is
+    that of the part."""
 
     def __init__(
         self, stream: Optional[TextIO] = sys.stderr, clock: Callable[[], float] = time.monotonic
@@ -76,18 +68,20 @@ class Progress:
         self.clock = clock
         self.report_time = clock()
         self.is_terminal = stream is not None and stream.isatty()
-        self.pace = Pace(clock=clock)
         self.begin_part(0)
 
-    def begin_part(self, state_count: int, name: str = '') -> None:
-        """Begins a part of state_count states, of which none is counted yet. Its lines begin with
-        its name, which may be empty."""
-        self.pace.begin(state_count)
+    def begin_part(
+        self, state_count: int, name: str = '', most_seconds: float = float('inf')
+    ) -> None:
+        """Begins a part of state_count states, of which none is counted yet, and which may take
+        most_seconds. Its lines begin with its name, which may be empty."""
+        self.pace = Pace(state_count, most_seconds, self.clock)
         self.name = name
         self.failed_count = 0
 
     def add_outcome(self, outcome: Outcome) -> None:
-        """Counts one more state of the part. Then shows the part's progress if a line is_due()."""
+        """Counts one more state of the part. Then shows the part's progress if a line is_due().
+        TooSlow as Pace.count_state(): then nothing is shown."""
         self.pace.count_state()
         self.failed_count += outcome.result == BAD
         if self.is_due():

@@ -4,14 +4,13 @@ What few checks need is imported where they need it."""
 from __future__ import annotations
 
 from dataclasses import dataclass, field, replace
-from functools import cached_property, lru_cache
+from functools import cached_property
 from itertools import product
 from typing import (
     TYPE_CHECKING,
     Callable,
     Dict,
     Iterable,
-    Iterator,
     List,
     Optional,
     Sequence,
@@ -30,7 +29,7 @@ from crashfs_tools.common.limits import RUNS
 from crashfs_tools.common.program import Crashfs
 from crashfs_tools.common.trace_fields import root_owner
 
-from .progress import Pace, Progress, TooSlow
+from .progress import Progress, TooSlow
 from .recoveries import CommandRecovery, FunctionRecovery, StateRecovery
 from .results import Results
 from .runner import BAD, AcknowledgedLines, Checker, Outcome, do_nothing, refuse_left_processes
@@ -128,17 +127,14 @@ class Trials:
         """The outcome of a state, by a run of COMMAND or from the cache. `attempt`, a number below
         ATTEMPTS, says which of the state's outcomes in the cache it is. next_numbers are those of
         the states whose trees are needed next, see PlanTrees.keep(). Exceptions as there and in
-        find_outcomes()."""
-
-        def layout() -> Layout:
-            """A layout that has the state's tree in memory, if it makes states from archives."""
-            if self.options.serve is None:
-                self.trees.keep([state.number], next_numbers)
-            return self.new_layout()
-
+        pass_cached_outcomes(), new_layout() and run_workers()."""
+        number = state.number
         outcomes: Dict[int, Outcome] = {}
-        self.find_outcomes(layout, {state.number}, outcomes.__setitem__, attempt)
-        return outcomes[state.number]
+        if self.pass_cached_outcomes({number}, outcomes.__setitem__, attempt):
+            if self.options.serve is None:
+                self.trees.keep([number], next_numbers)
+            self.run_workers(self.new_layout(), {number}, outcomes.__setitem__, attempt)
+        return outcomes[number]
 
     def run_words(self, words: List[str], number: int) -> Tuple[Outcome, str]:
         """Runs other words than COMMAND in the state of a number, started by this process and never
@@ -153,30 +149,34 @@ class Trials:
         refuse_left_processes(checker.left_processes)
         return outcome, directory
 
-    def try_states(self, batches: Sequence[Set[int]], on_outcome: OnOutcome) -> None:
+    def try_states(
+        self,
+        batches: Sequence[Set[int]],
+        on_outcome: OnOutcome,
+        most_seconds: float = float('inf'),
+    ) -> None:
         """Tries the states of some batches, one batch after the other, shows the progress, and
         calls on_outcome with each number and outcome. With --fail-fast the first failure ends its
-        batch, and no other one is begun. After an exception, as of find_outcomes() or on_outcome,
+        batch, and no other one is begun. TooSlow if all would take longer than most_seconds; other
+        exceptions as in pass_cached_outcomes(), new_layout() and run_workers(). After any of them
         on_outcome was called for all outcomes found before."""
         progress = self.workplace.progress
-        progress.begin_part(sum(map(len, batches)), self.planned.window_text())
-        seen_results: Set[str] = set()
+        progress.begin_part(sum(map(len, batches)), self.planned.window_text(), most_seconds)
 
         def report_outcome(number: int, outcome: Outcome) -> None:
             """Passes an outcome to on_outcome, and then counts it; not after an exception."""
             on_outcome(number, outcome)
             progress.add_outcome(outcome)
-            seen_results.add(outcome.result)
 
-        @lru_cache(None)
-        def layout() -> Layout:
-            """One layout for all batches, made when the first state must be run."""
-            return self.new_layout(is_for_many=True)
-
+        layout: Optional[Layout] = None
         try:
             for batch in batches:
-                self.find_outcomes(layout, batch, report_outcome)
-                if self.options.fail_fast and BAD in seen_results:
+                uncached = self.pass_cached_outcomes(batch, report_outcome)
+                if uncached:
+                    # One for all batches: the program may be started for it.
+                    layout = layout or self.new_layout(is_for_many=True)
+                    self.run_workers(layout, uncached, report_outcome)
+                if self.options.fail_fast and progress.failed_count:
                     break
         finally:
             progress.end_part()
@@ -188,44 +188,26 @@ class Trials:
 
         return StateKeys(self.planned.trace, self.plan, self.acknowledged_lines.texts)
 
-    def find_outcomes(
-        self,
-        layout: Callable[[], Layout],
-        wanted: Set[int],
-        on_outcome: OnOutcome,
-        attempt: int = 0,
-    ) -> None:
-        """Gives on_outcome the outcome of each wanted state: first those in the cache, ascending,
-        then those of runs of COMMAND, which the cache gets. With --fail-fast it ends at the first
-        failure, also one in the cache. `layout` is called once, if any state must be run.
-        Exceptions as in cached_outcomes(), run_workers() and `layout`."""
-        uncached = set(wanted)
-        for number, outcome in self.cached_outcomes(wanted, attempt):
-            uncached.remove(number)
-            on_outcome(number, outcome)
-            if self.options.fail_fast and outcome.result == BAD:
-                return
-
-        def keep_outcome(number: int, outcome: Outcome) -> None:
-            """Adds an outcome to the cache, if there is one, and passes it to on_outcome."""
-            if self.workplace.cache is not None:
-                self.workplace.cache.add(self.state_keys.key(number, attempt), outcome)
-            on_outcome(number, outcome)
-
-        if uncached:
-            self.run_workers(layout(), uncached, keep_outcome)
-
-    def cached_outcomes(self, wanted: Set[int], attempt: int) -> Iterator[Tuple[int, Outcome]]:
-        """Looks up the wanted states in the cache, ascending, each when the caller asks for it, and
-        yields those that are there, with their outcomes of one attempt; none without a cache.
-        ReadingFault if the second reading refuses the trace, OSError if the trace is gone."""
+    def pass_cached_outcomes(
+        self, wanted: Set[int], on_outcome: OnOutcome, attempt: int = 0
+    ) -> Set[int]:
+        """Gives on_outcome those outcomes of the wanted states that the cache has, ascending, and
+        returns the numbers of the states that it lacks: all without a cache, none after a failure
+        with --fail-fast. ReadingFault if the second reading refuses the trace, OSError if the trace
+        is gone, or what on_outcome raises."""
         cache = self.workplace.cache
         if cache is None:
-            return
+            return wanted
+        uncached = set()
         for number in sorted(wanted):
             outcome = cache.look_up(self.state_keys.key(number, attempt))
-            if outcome is not None:
-                yield number, outcome
+            if outcome is None:
+                uncached.add(number)
+                continue
+            on_outcome(number, outcome)
+            if self.options.fail_fast and outcome.result == BAD:
+                return set()
+        return uncached
 
     def drop_from_cache(self, numbers: Iterable[int]) -> None:
         """Drops the outcomes of all attempts in the states of these numbers from the cache, if
@@ -234,19 +216,28 @@ class Trials:
             for number, attempt in product(numbers, range(ATTEMPTS)):
                 self.workplace.cache.drop(self.state_keys.key(number, attempt))
 
-    def run_workers(self, layout: Layout, wanted: Set[int], on_outcome: OnOutcome) -> None:
-        """Runs COMMAND in some states, in processes that end with this one, and gives on_outcome
-        each outcome. With --fail-fast the first failure ends them. A fault of a process is raised,
-        such as Refused, ProgramFault or OSError. Afterwards all that was started has ended: if
-        something can't be ended, LeftRunning is raised, after all outcomes, and at once in each
-        later call."""
+    def run_workers(
+        self, layout: Layout, wanted: Set[int], on_outcome: OnOutcome, attempt: int = 0
+    ) -> None:
+        """Runs COMMAND in some states, in processes that end with this one. Adds each outcome to
+        the cache, if there is one, and gives it to on_outcome. With --fail-fast the first failure
+        ends the processes. A fault of a process is raised, such as Refused, ProgramFault or
+        OSError. Afterwards all that was started has ended: if something can't be ended, LeftRunning
+        is raised, after all outcomes, and at once in each later call."""
+
+        def keep_outcome(number: int, outcome: Outcome) -> None:
+            """Adds an outcome to the cache, if there is one, and passes it to on_outcome."""
+            if self.workplace.cache is not None:
+                self.workplace.cache.add(self.state_keys.key(number, attempt), outcome)
+            on_outcome(number, outcome)
+
         refuse_left_processes(self.workplace.left_processes)
         options = self.options
         workers = StateWorkers(
-            self.new_checker(), layout, options.jobs, on_outcome, fail_fast=options.fail_fast
+            self.new_checker(), layout, options.jobs, keep_outcome, fail_fast=options.fail_fast
         )
         try:
-            workers.run(wanted, {state.number: state.says for state in self.plan.listed})
+            workers.run({number: self.plan.state(number).says for number in wanted})
         finally:
             workers.end(self.guard.end_processes)
             self.workplace.left_processes.update(
@@ -269,40 +260,41 @@ class Trials:
         return numbers
 
     def try_all(self, results: Results, after_each: Callable[[], None] = do_nothing) -> bool:
-        """Tries the states of the shard that have no outcome yet, as try_left() does, adds each
-        outcome to the results, and then calls after_each. If all crash states are asked for, but
-        are too many or too slow, only the families and what was drawn are chosen in the results.
-        Returns whether each state to try has an outcome: with --fail-fast some may lack one."""
+        """Tries the states of the shard that have no outcome yet, as try_left() does. If all crash
+        states are asked for, but are too many or too slow, only the families and what was drawn are
+        chosen in the results. Returns whether each state to try has an outcome: with --fail-fast
+        some may lack one."""
         plan = results.plan
         if plan.all_states is not None and not plan.has_all_states:
             results.choose(states_in_batches(results, has_all=False))
         # Families alone are tried however long they take.
         is_bounded = plan.all_states is not None and results.chosen_numbers is None
-        pace = Pace(self.options.most_seconds if is_bounded else float('inf'))
+        if is_bounded:
+            try:
+                return self.try_left(results, after_each, self.options.most_seconds)
+            except TooSlow:
+                results.choose(states_in_batches(results, has_all=False))
+        return self.try_left(results, after_each, float('inf'))
+
+    def try_left(
+        self, results: Results, after_each: Callable[[], None], most_seconds: float
+    ) -> bool:
+        """Tries the states of the shard that have no outcome yet, adds each outcome to the results,
+        and then calls after_each. Sets seconds_per_state of the results by the pace, also after an
+        exception. Returns whether each of the states has an outcome then. Exceptions as in
+        try_states() and wanted_numbers()."""
+        left_numbers = self.wanted_numbers(results) - set(results.outcomes)
 
         def keep_outcome(number: int, outcome: Outcome) -> None:
-            """Keeps an outcome, before after_each or the pace may raise."""
+            """Keeps an outcome, before after_each may raise an exception."""
             results.outcomes[number] = outcome
             after_each()
-            pace.count_state()
 
+        batches = self.divide_in_batches(results, left_numbers)
         try:
-            return self.try_left(results, pace, keep_outcome)
-        except TooSlow:
-            results.choose(states_in_batches(results, has_all=False))
-        # The pace raises that only once.
-        return self.try_left(results, pace, keep_outcome)
-
-    def try_left(self, results: Results, pace: Pace, on_outcome: OnOutcome) -> bool:
-        """Tries the states of the shard that have no outcome yet, which on_outcome must add to the
-        results. Begins a measurement of the pace, and sets seconds_per_state of the results by it,
-        also after an exception. Returns whether each of the states has an outcome then. Exceptions
-        as in try_states() and wanted_numbers()."""
-        left_numbers = self.wanted_numbers(results) - set(results.outcomes)
-        pace.begin(len(left_numbers))
-        try:
-            self.try_states(self.divide_in_batches(results, left_numbers), on_outcome)
+            self.try_states(batches, keep_outcome, most_seconds)
         finally:
+            pace = self.workplace.progress.pace
             results.seconds_per_state = pace.seconds or results.seconds_per_state
         return left_numbers <= set(results.outcomes)
 

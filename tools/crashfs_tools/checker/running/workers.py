@@ -9,7 +9,7 @@ import signal
 import time
 from dataclasses import dataclass, replace
 from functools import partial
-from typing import Any, Callable, Dict, List, NoReturn, Optional, Set
+from typing import Any, Callable, Dict, List, NoReturn, Set
 
 from crashfs_tools.checker.states.layout import Layout
 from crashfs_tools.common.command import Refused, ending_text
@@ -39,14 +39,6 @@ class Worker:
     process: int
     pipe: int
     partial_line: bytes = b''
-
-    def read_lines(self) -> Optional[List[bytes]]:
-        """Waits for a piece of what the process writes, and returns the lines that end in that
-        piece, maybe none. None at the end of the pipe: a line without an end is dropped there.
-        BlockingIOError if the pipe is set not to block, and nothing is there."""
-        piece = os.read(self.pipe, PIECE_BYTES)
-        *lines, self.partial_line = (self.partial_line + piece).split(b'\n')
-        return lines if piece else None
 
 
 class Outbox:
@@ -112,13 +104,13 @@ class StateWorkers:
         self.left_processes: Dict[int, str] = {}
         self.life_pipe, self.life_writer = os.pipe()
 
-    def run(self, wanted: Set[int], line_counts: Dict[int, int]) -> None:
-        """Runs the recovery in each wanted state, with as many acknowledged lines as line_counts
-        has by the state's number. Returns when all processes have ended or, with fail_fast, at the
+    def run(self, line_counts: Dict[int, int]) -> None:
+        """Runs the recovery in each state of line_counts, which has by the state's number how many
+        acknowledged lines it gets. Returns when all processes have ended or, with fail_fast, at the
         first failure. Raises the first fault that a process reports, and what on_outcome raises;
         Refused if a process was killed, OSError if one can't be started. Other processes may still
         run after a failure or an exception."""
-        self.start_workers(sorted(wanted), line_counts)
+        self.start_workers(line_counts)
         while self.workers and not self.has_failed:
             for worker in self.ready_workers():
                 if not self.read_outcomes(worker):
@@ -133,17 +125,20 @@ class StateWorkers:
         return [workers[pipe] for pipe, _ in ready]
 
     def read_outcomes(self, worker: Worker) -> bool:
-        """Waits for lines of a process, and handles them. Returns False at the end of its pipe. If
-        one of the lines is a fault, or on_outcome raises an exception, that is raised, and the
-        lines after it are lost. BlockingIOError as in Worker.read_lines()."""
-        lines = worker.read_lines()
-        for line in lines or []:
+        """Waits for a piece of what a process sends, and handles the lines that end in it. Returns
+        False at the end of its pipe: a line without an end is dropped there. If one of the lines is
+        a fault, or on_outcome raises an exception, that is raised, and the lines after it are lost.
+        BlockingIOError if the pipe is set not to block, and nothing is there."""
+        piece = os.read(worker.pipe, PIECE_BYTES)
+        *lines, worker.partial_line = (worker.partial_line + piece).split(b'\n')
+        for line in lines:
             self.handle_line(line)
-        return lines is not None
+        return bool(piece)
 
-    def start_workers(self, numbers: List[int], line_counts: Dict[int, int]) -> None:
+    def start_workers(self, line_counts: Dict[int, int]) -> None:
         """Starts a process for each job, or fewer if there are fewer states: the k-th of n gets
         each n-th number, from the k-th on. OSError as start_worker(): the others run then."""
+        numbers = sorted(line_counts)
         worker_count = min(self.jobs, len(numbers))
         for place in range(worker_count):
             self.start_worker(numbers[place::worker_count], line_counts)
