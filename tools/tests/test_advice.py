@@ -85,6 +85,10 @@ class Points(unittest.TestCase):
                 {2: '/d/f/a', 3: '/d/f', 6: '/d/f/a', 7: '/d/f'},
             )
 
+    def test_lost_lines_that_no_sync_makes_durable_are_left_out(self):
+        lines = lines_of(write('/f', 'x'), line('say', text='stored'), write('/g', 'x'))
+        self.assertEqual(sync_points([(2, 4), (3, 4), (5, 6)], lines), {2: '/f'})
+
     def test_two_paths_may_be_synced_after_one_line(self):
         text = with_syncs('1\n2\n3', [(2, '/b'), (2, '/a'), (3, '/')])
         self.assertEqual(

@@ -144,6 +144,27 @@ class Blame(unittest.TestCase):
         ):
             self.assertEqual(Pair.of_set(kept_set), pair)
 
+    def test_a_pair_explains_sets_with_the_kept_and_without_the_lost_one(self):
+        for pair, kept_set, may_explain in (
+            (Pair(4, 1), 0b11001, True),
+            (Pair(4, 1), 0b11011, False),
+            (Pair(4, 1), 0b01001, False),
+            (Pair(None, 1), 0b00001, False),
+            (Pair(4, None), 0b10000, False),
+        ):
+            self.assertEqual(pair.may_explain(kept_set), may_explain, (pair, bin(kept_set)))
+
+    def test_states_that_were_not_tried_are_skipped(self):
+        plan = read_plan(LISTED)
+        for number, untried, failing, pair in (
+            (9, 8, (7, 9), Pair(2, 1)),
+            (9, 8, (9,), Pair(4, 1)),
+            (2, 3, (2,), Pair(1, 3)),
+        ):
+            outcomes = {state: Outcome(GOOD) for state in range(13) if state != untried}
+            outcomes.update({state: LOST for state in failing})
+            self.assertEqual(Pairs(plan, outcomes).pair_of(plan.listed[number]), pair)
+
     def test_a_hole_is_what_was_lacking_when_it_began_to_fail(self):
         self.assertEqual(self.pair(9, [9]), Pair(4, 1))
         self.assertEqual(self.pair(9, [7, 8, 9]), Pair(2, 1))
