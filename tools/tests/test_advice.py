@@ -8,7 +8,7 @@ from pathlib import Path
 from types import SimpleNamespace
 from unittest import mock
 
-from crashfs_tools.checker.findings.advice import Advice, AdviceResult
+from crashfs_tools.checker.findings.advice import Advice, AdviceResult, FailingCounts
 from crashfs_tools.checker.findings.swaps import Swap, lines_to_move
 from crashfs_tools.checker.findings.sync_points import sync_points
 from crashfs_tools.checker.report.text import ReportText
@@ -101,7 +101,7 @@ class Points(unittest.TestCase):
 class Said(unittest.TestCase):
     def test_advice_that_leaves_as_many_failures_is_none(self):
         advice = Advice(['line 2 was not durable:'], 'fsync /f between them', {2: '/f'})
-        advice.result = AdviceResult(0, 2, 84, 84, before=84, after=84)
+        advice.result = AdviceResult(0, 2, 84, 84, FailingCounts(84, 84))
         self.assertEqual(
             advice.lines(),
             [
@@ -110,7 +110,7 @@ class Said(unittest.TestCase):
                 '(84 states fail then, 84 before)',
             ],
         )
-        advice.result = AdviceResult(0, 2, 82, 82, before=84, after=82)
+        advice.result = AdviceResult(0, 2, 82, 82, FailingCounts(84, 82))
         self.assertEqual(advice.lines()[1], 'fsync /f between them')
         self.assertIn('tried: with that sync 0 of these 2 states', advice.lines()[2])
 

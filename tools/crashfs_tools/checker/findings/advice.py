@@ -54,36 +54,27 @@ class AdviceResult:
     """What the advice on a group does, tried on a copy of the trace; all numbers count different
     states. The group has group_states, of which a crash of the copy may still leave states_left. Of
     the copy's other states other_failures fail, of which earlier_failures failed without the advice
-    too. before and after are how many fail in all, without the advice and with it."""
+    too. failing_counts has how many fail in all, without the advice and with it."""
 
     states_left: int
     group_states: int
     other_failures: int
     earlier_failures: int = 0
-    before: int = 0
-    after: int = 0
+    failing_counts: FailingCounts = FailingCounts(0, 0)
 
     def __add__(self, other: AdviceResult) -> AdviceResult:
         """The results for two groups of different windows that are one entry, added up. A failing
-        state that both windows have counts twice in before and after."""
+        state that both windows have counts twice in failing_counts."""
+        own_counts, other_counts = self.failing_counts, other.failing_counts
         return AdviceResult(
             self.states_left + other.states_left,
             self.group_states + other.group_states,
             self.other_failures + other.other_failures,
             self.earlier_failures + other.earlier_failures,
-            self.before + other.before,
-            self.after + other.after,
+            FailingCounts(
+                own_counts.before + other_counts.before, own_counts.after + other_counts.after
+            ),
         )
-
-    @property
-    def failing_counts(self) -> FailingCounts:
-        """How many different states fail in all, without the advice and with it."""
-        return FailingCounts(self.before, self.after)
-
-    @property
-    def is_helpful(self) -> bool:
-        """Whether fewer states fail with the advice than without it."""
-        return self.failing_counts.is_lower
 
     def text(self, sync_count: int) -> str:
         """A sentence on advice that helps: how many of the group's states are left, and how many
@@ -115,7 +106,8 @@ class AdviceResult:
     def not_enough_text(self, remedy: str) -> str:
         """A sentence on advice that doesn't help: the remedy, and how many states fail with it and
         without it, in all."""
-        failing = f'{failing_states_text(self.after)} then, {self.before:,} before'
+        counts = self.failing_counts
+        failing = f'{failing_states_text(counts.after)} then, {counts.before:,} before'
         return f'tried, and not enough alone: {remedy} ({failing})'
 
 
@@ -132,10 +124,10 @@ class Advice:
 
     def lines(self) -> List[str]:
         """The lines of a report: the sentence, the remedy, and the result if the advice was tried.
-        If the advice isn't helpful, the remedy is only a part of the result."""
+        If no fewer states fail with the advice, the remedy is only a part of the result."""
         if self.result is None:
             return self.text + ([self.remedy] if self.remedy else [])
-        if not self.result.is_helpful:
+        if not self.result.failing_counts.is_lower:
             return [*self.text, self.result.not_enough_text(self.remedy)]
         return [*self.text, self.remedy, self.result.text(len(self.syncs))]
 

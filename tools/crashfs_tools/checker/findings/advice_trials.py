@@ -188,8 +188,7 @@ class AdviceTrials:
             group.count,
             other_failures,
             earlier_failures,
-            before=self.failing_before,
-            after=count_failing_states(plan, self.outcomes),
+            FailingCounts(self.failing_before, count_failing_states(plan, self.outcomes)),
         )
 
     def try_copy_states(self, planned: PlannedTrace) -> None:
