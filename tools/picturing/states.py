@@ -155,7 +155,7 @@ def states_picture(checked: CheckedExample) -> str:
     draw_picks(picture, drawing)
     group = checked.report.groups()[0]
     picture.y += 8
-    picture.add_lines(textwrap.wrap(group.cause, COLUMNS), 'title bad')
+    picture.add_lines(textwrap.wrap(group.outcome.cause, COLUMNS), 'title bad')
     for detail in ReportText(checked.report).details(group):
         picture.add_lines(textwrap.wrap(detail, COLUMNS, subsequent_indent='  '))
     return picture.svg_file(STYLE)

@@ -93,6 +93,6 @@ def timeline_picture(checked: CheckedExample, first_number: int, verdict: str) -
     picture.add_line('The power fails. The disk has:', 'title')
     draw_files(picture, files)
     picture.y += 6
-    picture.add_line(group.cause, 'title bad')
+    picture.add_line(group.outcome.cause, 'title bad')
     picture.add_lines(textwrap.wrap(verdict, COLUMNS))
     return picture.svg_file()

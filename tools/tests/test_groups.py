@@ -134,7 +134,7 @@ class Groups(unittest.TestCase):
 
         report = report_of(text, cause)
         self.assertEqual(
-            {(group.cause, group.lost_line.text) for group in report.groups()},
+            {(group.outcome.cause, group.lost_line.text) for group in report.groups()},
             {('lost: a is old', 'rename /a+ to /a'), ('lost: b is old', 'rename /b+ to /b')},
         )
 

@@ -185,7 +185,7 @@ class Guesses(InStore):
         self.assertFalse([group for group in findings.groups if group.pair.is_guess])
         self.assertLess(len(runs), 12 * len(states))
         for group in findings.groups:
-            if group.cause == 'lost: b':
+            if group.outcome.cause == 'lost: b':
                 self.assertEqual(group.lost_line.text, 'rename /new to /table')
                 self.assertEqual(group.kept_line.text, 'say "b"')
 

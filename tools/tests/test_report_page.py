@@ -273,7 +273,7 @@ class JUnit(unittest.TestCase):
     def test_a_state_without_an_answer_is_an_error(self):
         findings = odd_findings()
         for group in findings.groups:
-            group.outcome = Outcome(NO_ANSWER, group.cause)
+            group.outcome = Outcome(NO_ANSWER, group.outcome.cause)
         report = reported(findings)
         suite = minidom.parseString(''.join(junit_lines(report))).documentElement
         self.assertEqual(

@@ -98,7 +98,7 @@ class Points(unittest.TestCase):
             if outcome.result == BAD:
                 findings.results.outcomes[number] = Outcome(NO_ANSWER, outcome.cause)
         for group in findings.groups:
-            group.outcome = Outcome(NO_ANSWER, group.cause)
+            group.outcome = Outcome(NO_ANSWER, group.outcome.cause)
         self.assert_fails_with_the_status(reported(findings), 3)
 
     def test_a_known_failure_is_skipped_with_its_reason(self) -> None:

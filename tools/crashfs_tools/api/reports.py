@@ -162,7 +162,7 @@ class Report:
         """A group of states as an entry. The entry's lists and dicts are its own, so a caller may
         change them."""
         return Entry(
-            group.cause,
+            group.outcome.cause,
             self._text.details(group),
             [state.number for state in group.states],
             group.count,

@@ -10,7 +10,7 @@ from crashfs_tools.checker.running.runner import GOOD, GOOD_OUTCOME, Outcome
 from crashfs_tools.checker.states.place_sets import places_of, size_of
 from crashfs_tools.checker.states.plan import Plan, State
 from crashfs_tools.common.entry import parent_of
-from crashfs_tools.common.trace_lines import SYNCS, TraceLine, without_numbers
+from crashfs_tools.common.trace_lines import SYNCS, TraceLine
 
 from .advice import (
     NOT_REPRODUCIBLE,
@@ -82,11 +82,6 @@ class Group:
     explained_states: FrozenSet[TriedState] = frozenset()
 
     @property
-    def cause(self) -> str:
-        """The cause of the example."""
-        return self.outcome.cause
-
-    @property
     def count(self) -> int:
         """How many different states of the group were tried in its windows, at least 1: the windows
         before may have tried them all."""
@@ -96,7 +91,7 @@ class Group:
     def as_accepted(self) -> AcceptedFailure:
         """The group as an entry of a file of accepted failures, with an empty reason."""
         lost, kept = operation_text(self.lost_line), operation_text(self.kept_line)
-        return AcceptedFailure(self.cause, lost, kept, '')
+        return AcceptedFailure(self.outcome.cause, lost, kept, '')
 
     @property
     def is_reproducible(self) -> bool:
@@ -131,7 +126,7 @@ class Group:
         """A key that is equal for groups that are one entry of a report. It has the cause without
         numbers and the result; if the example is reproducible, also whether a line is torn, whether
         the failure needs a loss, and the statements of the two lines."""
-        cause_and_result = without_numbers(self.cause), self.outcome.result
+        cause_and_result = self.outcome.cause_without_numbers, self.outcome.result
         if not self.is_reproducible:
             return cause_and_result
         lines = (self.kept_line, self.lost_line)
@@ -212,19 +207,13 @@ class Findings:
         self.groups = self.make_groups()
         self.complete_groups()
 
-    def own_states_with_outcome(self) -> List[State]:
-        """The states that the window before doesn't have, and that have an outcome, which may be
-        that of an equal state."""
-        return [
-            state for state in self.results.own_states if state.number in self.outcomes_by_state
-        ]
-
     def make_groups(self) -> List[Group]:
         """The groups of the window's own states that fail or gave no answer, the largest first; the
         example of each lacks the least. Second runs and advice are missing: complete_groups()
         adds them."""
         failing = [state for state in self.results.own_states if self.is_failure(state)]
-        groups = merged_groups(map(self.group_of_state, sorted(failing, key=self.example_order)))
+        failing.sort(key=lambda state: (size_of(self.plan.set_lost_by(state)), state.number))
+        groups = merged_groups(map(self.group_of_state, failing))
         for group in groups:
             group.lost_lines = self.lost_lines(group.example)
             group.needed_lines = self.needed_lines(group)
@@ -278,20 +267,18 @@ class Findings:
         )
         return outcome.result != GOOD and not is_ignored
 
-    def example_order(self, state: State) -> Tuple[int, int]:
-        """The key by which failing states are sorted, so that an example lacks the least: how many
-        micro-operations a state lacks before its last one, then its number."""
-        return size_of(self.plan.set_lost_by(state)), state.number
-
     def group_of_state(self, state: State) -> Group:
         """A group of this failing state only. The advice, and what make_groups() sets in merged
         groups, such as their lost lines, are missing."""
         loss = self.losses.get(state.number)
         pair = loss.pair if loss else self.pairs.pair_of(state)
         kept, lost = self.line_at(pair.kept), self.line_at(pair.lost)
-        tried, allowed = self.tried_states(state), self.plan.profile_names_of(state)
-        is_explained = pair.may_explain(self.plan.kept[state.number])
         no_states: FrozenSet[TriedState] = frozenset()
+        # None if the window before tried an equal state.
+        number = self.results.own_numbers.get(state.trial)
+        tried = no_states if number is None else frozenset([(number,)])
+        is_explained = pair.may_explain(self.plan.kept[state.number])
+        allowed = self.plan.profile_names_of(state)
         return Group(
             outcome=self.outcomes_by_state[state.number],
             example=state,
@@ -306,12 +293,6 @@ class Findings:
             },
             explained_states=tried if is_explained else no_states,
         )
-
-    def tried_states(self, state: State) -> FrozenSet[TriedState]:
-        """The number of the state that is tried for a state, as the only member of a set; an empty
-        set if the window before tried it."""
-        number = self.results.tried_numbers[state.trial]
-        return frozenset() if number in self.results.numbers_before else frozenset([(number,)])
 
     def line_at(self, place: Optional[int]) -> Optional[TraceLine]:
         """The line of the micro-operation at a place; if the report lacks that line, a new one with

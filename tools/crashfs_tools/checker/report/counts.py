@@ -82,8 +82,9 @@ class StateCounts:
         self.drawn_results.update(outcome.result for outcome in drawn_outcomes(findings))
         self.tried_states += len(outcomes)
         self.all_failing_states += sum(
-            findings.outcomes_by_state[state.number].result == BAD
-            for state in findings.own_states_with_outcome()
+            outcome.result == BAD
+            for number, outcome in findings.outcomes_by_state.items()
+            if number not in results.numbers_before
         )
         self.results.update(outcome.result for outcome in outcomes)
         self.cause_kinds.update(outcome.cause_kind for outcome in outcomes if outcome.result == BAD)

@@ -61,7 +61,7 @@ def recovery_fields(recovery: Recovery) -> Dict[str, Any]:
     `text` of a group is only the advice."""
     groups = [
         {
-            'cause': group.cause,
+            'cause': group.outcome.cause,
             'states': [state.number for state in group.states],
             'example': group.example.number,
             'crash': recovery.crash_places[group.example.number],
@@ -81,7 +81,7 @@ def group_fields(report: CheckReport, group: Group) -> Dict[str, Any]:
     """What the JSON has of an entry. It has `good` and `differences` only if the files of the
     entry's example were compared. `lost` has the numbers of the lines that the example lacks."""
     fields = {
-        'cause': group.cause,
+        'cause': group.outcome.cause,
         'states': [state.number for state in group.states],
         'different': group.count,
         'under': counts_by_profile(group),

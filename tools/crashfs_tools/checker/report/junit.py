@@ -51,9 +51,9 @@ def case_names(entries: List[ReportEntry]) -> Iterator[str]:
     entry has this cause."""
     counts: Counts[str] = Counter()
     for group, _ in entries:
-        counts[group.cause] += 1
-        number = counts[group.cause]
-        yield f'{group.cause} ({number})' if number > 1 else group.cause
+        cause = group.outcome.cause
+        counts[cause] += 1
+        yield f'{cause} ({counts[cause]})' if counts[cause] > 1 else cause
 
 
 def suite_counts(report: CheckReport, entries: List[ReportEntry]) -> str:

@@ -96,9 +96,9 @@ def entry_section(report: CheckReport, group: Group) -> Iterator[str]:
     """An entry as HTML: its cause, its details, its two lines of the trace, how files differ, and
     the end of what COMMAND printed in the example. What isn't known is left out. Of a line that the
     report doesn't have only the number is shown."""
-    states = states_and_example(group)
+    cause, states = shown_text(group.outcome.cause), shown_text(states_and_example(group))
     css_class = '' if group.accepted_entry is None else ' class="accepted"'
-    yield f'<section{css_class}><h2>{shown_text(group.cause)}</h2><p>{shown_text(states)}</p>\n'
+    yield f'<section{css_class}><h2>{cause}</h2><p>{states}</p>\n'
     yield f'<ul>\n{elements("li", ReportText(report).details(group))}</ul>\n'
     yield '<table class="session">\n'
     for line in lines_of_pair(group):
@@ -128,7 +128,7 @@ def second_crash_lines(group: Group, second_crash: SecondCrash) -> Iterator[str]
     end of what COMMAND printed in the example, if it printed anything."""
     states = states_and_example(group, second_crash)
     details = second_crash_details(group, second_crash)
-    yield f'<h3>{shown_text(group.cause)}</h3>\n<p>{shown_text(states)}</p>\n'
+    yield f'<h3>{shown_text(group.outcome.cause)}</h3>\n<p>{shown_text(states)}</p>\n'
     yield f'<ul>\n{elements("li", details)}</ul>\n'
     if group.outcome.output:
         yield f'<pre>{shown_text(group.outcome.output)}</pre>\n'

@@ -192,8 +192,10 @@ def packed_results(findings: Findings) -> bytes:
 
 
 def state_rows(findings: Findings) -> List[StateRow]:
-    """A row for each of a window's own_states_with_outcome()."""
+    """A row for each state of a window that has an outcome, which may be that of an equal state.
+    States that the window before has too have no row."""
     return [
         (state, findings.outcomes_by_state[state.number], findings.plan.profile_names_of(state))
-        for state in findings.own_states_with_outcome()
+        for state in findings.results.own_states
+        if state.number in findings.outcomes_by_state
     ]

@@ -53,10 +53,11 @@ def entry_point(
 ) -> TestPoint:
     """The test of an entry: skipped if the entry is accepted, else one that failed, whose last line
     names the example. second_crash is None unless the entry is one of second crashes."""
+    cause = group.outcome.cause
     if group.accepted_entry is not None:
-        return TestPoint(group.cause, reason=accepted_text(group.accepted_entry))
+        return TestPoint(cause, reason=accepted_text(group.accepted_entry))
     example = f'state {example_number(group, second_crash)} of {report_text.head.trace}'
-    return failed_point(group.cause, [*report_text.entry_details(group, second_crash), example])
+    return failed_point(cause, [*report_text.entry_details(group, second_crash), example])
 
 
 def others_point(report_text: ReportText) -> TestPoint:

@@ -89,7 +89,7 @@ class ReportText:
         lines: List[str] = []
         for group in accepted[:SHOWN_GROUPS]:
             assert group.accepted_entry is not None
-            cause = cut_text(escape_unprintable(f'accepted: {group.cause}'), CAUSE_WIDTH)
+            cause = cut_text(escape_unprintable(f'accepted: {group.outcome.cause}'), CAUSE_WIDTH)
             lines.append(f'  {cause:<{CAUSE_WIDTH}} {states_and_example(group)}')
             lines += folded_lines([accepted_text(group.accepted_entry)], '    ')
         more = len(accepted) - SHOWN_GROUPS
@@ -128,7 +128,7 @@ class ReportText:
         cause_kinds = {group.outcome.cause_kind for group in shown}
         for group in covered[:SHOWN_GROUPS]:
             states = states_and_example(group)
-            cause = cut_text(escape_unprintable(group.cause), CAUSE_WIDTH - 2)
+            cause = cut_text(escape_unprintable(group.outcome.cause), CAUSE_WIDTH - 2)
             lines.append(f'    {cause:<{CAUSE_WIDTH - 2}} {states}')
             if group.outcome.cause_kind not in cause_kinds:
                 lines += folded_lines(self.trace_sentences(group), '      ')
@@ -236,7 +236,7 @@ class ReportText:
         details, folded. second_crash is None unless the entry is one of second crashes."""
         states = states_and_example(group, second_crash)
         cause = cut_text(
-            escape_unprintable(group.cause), max(CAUSE_WIDTH, COLUMNS - len(states) - 3)
+            escape_unprintable(group.outcome.cause), max(CAUSE_WIDTH, COLUMNS - len(states) - 3)
         )
         details = folded_lines(self.entry_details(group, second_crash), '    ')
         return [f'  {cause:<{CAUSE_WIDTH}} {states}', *details]
