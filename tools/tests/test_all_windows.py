@@ -58,7 +58,7 @@ class Pending(unittest.TestCase):
             lines = text.splitlines()[: None if text == renamed else -1]
             while lines and lines[-1].startswith('{"op"'):
                 reading = parse_trace(with_probe('\n'.join(lines) + '\n').encode())
-                order, says = Order(reading), StatePlan(reading).trees.says
+                order, says = Order(reading), StatePlan(reading).trees.say_places
                 last = order.count - 1
                 needed = order.needs[last] | says
                 self.assertEqual(order.pending_set(last) & ~says, (1 << last) - 1 & ~needed)

@@ -2,7 +2,7 @@
 `picks` and `tar` write of them.
 
 Nothing here is proved, and nothing is shared with the program `crashfs`. The tools use it if there
-is no program, and the tests compare the two.
+is no program, and for what they need beside the program's answers. The tests compare the two.
 """
 
 from __future__ import annotations

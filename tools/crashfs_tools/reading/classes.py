@@ -1,8 +1,9 @@
 """The allowed sets that leave different states, without going through each allowed set.
 
-Sets of places below k that have equal futures and leave the same files are extended alike: they are
-one *class*, and only its first set is followed. The files of a class are those that have a name, or
-can still get one; bytes past a file's size count as long as a later size can show them.
+Sets of places below k that have equal futures (see the module `every`) and leave the same files are
+extended alike: they are one *class*, and only its first set is followed. The files of a class are
+those that have a name, or can still get one; bytes past a file's size count as long as a later size
+can show them.
 """
 
 from __future__ import annotations
@@ -13,7 +14,7 @@ from typing import Dict, FrozenSet, Iterator, List, NamedTuple, Optional, Set, T
 
 from .contents import Contents, IdTable
 from .micro import Acknowledgement, ChangeSize, LinkEntry, MicroOperation, Rights
-from .names import DIRECTORY, Entry, Inode
+from .names import DIRECTORY, Entry, Inode, is_file
 from .order import Order
 from .place_sets import places_of, sets_by_key
 from .states import change_entries, change_rights, reachable_paths
@@ -43,15 +44,15 @@ class SetClasses:
     """The classes of the sets that an order of a trace allows, found by walks through these sets.
     Later walks use what earlier ones have computed, which is kept in memory.
 
-    `changes` has an id for each NameChanges that was found. By a file's number, start_ids has the
-    id of the file's first content, start_entries the entries that hold it in the start tree,
+    name_changes has an id for each NameChanges that was found. By a file's number, start_ids has
+    the id of the file's first content, start_entries the entries that hold it in the start tree,
     resizes the set of the places that change its size, and links that of the places that give it
     one more entry. A file without such entries or places isn't in the last three.
     """
 
     def __init__(self, reading: Reading, order: Order) -> None:
-        """Computes the first contents of all files. `order` must be one of this trace. Only the
-        walk computes what sets leave."""
+        """Computes the first contents of all files. `order` must be one of this trace. What sets
+        leave is only computed by walks."""
         self.reading = reading
         self.order = order
         self.contents = Contents(reading)
@@ -70,7 +71,9 @@ class SetClasses:
             for place, operation in enumerate(reading.operations)
             if isinstance(operation, LinkEntry)
         )
-        self.changes: IdTable[NameChanges] = IdTable(lambda changes: frozenset(changes.items()))
+        self.name_changes: IdTable[NameChanges] = IdTable(
+            lambda changes: frozenset(changes.items())
+        )
         self._ids_after: Dict[Tuple[int, int], int] = {}
         self._has_name: Dict[Tuple[int, int], bool] = {}
 
@@ -89,7 +92,7 @@ class SetClasses:
         """The first allowed set of each class, in the order of every_set(), with what the set
         leaves. Sets of different classes may still leave equal trees."""
         followed: Set[Tuple[int, SetResult]] = set()
-        waiting = [(0, self.order.all_places, SetResult(self.changes.id_of({}), (), 0))]
+        waiting = [(0, self.order.all_places, SetResult(self.name_changes.id_of({}), (), 0))]
         while waiting:
             place_set, future, result = waiting.pop()
             result = self.shown_result(result, future)
@@ -106,9 +109,9 @@ class SetClasses:
             waiting.append((place_set, self.order.future_without(future, lowest_bit), result))
 
     def shown_result(self, result: SetResult, future: int) -> SetResult:
-        """What a set leaves, without what no extension of the set by places of `future` shows to a
-        reader: files that have no name and can't get one, files that are as they were made, and
-        bytes past a size that no place of `future` changes."""
+        """What a set leaves, without what no reader sees if the set is extended by places of
+        `future`: files that have no name and can't get one, and bytes past a size that no place of
+        `future` changes. Files that are as they were made are left out too."""
         shown_contents = []
         for file_number, content_id in result.file_contents:
             may_get_name = future & self.links.get(file_number, 0)
@@ -122,15 +125,14 @@ class SetClasses:
     def after_operation(self, result: SetResult, place: int) -> SetResult:
         """What a set leaves together with the micro-operation at `place`, which must come after all
         places of the set; `result` is what the set leaves by itself. The files of what is returned
-        are sorted, so that equal results are equal keys. KeyError if the set lacks what the
-        micro-operation needs."""
+        are sorted, so that equal results are equal keys. KeyError as changes_id_after()."""
         operation = self.reading.operations[place]
         if operation.file_number is not None:
-            contents = dict(result.file_contents)
+            content_ids = dict(result.file_contents)
             start_id = self.start_ids[operation.file_number]
-            content_id = contents.get(operation.file_number, start_id)
-            contents[operation.file_number] = self.contents.content_id_after(content_id, place)
-            return result._replace(file_contents=tuple(sorted(contents.items())))
+            content_id = content_ids.get(operation.file_number, start_id)
+            content_ids[operation.file_number] = self.contents.content_id_after(content_id, place)
+            return result._replace(file_contents=tuple(sorted(content_ids.items())))
         if operation.entries or operation.directory_number is not None:
             return result._replace(changes_id=self.changes_id_after(result.changes_id, place))
         assert isinstance(operation, Acknowledgement)
@@ -141,14 +143,15 @@ class SetClasses:
     def changes_id_after(self, changes_id: int, place: int) -> int:
         """The id of the name changes after the micro-operation at `place`, if those before it have
         the id changes_id. The micro-operation must change entries or a directory's rights. Computed
-        once for each pair. KeyError as update_entries()."""
+        once for each pair. KeyError as update_entries(): not if what a set leaves has the id, and
+        the set has all that the micro-operation needs."""
         key = changes_id, place
         if key not in self._ids_after:
             operation = self.reading.operations[place]
-            changes = dict(self.changes.values[changes_id])
+            changes = dict(self.name_changes.values[changes_id])
             self.update_entries(changes, operation)
             self.update_directory_rights(changes, operation)
-            self._ids_after[key] = self.changes.id_of(changes)
+            self._ids_after[key] = self.name_changes.id_of(changes)
         return self._ids_after[key]
 
     def update_entries(self, changes: NameChanges, operation: MicroOperation) -> None:
@@ -183,34 +186,35 @@ class SetClasses:
         return node
 
     def has_name(self, changes_id: int, file_number: int) -> bool:
-        """Whether a file has an entry after the name changes with this id."""
+        """Whether a file or symbolic link, given by its number, has an entry after the name changes
+        with this id. Computed once for each pair."""
         key = changes_id, file_number
         if key not in self._has_name:
             self._has_name[key] = any(True for _ in self.entries_of(changes_id, file_number))
         return self._has_name[key]
 
     def entries_of(self, changes_id: int, file_number: int) -> Iterator[Entry]:
-        """The entries that hold a file or symbolic link after the name changes with this id, in no
-        order."""
-        changes = self.changes.values[changes_id]
+        """The entries that hold a file or symbolic link, given by its number, after the name
+        changes with this id, in no particular order."""
+        changes = self.name_changes.values[changes_id]
         start_entries = self.start_entries.get(file_number, [])
         yield from (entry for entry in start_entries if entry not in changes)
-        for entry, node in changes.items():
-            if isinstance(entry, tuple) and isinstance(node, Inode):
-                if node.kind != DIRECTORY and node.number == file_number:
-                    yield entry
+        for key, node in changes.items():
+            if isinstance(key, tuple) and isinstance(node, Inode) and is_file(node, file_number):
+                yield key
 
     # The trees
 
     def tree_changes(self, result: SetResult) -> TreeChanges:
         """What is at each path at which the tree of a result's state differs from the start tree.
         The changes of two results are equal exactly if their trees are."""
-        changes, contents = self.changes.values[result.changes_id], dict(result.file_contents)
+        changes = self.name_changes.values[result.changes_id]
+        content_ids = dict(result.file_contents)
         is_moved = self.has_moved_directory(changes)
         nodes = self.all_nodes(changes) if is_moved else self.changed_nodes(result)
         items = {}
         for path, node in nodes.items():
-            item = self.shown_item(node, changes, contents)
+            item = self.shown_item(node, changes, content_ids)
             if item != self.shown_item(self.reading.start_paths.get(path), {}, {}):
                 items[path] = item
         return frozenset(items.items())
@@ -227,7 +231,7 @@ class SetClasses:
     def changed_nodes(self, result: SetResult) -> Dict[str, Optional[Inode]]:
         """What is at each path of a changed entry, file or directory; None if nothing is. No
         directory may be moved: see has_moved_directory()."""
-        changes = self.changes.values[result.changes_id]
+        changes = self.name_changes.values[result.changes_id]
         nodes: Dict[str, Optional[Inode]] = {
             self.reading.unmoved_paths[number] or '/': Inode(DIRECTORY, number)
             for number in changes
@@ -240,7 +244,7 @@ class SetClasses:
         )
         for entry in chain(changed_entries, *entries_of_files):
             path = self.reading.unmoved_path(entry)
-            # A directory that is gone and one that is made again may have the same paths.
+            # Entries of a directory that is gone and of one made again may have the same path.
             nodes[path] = self.node_at_entry(changes, entry) or nodes.get(path)
         return nodes
 
@@ -254,16 +258,17 @@ class SetClasses:
         return {**dict.fromkeys(self.reading.start_paths), **dict(reachable_paths(held_nodes))}
 
     def shown_item(
-        self, node: Optional[Inode], changes: NameChanges, contents: Dict[int, int]
+        self, node: Optional[Inode], changes: NameChanges, content_ids: Dict[int, int]
     ) -> Optional[ShownItem]:
         """What a reader sees of `node`: its kind, and the id of a file's content or a directory's
-        rights; None if `node` is None. `contents` has the ids of the contents of changed files, by
-        the files' numbers. A file or directory that neither map has is as at the start."""
+        rights; None if `node` is None. content_ids has the ids of the contents of changed files, by
+        the files' numbers: other files are as they were made. A directory whose rights `changes`
+        lacks has those of the start tree."""
         if node is None:
             return None
         if node.kind == DIRECTORY:
             return node.kind, changes.get(node.number, self.reading.start_rights.get(node.number))
-        content_id = contents.get(node.number, self.start_ids[node.number])
+        content_id = content_ids.get(node.number, self.start_ids[node.number])
         return node.kind, self.contents.shown_content_id(content_id)
 
 

@@ -11,7 +11,7 @@ from .micro import ChangeSize, Rights, SetFileRights, WriteBlock
 from .trace import Reading
 
 Value = TypeVar('Value')
-# The id of a block of zeros, which no content has.
+# The id of a block of zeros. No content has it among its blocks.
 ZEROS = 0
 # The blocks of a content that aren't zero, ascending: the number of each, and its id.
 BlockIds = Tuple[Tuple[int, int], ...]
@@ -57,23 +57,24 @@ class Contents:
         self.contents: IdTable[Content] = IdTable(lambda content: content)
         self.blocks: IdTable[bytes] = IdTable(lambda block_bytes: block_bytes)
         self.blocks.id_of(b'')
-        self.content_id_after = lru_cache(None)(self.compute_id_after)
-        self.shown_content_id = lru_cache(None)(self.compute_shown_id)
+        # These are computed once for equal arguments.
+        self.content_id_after = lru_cache(None)(self.compute_content_id_after)
+        self.shown_content_id = lru_cache(None)(self.compute_shown_content_id)
 
     def initial_content_id(self, file_number: int) -> int:
-        """The id of the content with which a file is made. A file that an operation makes is empty,
-        unless it is a symbolic link."""
+        """The id of the content with which a file or symbolic link, given by its number, is
+        made."""
         data = self.reading.initial_data[file_number]
         blocks = sorted(data.blocks.items())
         block_ids = tuple((block, self.blocks.id_of(block_bytes)) for block, block_bytes in blocks)
         rights = self.reading.initial_rights[file_number]
         return self.contents.id_of(Content(rights, data.length, block_ids))
 
-    def compute_id_after(self, content_id: int, place: int) -> int:
-        """The id of what a content becomes by the micro-operation at `place`, which must be a
-        change of a file that has this content: new rights, a new size, or a write to a block. A
-        smaller size drops all bytes past it; a write doesn't change the size. AssertionError for
-        any other micro-operation."""
+    def compute_content_id_after(self, content_id: int, place: int) -> int:
+        """The id of what a content, given by its id, becomes by the micro-operation at `place`,
+        which must be a change of a file: new rights, a new size, or a write to a block. A smaller
+        size drops all bytes past it; a write doesn't change the size. AssertionError for any other
+        micro-operation."""
         content, operation = self.contents.values[content_id], self.reading.operations[place]
         blocks = content.blocks
         if isinstance(operation, SetFileRights):
@@ -88,8 +89,8 @@ class Contents:
         return self.contents.id_of(content)
 
     def blocks_up_to(self, blocks: BlockIds, length: int) -> BlockIds:
-        """The blocks of a content without the bytes past a length. A block of which only zeros are
-        left is dropped."""
+        """The blocks of a content without the bytes from an offset on, `length`. A block of which
+        only zeros are left is dropped."""
         cut_block, cut_offset = divmod(length, self.reading.block_size)
         whole_blocks = tuple((block, block_id) for block, block_id in blocks if block < cut_block)
         bytes_left = self.blocks.values[dict(blocks).get(cut_block, ZEROS)][:cut_offset]
@@ -97,8 +98,8 @@ class Contents:
         return whole_blocks if id_left == ZEROS else (*whole_blocks, (cut_block, id_left))
 
     def blocks_after_write(self, blocks: BlockIds, write: WriteBlock) -> BlockIds:
-        """The blocks of a content after a write to a block, which the content may lack so far. If
-        the block has only zeros then, it is dropped."""
+        """The blocks of a content after a write to a block, which the content may lack before. If
+        the block has only zeros afterwards, it is dropped."""
         ids_after = dict(blocks)
         bytes_before = self.blocks.values[ids_after.pop(write.block, ZEROS)]
         block_id = self.blocks.id_of(overwritten_block(bytes_before, write.offset, write.data))
@@ -106,7 +107,7 @@ class Contents:
             ids_after[write.block] = block_id
         return tuple(sorted(ids_after.items()))
 
-    def compute_shown_id(self, content_id: int) -> int:
+    def compute_shown_content_id(self, content_id: int) -> int:
         """The id that a content, given by its own id, has without the bytes past its size, which no
         reader sees."""
         content = self.contents.values[content_id]

@@ -20,8 +20,8 @@ ZEROS = b''
 
 class Digests:
     """Digests of the files of a trace. A file's digest is made of its length and the digests of its
-    blocks. A block's digest depends only on the writes to the block and on the file's size, so that
-    many states share it; all digests of blocks are kept in memory.
+    blocks. In a file that never shrinks, a block's digest depends only on the writes to the block
+    and on the file's size, so that many states share it: these digests are kept in memory.
 
     `changes` has the set of each changed file's changes, by the file's number. `compute_file`
     returns the rights and bytes of a file after a part of such a set, without hidden bytes: it is
@@ -34,7 +34,7 @@ class Digests:
         changes: Dict[int, int],
         compute_file: Callable[[int, int], Tuple[Rights, Data]],
     ) -> None:
-        """Finds the files that never shrink. Digests are computed when they are asked for."""
+        """Finds the files that never shrink. Digests are computed only by rights_and_digest()."""
         self.reading = reading
         self.compute_file = compute_file
         self.all_writes = set_of(
@@ -48,13 +48,14 @@ class Digests:
             for file_number, place_set in changes.items()
             if not self.may_shrink(file_number, place_set)
         }
+        # These are computed once for equal arguments, initial_digests for the last 64 files.
         self.block_digest = lru_cache(None)(self.compute_block_digest)
         self.rights_and_size = lru_cache(None)(self.compute_rights_and_size)
         self.initial_digests = lru_cache(64)(self.compute_initial_digests)
 
     def rights_and_digest(self, file_number: int, place_set: int) -> Tuple[Rights, bytes]:
-        """The rights and the digest of a file after the changes of a set, all of this file. Bytes
-        past the file's size don't count."""
+        """The rights and the digest of a file, given by its number, after the changes of a set, all
+        of this file. Bytes past the file's size don't count."""
         if file_number not in self.block_writes:
             rights, data = self.compute_file(file_number, place_set)
             digests = {block: hash_block(data.blocks[block]) for block in data.blocks}
@@ -80,7 +81,7 @@ class Digests:
         return digests
 
     def writes_that_show(self, writes: int) -> int:
-        """Those of a set of writes to one block whose bytes a reader may see: only the last write
+        """Those of a set of writes to one block that its bytes may depend on: only the last write
         if it fills the block, else all."""
         last = writes.bit_length() - 1
         operation = self.reading.operations[last] if writes else None

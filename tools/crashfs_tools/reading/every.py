@@ -2,6 +2,7 @@
 
 The *future* of a set of places below k has the places from k on that can still be added: those that
 need no place below k which the set lacks. Two sets with one future are extended by the same sets.
+With its first place a whole unit of the order is added, also what is at k or later.
 """
 
 from __future__ import annotations
@@ -12,8 +13,9 @@ from typing import Dict, Iterator, List
 from .faults import ReadingFault
 from .order import Order
 
+# The most futures for one k, if sets are counted, and the most sets that `picks` counts exactly.
 MOST_FUTURES = 1_048_576
-MOST_MEMBERS = 2**64 - 1
+MOST_SETS = 2**64 - 1
 
 
 def every_set(order: Order) -> Iterator[int]:
@@ -34,7 +36,8 @@ def every_set(order: Order) -> Iterator[int]:
 
 def count_futures(order: Order) -> List[Dict[int, int]]:
     """For each k, from 0 to the number of places, the futures of the allowed sets of places below
-    k, each with how many sets have it. ReadingFault if one k has more than MOST_FUTURES."""
+    k, each with how many sets have it. ReadingFault if there are more than MOST_FUTURES for one
+    k."""
     levels = [{order.all_places: 1}]
     for place in range(order.count):
         levels.append(count_next_futures(order, levels[-1], 1 << place))
@@ -45,7 +48,7 @@ def count_futures(order: Order) -> List[Dict[int, int]]:
 
 def count_next_futures(order: Order, set_counts: Dict[int, int], bit: int) -> Dict[int, int]:
     """The futures of the allowed sets of places below k + 1, each with how many sets have it.
-    set_counts must be the same for k, and `bit` that of place k."""
+    set_counts must have the same for the places below k, and `bit` must be that of place k."""
     pairs = (
         (next_future, set_count)
         for future, set_count in set_counts.items()
@@ -67,18 +70,18 @@ def next_futures(order: Order, future: int, bit: int) -> List[int]:
 
 
 def count_sets(order: Order) -> int:
-    """How many sets an order allows, exactly, even if there are more than 2^64. ReadingFault if one
-    k has more than MOST_FUTURES futures."""
+    """How many sets an order allows, exactly, even if there are more than MOST_SETS. ReadingFault
+    as count_futures()."""
     return sum(count_futures(order)[-1].values())
 
 
 def drawn_sets(order: Order, count: int, seed: int) -> Iterator[int]:
-    """Draws so many allowed sets, each time with the same chance for every set, so that a set may
-    come twice. The same seed gives the same sets. ReadingFault, only when the first set is asked
-    for, if there are more than MOST_MEMBERS sets, or more than MOST_FUTURES futures of one k."""
+    """`count` allowed sets, drawn with the same chance for every set each time, so that a set may
+    come twice. The same seed draws the same sets. ReadingFault, only when the first set is asked
+    for, if there are more than MOST_SETS sets, or more than MOST_FUTURES futures for one k."""
     extensions = count_extensions(order)
     set_count = extensions[0][order.all_places]
-    if set_count > MOST_MEMBERS:
+    if set_count > MOST_SETS:
         raise ReadingFault('too many sets to count')
     generator = random.Random(seed)
     for _ in range(count):
@@ -87,8 +90,8 @@ def drawn_sets(order: Order, count: int, seed: int) -> Iterator[int]:
 
 def count_extensions(order: Order) -> List[Dict[int, int]]:
     """For each k, from 0 to the number of places, and each future of count_futures() there, how
-    many allowed sets extend one set of places below k that has this future. ReadingFault if one k
-    has more than MOST_FUTURES."""
+    many allowed sets extend one set of places below k that has this future. ReadingFault as
+    count_futures()."""
     futures = count_futures(order)
     levels: List[Dict[int, int]] = [{0: 1}]
     for place in reversed(range(order.count)):

@@ -8,10 +8,10 @@ from typing import Any, Dict, List
 
 from .faults import syntax_fault
 
+# The most levels of objects and arrays, one in the other.
 DEPTH = 127
-# Digits of the largest number of eight bytes.
-DIGITS = 20
-LARGEST = 2**64 - 1
+# The largest number of a trace, and how many digits it has.
+LARGEST_NUMBER, DIGITS = 2**64 - 1, 20
 
 
 def read_object(text: str) -> Dict[str, Any]:
@@ -41,8 +41,8 @@ def load_json(text: str) -> Any:
 
 
 def parse_integer(text: str) -> float:
-    """The number that an integer's text means. With a minus sign, or with more digits than any
-    number of a trace has, it is a float, which no key accepts. ValueError if that is infinite."""
+    """The number that an integer's text means. With a minus sign, or with more than DIGITS digits,
+    it is a float, which no key of a trace accepts. ValueError if the float is infinite."""
     return int(text) if text[0] != '-' and len(text) <= DIGITS else parse_float(text)
 
 
@@ -55,7 +55,8 @@ def parse_float(text: str) -> float:
 
 
 def refuse_constant(text: str) -> None:
-    """ValueError for `NaN`, `Infinity` and `-Infinity`: Python reads them, but they are no JSON."""
+    """Raises a ValueError for `NaN`, `Infinity` or `-Infinity`, which Python reads though they are
+    no JSON."""
     raise ValueError(f'{text} is no number')
 
 
@@ -84,9 +85,9 @@ def refuse_half_surrogates(value: Any) -> None:
 
 
 def is_trace_number(value: Any) -> bool:
-    """Whether a value is a number that a trace may have: an int from 0 to LARGEST. A boolean is
-    none."""
-    return type(value) is int and 0 <= value <= LARGEST
+    """Whether a value is a number that a trace may have: an int from 0 to LARGEST_NUMBER. A boolean
+    is none."""
+    return type(value) is int and 0 <= value <= LARGEST_NUMBER
 
 
 def read_array(line: bytes) -> List[Any]:

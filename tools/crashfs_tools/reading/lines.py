@@ -11,9 +11,11 @@ from .json_lines import is_trace_number, read_object
 
 NAME_BYTES, USER_BYTES, TARGET_BYTES = 255, 64, 4_095
 BLOCK_SIZES = (512, 1024, 2048, 4096)
+# From the one that allows the most sets to the one that allows the least.
 PROFILES = ('blocks', 'ordered', 'journal')
 # The profiles that only later versions have.
 PROFILES_SINCE = {'journal': 4}
+# The versions of traces, each with the keys of its header besides `trace` and RIGHTS.
 HEADERS = {1: (), 2: ('profile',), 3: ('profile', 'block'), 4: ('profile', 'block')}
 OWNERS = ('owner', 'group')
 RIGHTS = (*OWNERS, 'mode')
@@ -44,7 +46,9 @@ KINDS: Dict[str, Dict[str, Tuple[int, Tuple[str, ...]]]] = {
         'say': (1, ('text',)),
     },
 }
-TAKE_ROOT = ('fsync', 'chmod', 'chown')
+# The words of operations that may have the path `/`.
+ROOT_WORDS = ('fsync', 'chmod', 'chown')
+# The keys whose values are paths.
 PATHS = ('path', 'from', 'to')
 MODE = re.compile('[0-7]{3}')
 HEXADECIMAL = '0123456789abcdefABCDEF'
@@ -54,9 +58,9 @@ Fields = Dict[str, Any]
 
 @dataclass
 class Line:
-    """A line that is well formed: its number in the trace, the key that says what it is (`trace`,
-    `start` or `op`), its word, which is the value of that key but empty for the header, and all
-    keys with their values."""
+    """A line of a trace, well formed once LineReader.read_line() has returned it: its number in the
+    trace, the key that says what it is (`trace`, `start` or `op`), its word, which is the value of
+    that key but empty for the header, and all keys with their values."""
 
     number: int
     key: str
@@ -155,7 +159,7 @@ class LineReader:
 
     def check_fields(self, line: Line, keys: Tuple[str, ...]) -> None:
         """LineFault if a line lacks one of expected_keys(), has another key, or has a value that
-        its key may not have."""
+        its key may not have. `keys` are those of its word, or of a header of this version."""
         expected_keys, own_keys = self.expected_keys(line, keys), line.fields.keys()
         if own_keys - expected_keys:
             raise syntax_fault(f'unknown key "{min(own_keys - expected_keys)}"')
@@ -170,7 +174,8 @@ class LineReader:
 
     def expected_keys(self, line: Line, keys: Tuple[str, ...]) -> Set[str]:
         """The keys that a line must have: the one that says what it is, `keys`, and since version 3
-        its `note`, if it has one. If it lacks `bytes`, this key is replaced by keys_of_bytes()."""
+        its `note`, if it has one. If it lacks one of `keys`, `bytes`, this is replaced by
+        keys_of_bytes()."""
         expected_keys = {line.key, *keys}
         if self.version >= 3:
             expected_keys |= line.fields.keys() & {'note'}
@@ -251,7 +256,7 @@ def check_paths(line: Line) -> None:
     """LineFault (BadName) for a path that no file or directory can have. The path `/` is accepted
     only in an fsync, a chmod and a chown."""
     for path in line.paths():
-        if path == '/' and line.word in TAKE_ROOT:
+        if path == '/' and line.word in ROOT_WORDS:
             continue
         if not path.startswith('/') or not all(map(is_file_name, path[1:].split('/'))):
             raise LineFault('BadName', f'the path "{path}"')

@@ -12,13 +12,13 @@ Rights = Tuple[str, str, str]
 
 class MicroOperation:
     """A micro-operation: what it changes, and where it comes from. What a kind doesn't have is
-    None, empty, 0 or False."""
+    None, empty, 0 or False. The subclasses are the kinds."""
 
     # What `list` calls this kind.
     kind: str
     # The paths that `list` prints of it.
     paths: Tuple[str, ...] = ()
-    # The entries that it touches.
+    # The entries that it changes.
     entries: Tuple[Entry, ...] = ()
     # What it makes, links, moves, removes or replaces.
     handled_inodes: Tuple[Inode, ...] = ()
@@ -165,7 +165,7 @@ class LinkEntry(MicroOperation):
 
 
 class ChangeSize(MicroOperation):
-    """A file, given by its number, gets a size."""
+    """A file, given by its number, gets the size `length`."""
 
     kind = 'change_file_size'
     file_number: int
@@ -216,6 +216,12 @@ class SetRights(MicroOperation):
     def __init__(self, rights: Rights) -> None:
         self.rights = rights
 
+    @property
+    def rights_text(self) -> str:
+        """What is set, as `list` prints it."""
+        owner, group, mode = self.rights
+        return f'{mode} {owner} {group}'
+
     def rights_fields(self) -> Dict[str, str]:
         """The fields in `list --json` of what is set."""
         owner, group, mode = self.rights
@@ -233,7 +239,7 @@ class SetFileRights(SetRights):
 
     @property
     def text(self) -> str:
-        return ' '.join([self.kind, 'file', str(self.file_number), *self.rights_fields().values()])
+        return f'{self.kind} file {self.file_number} {self.rights_text}'
 
     def fields(self) -> Dict[str, Any]:
         return {**self.file_fields(), **self.rights_fields()}
@@ -251,7 +257,7 @@ class SetDirectoryRights(SetRights):
 
     @property
     def text(self) -> str:
-        return ' '.join([self.kind, 'dir', self.path, *self.rights_fields().values()])
+        return f'{self.kind} dir {self.path} {self.rights_text}'
 
     def fields(self) -> Dict[str, Any]:
         return {'path': self.path, **self.rights_fields()}

@@ -7,9 +7,12 @@ from typing import Dict, List, NamedTuple, Optional, Tuple
 from .faults import LineFault
 from .lines import Line, bytes_of
 
+# The most bytes of a file up to version 3, and from version 4 on.
 FILE_BYTES, LARGE_FILE_BYTES = 16_777_216, 1_073_741_824
+# The most names of a path, records (see NameTree) of a trace, and bytes of an acknowledged line.
 PATH_NAMES, RECORDS, SAY_BYTES = 64, 65_536, 1_024
-MAKES_RECORD = ('creat', 'mkdir', 'dir', 'file', 'link', 'symlink')
+# The words of lines that add a record.
+RECORD_WORDS = ('creat', 'mkdir', 'dir', 'file', 'link', 'symlink')
 DIRECTORY, FILE, SYMLINK = 'dir', 'file', 'symlink'
 KIND_TEXTS = {DIRECTORY: 'a directory', FILE: 'a file', SYMLINK: 'a symbolic link'}
 ROOT = 0
@@ -21,6 +24,11 @@ class Inode(NamedTuple):
 
     kind: str
     number: int
+
+
+def is_file(node: Inode, file_number: int) -> bool:
+    """Whether an inode is the file or symbolic link with this number."""
+    return node.kind != DIRECTORY and node.number == file_number
 
 
 # A directory's number and a name in it.
@@ -35,22 +43,23 @@ def parent_path(path: str) -> str:
 class NameTree:
     """The tree after the lines read so far: what each directory holds, and where each directory and
     file is. In versions 1 to 3 a directory's number is that of its path: one that is made again has
-    the old number. Methods that change the tree check nothing: call refuse_unfit_line() first."""
+    the old number. Methods that change the tree rely on refuse_unfit_line(): call it first."""
 
     def __init__(self, version: int = 1) -> None:
         """A tree that has only the root, for a trace of this version."""
         self.version = version
         # What each directory holds, by its number.
         self.children: Dict[int, Dict[str, Inode]] = {ROOT: {}}
-        # The entry of each directory, by its number, also of one that is gone.
-        self.directories: Dict[int, Entry] = {}
+        # The entry of each directory but the root, by its number, also of one that is gone.
+        self.directory_entries: Dict[int, Entry] = {}
         # The entries of each file or symbolic link, by its number, the oldest first.
-        self.entries: List[List[Entry]] = []
+        self.file_entries: List[List[Entry]] = []
         # Up to version 3 the number of the directory that was first made at an entry.
         self.directory_numbers: Dict[Entry, int] = {}
-        # The size of each file, by its number.
+        # The size of each file or symbolic link, by its number.
         self.sizes: List[int] = []
-        # How many files, directories and paths the program counts; the root is one.
+        # How many files, directories and paths were made so far; the root is one. In version 4 a
+        # rename into another directory makes one more.
         self.records = 1
 
     # Where things are
@@ -77,17 +86,17 @@ class NameTree:
         Its directory must be there."""
         directory, path = entry[0], f'/{entry[1]}'
         while directory != ROOT:
-            directory, name = self.directories[directory]
+            directory, name = self.directory_entries[directory]
             path = f'/{name}{path}'
         return path
 
     # What lines do
 
     def add_file(self, path: str, size: int, kind: str) -> Inode:
-        """Adds a file or symbolic link, as `kind` says, of this size at a free path, and returns
-        its inode, with the next number."""
+        """Adds a file or symbolic link (`kind`) of this size at a free path, and returns its inode,
+        with the next number."""
         self.sizes.append(size)
-        self.entries.append([])
+        self.file_entries.append([])
         node = Inode(kind, len(self.sizes) - 1)
         self.add_path(path, node)
         return node
@@ -96,12 +105,12 @@ class NameTree:
         """Adds an empty directory at a free path, and returns its inode, with the next number. Up
         to version 3 a directory that is made again at an entry gets its old number again."""
         entry = self.entry_at(path)
-        number = len(self.directories) + 1
+        number = len(self.directory_entries) + 1
         if self.version < 4:
             number = self.directory_numbers.setdefault(entry, number)
         node = Inode(DIRECTORY, number)
         self.children[number] = {}
-        self.directories[number] = entry
+        self.directory_entries[number] = entry
         self.add_path(path, node)
         return node
 
@@ -112,11 +121,11 @@ class NameTree:
         entry = self.entry_at(path)
         self.children[entry[0]][entry[1]] = node
         if node.kind != DIRECTORY:
-            self.entries[node.number].append(entry)
+            self.file_entries[node.number].append(entry)
 
     def add_link(self, old_path: str, new_path: str) -> Inode:
-        """Gives the file at a path one more path, which must be free, and returns the file's
-        inode."""
+        """Gives the file at a path one more path, which must be free, and returns the file's inode.
+        LineFault as require_inode()."""
         node = self.require_inode(old_path)
         self.add_path(new_path, node)
         return node
@@ -127,7 +136,7 @@ class NameTree:
         entry = self.entry_at(path)
         node = self.children[entry[0]].pop(entry[1])
         if node.kind != DIRECTORY:
-            self.entries[node.number].remove(entry)
+            self.file_entries[node.number].remove(entry)
         return node
 
     def move(self, old_path: str, new_path: str) -> None:
@@ -143,9 +152,9 @@ class NameTree:
         node = self.children[source[0]].pop(source[1])
         self.children[target[0]][target[1]] = node
         if node.kind == DIRECTORY:
-            self.directories[node.number] = target
+            self.directory_entries[node.number] = target
         else:
-            entries = self.entries[node.number]
+            entries = self.file_entries[node.number]
             entries[entries.index(source)] = target
 
     # What a line needs
@@ -237,7 +246,7 @@ class NameTree:
         be checked before."""
         if any(path.count('/') > PATH_NAMES for path in line.paths()):
             raise LineFault('TooLarge', f'a path of more than {PATH_NAMES} names')
-        if self.records >= RECORDS and (line.word in MAKES_RECORD or self.is_counted_rename(line)):
+        if self.records >= RECORDS and (line.word in RECORD_WORDS or self.is_counted_rename(line)):
             raise LineFault('TooLarge', f'more than {RECORDS} files and directories')
         if line.word == 'say' and len(line.fields['text'].encode('utf-8')) > SAY_BYTES:
             raise LineFault('TooLarge', f'a say of more than {SAY_BYTES} bytes')

@@ -63,14 +63,15 @@ def provided_marks(operation: MicroOperation) -> Iterator[Mark]:
         yield ('directory moved',)
 
 
-def required_marks(operation: MicroOperation, reading: Reading, profile: str) -> Iterator[Mark]:
-    """The marks that a micro-operation requires under a profile: it needs all earlier ones that
-    provide one of these marks. For the rules P5, P11 and P13 there are no marks."""
+def required_marks(operation: MicroOperation, version: int, profile: str) -> Iterator[Mark]:
+    """The marks that a micro-operation requires under a profile, in a trace of this version: it
+    needs all earlier ones that provide one of these marks. For the rules P5, P11 and P13 there are
+    no marks."""
     yield from changed_marks(operation)
     yield from (('directory made', directory) for directory, _ in operation.entries)  # P3
     if operation.removed_directory is not None:
         yield 'entry in', operation.removed_directory  # P4
-    if isinstance(operation, Acknowledgement) or reading.version >= 3:
+    if isinstance(operation, Acknowledgement) or version >= 3:
         yield ('say',)  # P6, P9
     if operation.entries and profile in IN_ORDER:
         yield ('entries',)  # P8
@@ -115,7 +116,7 @@ class Order:
         needs: List[int] = []
         providers: Dict[Mark, int] = {}
         for place, operation in enumerate(reading.operations):
-            required = required_marks(operation, reading, profile)
+            required = required_marks(operation, reading.version, profile)
             direct_needs = union_of(providers.get(mark, 0) for mark in required)
             direct_needs |= self.synced_sets[place] | self.logged_sets[place]  # P5, P11
             if operation.rename_half == 2:

@@ -7,7 +7,7 @@ from itertools import islice
 from typing import Dict, Iterator, List, Union
 
 from .classes import SetClasses
-from .every import MOST_MEMBERS, count_sets, drawn_sets, every_set
+from .every import MOST_SETS, count_sets, drawn_sets, every_set
 from .faults import ReadingFault
 from .lines import PROFILES
 from .order import Order, order_under
@@ -17,6 +17,7 @@ from .states import States
 from .trace import Reading
 
 DEFAULT_MOST = 1_000_000
+# The largest and the least value of each option that is a number.
 LARGEST = {'--most': 16_777_216, '--sample': 16_384, '--seed': 2**64 - 1}
 LEAST = {'--most': 1, '--sample': 1, '--seed': 0}
 OPTIONS_OF_EVERY = ('--different', '--most', '--count', '--profile')
@@ -77,9 +78,9 @@ def picks_lines(reading: Reading, options: Options) -> Iterator[str]:
 
 
 def count_text(count: int) -> str:
-    """A number of sets as `picks --count` prints it: above MOST_MEMBERS, `more than` and this
+    """A number of sets as `picks --count` prints it: above MOST_SETS, `more than` and this
     number."""
-    return str(count) if count <= MOST_MEMBERS else f'more than {MOST_MEMBERS}'
+    return str(count) if count <= MOST_SETS else f'more than {MOST_SETS}'
 
 
 def picked_sets(reading: Reading, options: Options) -> Iterator[List[int]]:

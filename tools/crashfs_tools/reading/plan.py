@@ -12,8 +12,8 @@ from .place_sets import places_of, set_of
 from .states import States
 from .trace import Reading
 
-STATES = 16_384
-LARGEST_PLACE = 2**32 - 1
+# The most states of a plan, and the largest number in a picks file.
+STATES, LARGEST_PLACE = 16_384, 2**32 - 1
 # The names of a state's numbers in `list --json`, by its kind; a pick has one name for all.
 NUMBER_NAMES = {'prefix': ('end',), 'hole': ('missing', 'end')}
 
@@ -42,8 +42,8 @@ class PlannedState(NamedTuple):
 
 
 class StatePlan:
-    """A plan: the states that are tried, by their numbers; at first none. `order` and `trees` are
-    those of the trace, under its own profile."""
+    """A plan: the states that are tried, by their numbers, at most STATES; at first none. `order`
+    is that of the trace's own profile, and `trees` makes the trees of sets."""
 
     def __init__(self, reading: Reading) -> None:
         self.reading = reading
@@ -66,14 +66,14 @@ class StatePlan:
 
     def add_holes(self) -> None:
         """Adds, for each prefix and each of its micro-operations but the last, the prefix without
-        this one and all that need it. A set that then lacks the prefix's last micro-operation isn't
+        this one and all that need it. If that lacks the prefix's last micro-operation too, it isn't
         added: it is a shorter prefix or a hole of one. ReadingFault if the plan is full; the states
         added before stay."""
         ends = range(self.order.count + 1)
-        for lost, end in ((lost, end) for end in ends for lost in range(end - 1)):
-            place_set = self.order.set_without((1 << end) - 1, 1 << lost)
+        for missing, end in ((missing, end) for end in ends for missing in range(end - 1)):
+            place_set = self.order.set_without((1 << end) - 1, 1 << missing)
             if place_set >> (end - 1):
-                self.add_state('hole', (lost, end), place_set)
+                self.add_state('hole', (missing, end), place_set)
 
     def add_pick(self, places: Iterable[int]) -> None:
         """Adds the set of these places as a pick. Whether it is allowed isn't checked here.

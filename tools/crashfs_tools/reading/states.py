@@ -1,4 +1,4 @@
-"""The tree of each state."""
+"""The tree of each state, and what a micro-operation does to it."""
 
 from __future__ import annotations
 
@@ -53,7 +53,7 @@ class States:
 
     change_places has the set of each changed file's changes, by the file's number. entry_places is
     the set of the changes of entries or of a directory's rights, directory_moves that of the moves
-    of directories, and says that of the acknowledged lines.
+    of directories, and say_places that of the acknowledged lines.
     """
 
     def __init__(self, reading: Reading) -> None:
@@ -73,17 +73,18 @@ class States:
         self.directory_moves = set_of(
             place for place, operation in operations if operation.is_directory_move
         )
-        self.says = set_of(
+        self.say_places = set_of(
             place for place, operation in operations if isinstance(operation, Acknowledgement)
         )
         digests = Digests(reading, self.change_places, self.compute_file)
         self._nodes = lru_cache(64)(self.compute_nodes)
+        # By a file's number and the set of its changes: its rights, and its bytes or their digest.
         self._rights_and_data = lru_cache(64)(self.compute_file)
         self._rights_and_digest = lru_cache(None)(digests.rights_and_digest)
 
     def count_says(self, place_set: int) -> int:
         """How many acknowledged lines a set has."""
-        return bin(place_set & self.says).count('1')
+        return bin(place_set & self.say_places).count('1')
 
     def tree(self, place_set: int) -> Dict[str, Item]:
         """The tree of an allowed set: what is at each path, the root among them, in the order of
@@ -105,9 +106,9 @@ class States:
     def walk_tree(
         self, place_set: int, read_file: Callable[[int, int], Tuple[Rights, DataOrDigest]]
     ) -> Iterator[Tuple[str, str, Rights, Optional[DataOrDigest]]]:
-        """What is at each path of an allowed set's tree, in the order of the paths: the path, its
-        kind, its rights, and its data or digest, which is None for a directory. `read_file`
-        returns the last two of a file, from the file's number and the set of its changes."""
+        """What is at each path of an allowed set's tree, in the order of the paths: the path, the
+        kind, the rights, and the bytes or their digest, None for a directory. `read_file` returns
+        the last two for a file, from the file's number and the set of its changes."""
         nodes, directory_rights = self._nodes(place_set & self.entry_places)
         for path, node in nodes.items():
             if node.kind == DIRECTORY:
@@ -166,9 +167,9 @@ class States:
 
 
 def change_data(data: Data, operation: MicroOperation) -> None:
-    """Changes a file's bytes as a micro-operation of the file does. Bytes that are written past the
-    size are hidden until a larger size shows them; a smaller size drops all bytes past it. A change
-    of rights changes nothing."""
+    """Changes a file's bytes as a change of the file does. Bytes that are written past the size are
+    hidden until a larger size shows them; a smaller size drops all bytes past it. A change of
+    rights leaves them."""
     if isinstance(operation, ChangeSize):
         data.resize(operation.length)
     elif isinstance(operation, WriteBlock):
@@ -176,9 +177,9 @@ def change_data(data: Data, operation: MicroOperation) -> None:
 
 
 def change_entries(entries: Dict[Entry, Inode], operation: MicroOperation) -> None:
-    """Changes `entries` as a micro-operation does; one that touches no entry changes nothing. What
-    is made, linked or moved to an entry replaces what is there. KeyError if an entry that is
-    removed or moved isn't in the map."""
+    """Changes `entries` as a micro-operation does; one that changes no entry leaves them. What is
+    made, linked or moved to an entry replaces what is there. KeyError if an entry that is removed
+    or moved isn't in the map."""
     if isinstance(operation, (CreateEntry, LinkEntry)):
         entries[operation.entries[0]] = operation.node
     elif isinstance(operation, DeleteEntry):
@@ -189,7 +190,7 @@ def change_entries(entries: Dict[Entry, Inode], operation: MicroOperation) -> No
 
 def change_rights(rights: Dict[int, Rights], operation: MicroOperation) -> None:
     """Changes the rights of directories, by their numbers, if a micro-operation makes a directory
-    or sets its rights; any other changes nothing. So a removed directory keeps its rights here."""
+    or sets its rights; any other leaves them. So a removed directory keeps its rights here."""
     if isinstance(operation, CreateEntry) and operation.made_directory is not None:
         rights[operation.made_directory] = operation.rights
     elif isinstance(operation, SetDirectoryRights):
@@ -204,8 +205,8 @@ def reachable_paths(entries: Iterable[Tuple[Entry, Inode]]) -> Iterator[Tuple[st
     yield '/', Inode(DIRECTORY, ROOT)
     waiting = [('', ROOT)]
     while waiting:
-        parent_path, directory = waiting.pop()
-        nodes = [(f'{parent_path}/{name}', node) for name, node in listings.get(directory, [])]
+        directory_path, directory = waiting.pop()
+        nodes = [(f'{directory_path}/{name}', node) for name, node in listings.get(directory, [])]
         yield from nodes
         waiting += [(path, node.number) for path, node in nodes if node.kind == DIRECTORY]
 

@@ -7,7 +7,7 @@ from dataclasses import dataclass
 from typing import List
 
 from .micro import ChangeSize, CreateEntry, MicroOperation, SetFileRights, WriteBlock
-from .names import DIRECTORY, Inode
+from .names import DIRECTORY, Inode, is_file
 
 
 @dataclass
@@ -111,8 +111,3 @@ class DirectorySync(SyncPoint):
             self.covers(operation) or synced in operation.handled_inodes
             for operation in operations_since
         )
-
-
-def is_file(node: Inode, file_number: int) -> bool:
-    """Whether an inode is the file or symbolic link with this number."""
-    return node.kind != DIRECTORY and node.number == file_number

@@ -23,9 +23,12 @@ from .micro import (
 from .names import DIRECTORY, FILE, ROOT, SYMLINK, Entry, Inode, NameTree
 from .syncs import DataSync, DirectorySync, FileSync, RangeSync, SyncPoint
 
+# The most micro-operations of a trace.
 MICRO_OPERATIONS = 1_024
 PAGE_BYTES = 4_096
+# What a line may have that counts as empty.
 BLANKS = ' \t\r'
+# The mode of each symbolic link.
 SYMLINK_MODE = '777'
 
 
@@ -81,7 +84,7 @@ class Reading:
         """Adds a change of a file, with the oldest of the file's paths. The change must have the
         file's number. IndexError if the file has no path any more."""
         assert operation.file_number is not None
-        oldest_entry = self.names.entries[operation.file_number][0]
+        oldest_entry = self.names.file_entries[operation.file_number][0]
         operation.path = self.names.path_of_entry(oldest_entry)
         self.operations.append(operation)
 
@@ -94,8 +97,8 @@ class Reading:
     # Files, symbolic links and directories
 
     def make_file(self, line: Line, kind: str, rights: Rights, data: Data) -> Inode:
-        """Makes the file or symbolic link of a line, as `kind` says, with these rights and bytes,
-        and returns its inode."""
+        """Makes the file or symbolic link (`kind`) of a line, with these rights and bytes, and
+        returns its inode."""
         node = self.names.add_file(line.fields['path'], data.length, kind)
         self.initial_rights[node.number] = self.rights[node] = rights
         self.initial_data[node.number] = data

@@ -242,7 +242,7 @@ class ReadingSets:
     def has_pending(self, end: int) -> bool:
         """Whether a micro-operation before the place `end` isn't durable yet when the one at `end`
         begins. Acknowledged lines don't count."""
-        return self.trace_order.pending_set(end) & ~self.trees.says != 0
+        return self.trace_order.pending_set(end) & ~self.trees.say_places != 0
 
     @cached_property
     def profile_names(self) -> Tuple[str, ...]:
