@@ -119,11 +119,15 @@ def options_in(function: str, functions: Dict[str, str]) -> List[Option]:
     return [*own_options(body), *shared_options]
 
 
-def command_help(command: str) -> str:
-    """What the program's help says of a command; empty if it says nothing. SOURCE is read each
-    time. KeyError if it has no such command, OSError if it can't be read."""
-    about = re.search(r'\.about\("([^"]*)"\)', functions_of_program()[f'{command}_command'])
-    return about[1] if about else ''
+def command_helps() -> Dict[str, str]:
+    """What the program's help says of each command, by the command's name; an empty text if it says
+    nothing. OSError if SOURCE can't be read."""
+    abouts = {
+        name.replace('_command', ''): re.search(r'\.about\("([^"]*)"\)', body)
+        for name, body in functions_of_program().items()
+        if name.endswith('_command')
+    }
+    return {command: about[1] if about else '' for command, about in abouts.items()}
 
 
 def commands_of_program() -> Dict[str, List[Option]]:

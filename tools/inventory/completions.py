@@ -11,7 +11,7 @@ from .command_lines import (
     TOOLS,
     VERSION,
     Option,
-    command_help,
+    command_helps,
     commands_of_program,
     options_of_tool,
 )
@@ -168,7 +168,8 @@ def zsh_of_program() -> str:
     commands_of_program()."""
     commands = commands_of_program()
     command_lines = '\n'.join(
-        f"        '{command}:{quoted_text(command_help(command))}'" for command in commands
+        f"        '{command}:{quoted_text(help_text)}'"
+        for command, help_text in command_helps().items()
     )
     branch_lines = '\n'.join(
         zsh_command_branch(command, options) for command, options in commands.items()
@@ -221,10 +222,11 @@ def fish_of_program() -> str:
         fish_option('crashfs', HELP),
         fish_option('crashfs', VERSION, ' -n __fish_use_subcommand'),
     ]
+    help_texts = command_helps()
     for command, options in commands_of_program().items():
         lines.append(
             f'complete -c crashfs -n __fish_use_subcommand -a {command} '
-            f"-d '{quoted_text(command_help(command))}'"
+            f"-d '{quoted_text(help_texts[command])}'"
         )
         condition = f" -n '__fish_seen_subcommand_from {command}'"
         lines += [fish_option('crashfs', option, condition) for option in options]

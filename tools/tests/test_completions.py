@@ -15,7 +15,7 @@ from inventory.command_lines import (
     HELP,
     TOOLS,
     Option,
-    command_help,
+    command_helps,
     commands_of_program,
     options_of_tool,
 )
@@ -96,8 +96,8 @@ class OfProgram(unittest.TestCase):
     def test_each_command_is_in_the_program_s_help(self) -> None:
         printed = dict(re.findall(r'^  (\w+) +(.*)$', self.help_of(), re.M))
         self.assertEqual(printed.keys() - {'help'}, set(commands_of_program()))
-        for command in commands_of_program():
-            self.assertEqual(command_help(command), printed[command])
+        for command, help_text in command_helps().items():
+            self.assertEqual(help_text, printed[command])
 
 
 @needs_zsh
