@@ -86,6 +86,11 @@ def print_output(result: ModuleResult) -> None:
     print(result.output, end='', file=sys.stderr, flush=True)
 
 
+def skip_reasons(results: Sequence[ModuleResult]) -> List[str]:
+    """Why tests of these modules were skipped, a text for each test."""
+    return [reason for result in results for reason in result.skips]
+
+
 def count_skipped_for_program(reasons: Sequence[str]) -> int:
     """How many of the tests that were skipped for these reasons need `crashfs`: their reasons have
     this word."""
@@ -96,7 +101,7 @@ def summary_line(results: Sequence[ModuleResult], *, needs_program: bool) -> str
     """How many tests ran, failed and were skipped, and why they were skipped, the commonest reason
     first. With needs_program the line also counts those that were skipped for lack of `crashfs`, as
     a fault."""
-    skips = [reason for result in results for reason in result.skips]
+    skips = skip_reasons(results)
     run, failed = sum(result.run for result in results), sum(result.failed for result in results)
     line = f'{run} run, {failed} failed, {len(skips)} skipped'
     if skips:
@@ -111,7 +116,7 @@ def summary_line(results: Sequence[ModuleResult], *, needs_program: bool) -> str
 def has_passed(results: Sequence[ModuleResult], *, needs_program: bool) -> bool:
     """Whether at least one test ran and none failed; with needs_program also whether none was
     skipped for lack of `crashfs`."""
-    skips = [reason for result in results for reason in result.skips]
+    skips = skip_reasons(results)
     is_complete = not (needs_program and count_skipped_for_program(skips))
     has_failed = any(result.failed for result in results)
     return is_complete and not has_failed and any(result.run for result in results)
