@@ -25,7 +25,7 @@ def text_field(text: str) -> bytes:
     return struct.pack('<H', len(text_bytes)) + text_bytes
 
 
-def message(kind: int, fields: bytes, tag: int = 1) -> bytes:
+def message_bytes(kind: int, fields: bytes, tag: int = 1) -> bytes:
     """The bytes of a message of 9P: its size, kind and tag, then its fields. All requests but the
     first have the tag 1: see Client."""
     return struct.pack('<IBH', len(fields) + 7, kind, tag) + fields
@@ -45,7 +45,7 @@ class Client:
         self.replies = self.stream.makefile('rb')
         try:
             fields = struct.pack('<I', 65_536) + text_field(VERSION)
-            version_field = self.ask(message(TVERSION, fields, NO_TAG))[4:]
+            version_field = self.ask(message_bytes(TVERSION, fields, NO_TAG))[4:]
             if version_field != text_field(VERSION):
                 raise ServerRefused(f'the server speaks {version_field[2:]!r}, not {VERSION}')
         except BaseException:
@@ -95,14 +95,14 @@ class Client:
         then. ServerRefused if the server refuses it, as for a fid that is in use; OSError if the
         connection ends."""
         fields = struct.pack('<II', fid, NO_FID) + text_field('ann') + text_field(run)
-        self.ask(message(TATTACH, fields))
+        self.ask(message_bytes(TATTACH, fields))
 
     def open(self, fid: int, newfid: int, name: str) -> None:
         """Opens the file of this name in the directory of `fid`, for reading and writing, as
         `newfid`. ServerRefused if the server refuses the walk or the open; after a refused open
         `newfid` is the file, but isn't open. OSError if the connection ends."""
-        self.ask(message(TWALK, struct.pack('<IIH', fid, newfid, 1) + text_field(name)))
-        self.ask(message(TOPEN, struct.pack('<IB', newfid, READ_WRITE)))
+        self.ask(message_bytes(TWALK, struct.pack('<IIH', fid, newfid, 1) + text_field(name)))
+        self.ask(message_bytes(TOPEN, struct.pack('<IB', newfid, READ_WRITE)))
 
     def close(self) -> None:
         """Ends the connection, and with it all fids of this client."""
@@ -112,4 +112,4 @@ class Client:
 
 def write_request(fid: int, data: bytes) -> bytes:
     """The message that writes bytes at the beginning of an open file."""
-    return message(TWRITE, struct.pack('<IQI', fid, 0, len(data)) + data)
+    return message_bytes(TWRITE, struct.pack('<IQI', fid, 0, len(data)) + data)

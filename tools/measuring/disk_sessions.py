@@ -136,9 +136,9 @@ class SessionMaker:
         maker = CrashMaker(self.filesystem, trace, self.folder)
         try:
             disks = different_disks(
-                crash
+                crashed_tree
                 for moment in maker.crash_moments()
-                for crash in maker.crashes(moment, tuple(FlushKind))
+                for crashed_tree in maker.crashed_trees(moment, tuple(FlushKind))
             )
         finally:
             maker.remove_images()

@@ -66,7 +66,7 @@ class Session(NamedTuple):
 def parse_words(words: List[str]) -> argparse.Namespace:
     """The options that the words after `measure stores` give. Wrong words, and a name that no
     session and no folder has, with status 2, and --help end the program (SystemExit). The values of
-    --disks and --time-limit are only passed to checks, which may refuse them. Errors as
+    --disks, --jobs and --time-limit are only passed to checks, which may refuse them. Errors as
     read_stores()."""
     parser = argparse.ArgumentParser(
         prog='measure stores',

@@ -5,7 +5,7 @@ from __future__ import annotations
 from typing import Dict, Iterable, List, Tuple
 
 from .session import ModelledSession, Need
-from .svg import MARGIN, Picture, path_element, rectangle, text_element
+from .svg import MARGIN, Picture, path_element, rectangle_element, text_element
 
 # Where numbers end, and where words and arrows begin.
 NUMBER, WORDS, ARROWS = MARGIN + 18, MARGIN + 26, 262
@@ -84,7 +84,7 @@ def draw_key(picture: Picture, rules: Iterable[str], missing_text: str) -> None:
     picture.y += 6
     for rule in rules:
         meaning, colour = RULES[rule]
-        picture.add(rectangle(MARGIN, picture.y + 13, 18, 2, colour))
+        picture.add(rectangle_element(MARGIN, picture.y + 13, 18, 2, colour))
         picture.add_line(f'{rule}: {meaning}', x=WORDS)
     picture.add(path_element(f'M{MARGIN} {picture.y + 14:g}h18', 'arrow bad'))
     picture.add_line(missing_text, 'bad', WORDS)

@@ -4,7 +4,7 @@ from __future__ import annotations
 
 from typing import NamedTuple, Sequence
 
-from .svg import MARGIN, WIDTH, Picture, path_element, rectangle, text_element
+from .svg import MARGIN, WIDTH, Picture, path_element, rectangle_element, text_element
 
 # Where boxes begin, their width and height, and the gap between two for an arrow.
 LEFT, WIDE, HIGH, GAP = 130, 200, 40, 38
@@ -43,7 +43,7 @@ def draw_box(picture: Picture, box: Box) -> None:
     """Adds a box below what is there, and if its part passes something, an arrow to the next box.
     Moves the picture's y to where the next box begins, or to the bottom of the last box."""
     top, middle = picture.y, LEFT + WIDE / 2
-    picture.add(rectangle(LEFT, top, WIDE, HIGH, 'box'))
+    picture.add(rectangle_element(LEFT, top, WIDE, HIGH, 'box'))
     name_bottom = top + (17 if box.about else 25)
     picture.add(text_element(middle, name_bottom, box.name, 'title middle'))
     if box.about:

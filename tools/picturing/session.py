@@ -65,7 +65,7 @@ class ModelledSession:
         """The rows of all lines, in the order of the session."""
         return [row for line in self.lines.values() for row in self.rows_of_line(line)]
 
-    def directly_needed(self, later: int) -> List[int]:
+    def directly_needed_places(self, later: int) -> List[int]:
         """The earlier places that a place needs, ascending, without those that it needs only
         because a place between them needs them."""
         needs = self.order.needs
@@ -77,12 +77,12 @@ class ModelledSession:
         ]
 
     def direct_needs(self) -> List[Need]:
-        """The needs of all places, but only of directly_needed() places; sorted by the place, then
+        """The needs of all places, but only of directly_needed_places(); sorted by the place, then
         by the needed place."""
         return [
             Need(later, earlier, self.rule_of_need(later, earlier))
             for later in range(len(self.order.needs))
-            for earlier in self.directly_needed(later)
+            for earlier in self.directly_needed_places(later)
         ]
 
     def rule_of_need(self, later: int, earlier: int) -> str:

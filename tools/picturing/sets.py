@@ -5,7 +5,7 @@ from __future__ import annotations
 import textwrap
 
 from .session import ModelledSession, Row
-from .svg import LINE, MARGIN, WIDTH, Picture, rectangle, text_element
+from .svg import LINE, MARGIN, WIDTH, Picture, rectangle_element, text_element
 
 # Where the numbers of lines end, and where words and cells begin.
 NUMBER, WORDS, SETS = MARGIN + 18, MARGIN + 26, 240
@@ -33,7 +33,7 @@ def draw_cells(picture: Picture, session: ModelledSession, place: int) -> None:
         colour = 'bad' if kept_set in session.failing_sets else 'good'
         classes = colour if kept_set >> place & 1 else 'none'
         x = SETS + column * width
-        picture.add(rectangle(x, picture.y - 12, width - 1, LINE - 4, classes))
+        picture.add(rectangle_element(x, picture.y - 12, width - 1, LINE - 4, classes))
 
 
 def draw_row(picture: Picture, session: ModelledSession, row: Row, *, has_number: bool) -> None:
@@ -43,7 +43,7 @@ def draw_row(picture: Picture, session: ModelledSession, row: Row, *, has_number
     if has_number:
         picture.add(text_element(NUMBER, picture.y, str(row.line.number), 'code end grey'))
     if row.place is None:
-        picture.add(rectangle(SETS, picture.y - 5, WIDTH - MARGIN - SETS, 1, 'sync'))
+        picture.add(rectangle_element(SETS, picture.y - 5, WIDTH - MARGIN - SETS, 1, 'sync'))
     else:
         draw_cells(picture, session, row.place)
 

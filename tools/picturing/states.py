@@ -10,7 +10,7 @@ from crashfs_tools.checker.report.drawing import Drawing, drawing_of
 from crashfs_tools.checker.report.text import ReportText
 
 from .checked import CheckedExample
-from .svg import LINE, MARGIN, WIDTH, Picture, path_element, rectangle, text_element
+from .svg import LINE, MARGIN, WIDTH, Picture, path_element, rectangle_element, text_element
 
 # The side of a state's square, with the gap after it.
 CELL = 5
@@ -81,7 +81,7 @@ def draw_holes(picture: Picture, checked: CheckedExample, drawing: Drawing) -> N
     for column, words in acknowledged_columns(checked).items():
         x = MARGIN + column * CELL
         picture.add(text_element(x + CELL, picture.y, words, 'end'))
-        picture.add(rectangle(x - 1, picture.y + 4, 1, column * CELL, 'edge'))
+        picture.add(rectangle_element(x - 1, picture.y + 4, 1, column * CELL, 'edge'))
     picture.y += 6
     draw_states(picture, rows, picture.y)
     picture.y += len(rows) * CELL
@@ -117,7 +117,7 @@ def draw_key(picture: Picture) -> None:
     picture's y."""
     bottom, picture.y = picture.y, picture.y - 5 * LINE - 8
     for sign, (colour, words) in RESULTS.items():
-        picture.add(rectangle(MARGIN, picture.y + 9, 11, 11, colour))
+        picture.add(rectangle_element(MARGIN, picture.y + 9, 11, 11, colour))
         picture.add_line(words, x=MARGIN + 18)
     picture.add_line('\u2192 how much of the session had begun', 'grey')
     picture.add_line('\u2193 the step that the crash lost (top: none)', 'grey')

@@ -47,7 +47,7 @@ def text_element(x: float, y: float, words: str, classes: str = '') -> str:
     return f'<text x="{x:g}" y="{y:g}"{attribute}>{escape(words)}</text>'
 
 
-def rectangle(x: float, y: float, width: float, height: float, classes: str) -> str:
+def rectangle_element(x: float, y: float, width: float, height: float, classes: str) -> str:
     """A rectangle as an element, whose top left corner is at (x, y); classes name its colour."""
     return f'<rect x="{x:g}" y="{y:g}" width="{width:g}" height="{height:g}" class="{classes}"/>'
 

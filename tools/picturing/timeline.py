@@ -9,7 +9,7 @@ from crashfs_tools.checker.states.place_sets import places_of
 from crashfs_tools.common.trace_lines import SYNCS, TraceLine
 
 from .checked import CheckedExample
-from .svg import LINE, MARGIN, WIDTH, Picture, rectangle, text_element
+from .svg import LINE, MARGIN, WIDTH, Picture, rectangle_element, text_element
 
 # Where the numbers of lines end, where words begin, and where results end.
 NUMBER, WORDS, RESULT = MARGIN + 24, MARGIN + 36, WIDTH - MARGIN
@@ -42,7 +42,7 @@ def draw_line(picture: Picture, line: TraceLine, result: str) -> None:
     """Adds a line of the session below what is there: its number, what it did, and its result,
     which is that of result_of(). A lost line has a coloured background."""
     if result == LOST:
-        picture.add(rectangle(1, picture.y + 5, WIDTH - 2, LINE, 'tint'))
+        picture.add(rectangle_element(1, picture.y + 5, WIDTH - 2, LINE, 'tint'))
     colour = COLOUR_OF[result]
     picture.add_line(str(line.number), 'code end grey', NUMBER)
     picture.add(text_element(WORDS, picture.y, line.text, f'code {colour}'))

@@ -13,7 +13,7 @@ from crashfs_tools.checker.states.plan import PlannedTrace
 from crashfs_tools.common.guard import Guard
 from crashfs_tools.common.program import Crashfs
 
-from .svg import LINE, MARGIN, Picture, rectangle, text_element
+from .svg import LINE, MARGIN, Picture, rectangle_element, text_element
 
 # A window has fewer micro-operations than this, so that the picture shows several windows.
 LARGEST = 24
@@ -38,7 +38,7 @@ class Window(NamedTuple):
 
     begin: int
     end: int
-    creates: List[int]
+    create_places: List[int]
 
 
 def session_text() -> str:
@@ -58,12 +58,12 @@ def session_text() -> str:
 def window_of(planned: PlannedTrace) -> Window:
     """The window of a planned part of the session."""
     begin, operations = planned.offsets.operations, planned.plan.operations
-    creates = [
+    create_places = [
         place
         for place, operation in enumerate(operations, begin)
         if operation.kind == 'create_dir_entry'
     ]
-    return Window(begin, begin + len(operations), creates)
+    return Window(begin, begin + len(operations), create_places)
 
 
 def plan_windows() -> List[Window]:
@@ -85,7 +85,7 @@ def draw_places(picture: Picture, place_count: int, unsynced: int) -> None:
     picture.y += LINE + 2
     for place in range(place_count):
         colour = 'bad' if place == unsynced else 'sync'
-        picture.add(rectangle(MARGIN + place * CELL, picture.y - 12, CELL - 1, 14, colour))
+        picture.add(rectangle_element(MARGIN + place * CELL, picture.y - 12, CELL - 1, 14, colour))
 
 
 def draw_window(picture: Picture, number: int, window: Window) -> None:
@@ -93,7 +93,7 @@ def draw_window(picture: Picture, number: int, window: Window) -> None:
     window's part of the session: bars of windows may overlap."""
     left, right = (MARGIN + place * CELL for place in (window.begin, window.end))
     picture.y += LINE + 3
-    picture.add(rectangle(left, picture.y - 13, right - left - 1, 17, 'good'))
+    picture.add(rectangle_element(left, picture.y - 13, right - left - 1, 17, 'good'))
     picture.add(text_element(left + 5, picture.y, f'window {number}'))
 
 
@@ -116,7 +116,7 @@ def windows_picture() -> str:
     begin at the file that is never synced, as the picture's words say; IndexError if there is only
     one window."""
     windows = plan_windows()
-    place_count, unsynced = windows[-1].end, windows[0].creates[-1]
+    place_count, unsynced = windows[-1].end, windows[0].create_places[-1]
     if windows[1].begin != unsynced:
         raise ValueError('the second window must begin at what is never synced')
     alternative = alternative_text(windows, place_count, unsynced)

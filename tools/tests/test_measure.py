@@ -16,7 +16,7 @@ from pathlib import Path
 from typing import List
 from unittest import mock
 
-from measuring.client import Client, ServerRefused, message, text_field
+from measuring.client import Client, ServerRefused, message_bytes, text_field
 from measuring.memory import (
     add_memory_rows,
     fill_with_connections,
@@ -222,8 +222,8 @@ class Memory(InFolder):
                 fill_with_connections(address, 1, ExitStack())
 
     def test_a_reply_without_its_end_is_a_fault(self) -> None:
-        version = message(101, b'\0\0\1\0' + text_field('9P2000'))
-        attached = message(105, 13 * b'q')
+        version = message_bytes(101, b'\0\0\1\0' + text_field('9P2000'))
+        attached = message_bytes(105, 13 * b'q')
         with socket.create_server(('127.0.0.1', 0)) as listener:
             for end in range(len(attached)):
                 words = (listener, version + attached[:end])

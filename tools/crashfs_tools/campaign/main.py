@@ -126,9 +126,9 @@ class Campaign:
         self, entry: KnownFailure, seed: int, shrinking: Shrinking, line_count: int
     ) -> None:
         """Keeps the session of a seed, up to the acknowledged line number line_count (0: all of
-        it), as the shortest one of a failure: replaces the entry's trace and page, and then notes
-        the session in the entry. If a check of the cut session finds the failure, the entry
-        describes it as found there. Raises what Shrinking.write_part() does: the entry is as
+        it), as the shortest one of an entry's failure: replaces the entry's trace and page, and
+        then notes the session in the entry. If a check of the cut session finds the failure, the
+        entry describes it as found there. Raises what Shrinking.write_part() does: the entry is as
         before, but a file of it may be replaced."""
         cut_failure = shrinking.write_part(
             line_count, self.results / entry.trace, self.results / entry.page

@@ -79,7 +79,7 @@ class CrashMaker:
         """The moments at which the session may crash, from the start to the end."""
         return list(crash_moments(self.trace.operations, self.line_numbers))
 
-    def crashes(
+    def crashed_trees(
         self, moment: Moment, flush_kinds: Sequence[FlushKind]
     ) -> Iterator[Tuple[Entries, Crash]]:
         """The tree that a crash at a moment leaves, with each possible flush of these kinds; some

@@ -80,7 +80,7 @@ class DiskPool:
     def do_task(self, task: Task) -> Tuple[str, CrashedTrees]:
         """In a worker: the name of a task's file system, and the trees that crashes at the task's
         moment leave on it. Errors as CrashMaker raises them."""
-        return task.name, list(self.makers[task.name].crashes(task.moment, self.flush_kinds))
+        return task.name, list(self.makers[task.name].crashed_trees(task.moment, self.flush_kinds))
 
 
 def become_worker(parent: int) -> None:

@@ -83,11 +83,13 @@ class DiskWorkers(Generic[Task, Result]):
             process = os.fork()
             if process == 0:
                 own_end.close()
-                self.work(worker_end, blocked_before)
+                self.do_tasks(worker_end, blocked_before)
             self.processes[own_end] = process
         worker_end.close()
 
-    def work(self, pipe: Connection, blocked_before: Set[Union[int, signal.Signals]]) -> NoReturn:
+    def do_tasks(
+        self, pipe: Connection, blocked_before: Set[Union[int, signal.Signals]]
+    ) -> NoReturn:
         """In the new process, never returns: does each task that its pipe brings, and sends the
         result. If `set_up` raises, each result is what it raised. Signals wait until `set_up` has
         returned; those of `blocked_before` were blocked before the fork, and stay so. A result that
