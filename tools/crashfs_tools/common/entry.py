@@ -8,6 +8,8 @@ from typing import Dict, Iterator, Optional, Union
 from . import limits
 from .sparse import SparseBytes
 
+FILE_KIND, DIRECTORY_KIND, SYMLINK_KIND = 'a file', 'a directory', 'a symbolic link'
+
 
 @dataclass
 class Entry:
@@ -22,10 +24,10 @@ class Entry:
 
     @property
     def kind(self) -> str:
-        """What it is, in words: `a file`, `a directory` or `a symbolic link`."""
+        """What it is, in words: FILE_KIND, DIRECTORY_KIND or SYMLINK_KIND."""
         if self.link is not None:
-            return 'a symbolic link'
-        return 'a directory' if self.is_directory else 'a file'
+            return SYMLINK_KIND
+        return DIRECTORY_KIND if self.is_directory else FILE_KIND
 
     @property
     def is_directory(self) -> bool:

@@ -260,28 +260,18 @@ class Trace:
     block: int = BLOCK_SIZES[-1]
     notes: Dict[int, str] = field(default_factory=dict)
 
-    def has_kind(self, kind: Type[Any]) -> bool:
-        """Whether the trace's version has lines of this class, such as Link."""
-        return SINCE.get(kind, 1) <= self.version
-
     def lines(self) -> Iterator[str]:
         """The lines of the trace as text, the header first, without their line feeds. KeyError for
-        an operation of an unknown class. Whether the version has each line isn't checked:
-        has_kind() does that."""
-        yield json_line({**self.version_values(), **line_values(self.header)})
-        yield from (json_start_line(entry, self.version) for entry in self.start)
-        for place, operation in enumerate(self.operations):
-            yield json_line(self.operation_values(place, operation))
-
-    def version_values(self) -> Dict[str, Any]:
-        """The keys and values that begin the header's line, in their order: the version, and what
-        only later versions have."""
+        an operation of an unknown class. Whether the version has each line isn't checked."""
         values: Dict[str, Any] = {'trace': self.version}
         if self.version >= 2:
             values['profile'] = self.profile
         if self.version >= 3:
             values['block'] = self.block
-        return values
+        yield json_line({**values, **line_values(self.header)})
+        yield from (json_start_line(entry, self.version) for entry in self.start)
+        for place, operation in enumerate(self.operations):
+            yield json_line(self.operation_values(place, operation))
 
     def operation_values(self, place: int, operation: Operation) -> Dict[str, Any]:
         """The keys and values of the line of an operation, which is at a place from 0. Before

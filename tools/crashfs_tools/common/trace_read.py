@@ -12,6 +12,7 @@ from .trace import (
     KEYS,
     KINDS,
     PROFILES,
+    SINCE,
     Header,
     Start,
     StartLink,
@@ -23,6 +24,8 @@ from .trace_fields import TraceError, parse_lines
 from .tree import Tree
 
 VERSIONS = (1, 2, 3, 4)
+# What a header of each version may have as its profile; one of version 1 has none.
+PROFILES_OF_VERSION = {1: (None,), 2: PROFILES, 3: PROFILES, 4: (*PROFILES, JOURNAL)}
 STARTS: Dict[str, Type[Any]] = {'link': StartLink, 'symlink': StartSymlink}
 
 
@@ -95,7 +98,7 @@ def read_trace_header(fields: Dict[str, Any]) -> Trace:
     profile, block = fields.get('profile'), fields.get('block')
     is_known = (
         version in VERSIONS
-        and (profile in profiles_of_version(version) if version > 1 else profile is None)
+        and profile in PROFILES_OF_VERSION[version]
         and (block in BLOCK_SIZES if version > 2 else block is None)
     )
     if not is_known:
@@ -103,45 +106,24 @@ def read_trace_header(fields: Dict[str, Any]) -> Trace:
     return Trace(header, version=version, profile=profile or BLOCKS, block=block or BLOCK_SIZES[-1])
 
 
-def profiles_of_version(version: int) -> Tuple[str, ...]:
-    """The profiles that a header of a version from 2 on may have; a header of version 1 has
-    none."""
-    return (*PROFILES, JOURNAL) if version >= 4 else PROFILES
-
-
 def read_line(trace: Trace, fields: Dict[str, Any]) -> None:
     """Adds a start line or an operation to a trace, from its fields. From version 3 on `note` is
     removed from these, and an operation's is kept. ValueError, KeyError, TypeError, AttributeError
     or OverflowError if it isn't a line of the trace's version. Unknown keys aren't noticed."""
-    note = fields.pop('note', None) if trace.version >= 3 else None
-    line_class = class_of_line(fields)
-    if not trace.has_kind(line_class):
-        raise ValueError(f'{fields} in a trace of version {trace.version}')
-    item: Any = line_class(**read_line_values(fields, line_class, trace.version))
-    if 'start' in fields:
+    version, is_start = trace.version, 'start' in fields
+    note = fields.pop('note', None) if version >= 3 else None
+    # Directories, files and start lines of an unknown kind are Start.
+    line_class = STARTS.get(fields['start'], Start) if is_start else KINDS[fields['op']]
+    if SINCE.get(line_class, 1) > version:
+        raise ValueError(f'{fields} in a trace of version {version}')
+    names = [attribute.name for attribute in dataclasses.fields(line_class)]
+    item: Any = line_class(**{name: read_line_value(name, fields, version) for name in names})
+    if is_start:
         trace.start.append(item)
         return
     if note is not None:
         trace.notes[len(trace.operations)] = note
     trace.operations.append(item)
-
-
-def class_of_line(fields: Dict[str, Any]) -> Type[Any]:
-    """The class of a start line or an operation, from its fields. Directories, files and start
-    lines of an unknown kind are Start. KeyError for an unknown operation; KeyError or TypeError if
-    the fields are of neither."""
-    if 'start' in fields:
-        return STARTS.get(fields['start'], Start)
-    return KINDS[fields['op']]
-
-
-def read_line_values(fields: Dict[str, Any], line_class: Type[Any], version: int) -> Dict[str, Any]:
-    """The values of a line's fields by the attributes of its class. Errors as
-    read_line_value()."""
-    return {
-        attribute.name: read_line_value(attribute.name, fields, version)
-        for attribute in dataclasses.fields(line_class)
-    }
 
 
 def read_line_value(attribute: str, fields: Dict[str, Any], version: int) -> Any:

@@ -5,7 +5,7 @@ from __future__ import annotations
 from typing import Dict, Iterator, List, Optional, Tuple, Union
 
 from . import limits
-from .entry import Entries, Entry, parent_of
+from .entry import DIRECTORY_KIND, SYMLINK_KIND, Entries, Entry, parent_of
 from .sparse import LARGE_BYTES, SparseBytes
 from .trace import (
     BLOCKS,
@@ -124,15 +124,19 @@ class Tree:
         if isinstance(operation, Rename):
             return self.rename_fault(operation)
         if isinstance(operation, Link):
-            return self.file_fault(operation.source) or self.creation_fault(operation.target)
+            fault = self.entry_fault(operation.source, DIRECTORY_KIND, SYMLINK_KIND)
+            return fault or self.creation_fault(operation.target)
         if isinstance(operation, Rmdir):
             return self.rmdir_fault(operation.path)
-        if isinstance(operation, (Chmod, Chown, Fsync)):
-            return self.change_fault(operation)
+        if isinstance(operation, Chown):
+            return self.entry_fault(operation.path)
+        if isinstance(operation, (Chmod, Fsync)):
+            return self.entry_fault(operation.path, SYMLINK_KIND)
         if isinstance(operation, Unlink):
-            return self.unlink_fault(operation.path)
+            return self.entry_fault(operation.path, DIRECTORY_KIND)
         if isinstance(operation, (Write, Truncate, Fdatasync, FsyncRange)):
-            return self.file_fault(operation.path) or self.size_fault(operation)
+            fault = self.entry_fault(operation.path, DIRECTORY_KIND, SYMLINK_KIND)
+            return fault or self.size_fault(operation)
         return None
 
     def creation_fault(self, path: str) -> Optional[str]:
@@ -147,30 +151,13 @@ class Tree:
             return f'more than {limits.RECORDS} files and directories'
         return path_fault(path)
 
-    def unlink_fault(self, path: str) -> Optional[str]:
-        """Why a path can't be unlinked: nothing is there, or a directory. None if it can."""
+    def entry_fault(self, path: str, *refused_kinds: str) -> Optional[str]:
+        """Why an operation on what is at a path is impossible: nothing is there, or an entry of one
+        of these kinds, as Entry.kind has them. None if it is possible."""
         entry = self.entries.get(path)
         if entry is None:
             return f'{path} is not there'
-        return f'{path} is a directory' if entry.is_directory else None
-
-    def file_fault(self, path: str) -> Optional[str]:
-        """Why a path isn't that of a file with bytes: nothing, a directory or a symbolic link is
-        there. None if a file is."""
-        return self.unlink_fault(path) or self.symlink_fault(path)
-
-    def change_fault(self, operation: Union[Chmod, Chown, Fsync]) -> Optional[str]:
-        """Why a chmod, chown or fsync is impossible: nothing is at its path, or a symbolic link,
-        which only a chown may change. None if it is possible."""
-        if operation.path not in self.entries:
-            return f'{operation.path} is not there'
-        return None if isinstance(operation, Chown) else self.symlink_fault(operation.path)
-
-    def symlink_fault(self, path: str) -> Optional[str]:
-        """Why an operation that follows symbolic links is impossible on a path: a symbolic link is
-        there. None if something else is. KeyError if nothing is."""
-        is_link = self.entries[path].link is not None
-        return f'{path} is a symbolic link' if is_link else None
+        return f'{path} is {entry.kind}' if entry.kind in refused_kinds else None
 
     def rename_fault(self, operation: Rename) -> Optional[str]:
         """Why a rename is impossible, by its paths, what is there, and the count of records. None
@@ -205,18 +192,14 @@ class Tree:
 
     def records_fault(self, operation: Rename) -> Optional[str]:
         """Why there is no record left for a rename. None if there is one, or if the rename needs
-        none: it needs one only in version 4, to move something into another directory."""
-        is_counted = self.version >= 4 and self.is_move(operation)
-        if is_counted and self.records >= limits.RECORDS:
-            return f'more than {limits.RECORDS} files and directories'
-        return None
-
-    def is_move(self, operation: Rename) -> bool:
-        """Whether a rename moves something into another directory. A rename to another path of the
-        same file does nothing, so it isn't a move. KeyError if the source isn't there."""
+        none: it needs one only in version 4, to move something into another directory. A rename to
+        another path of the same file moves nothing. KeyError if the source isn't there."""
         source, target = operation.source, operation.target
         is_same_file = self.files[source] == self.files.get(target)
-        return parent_of(source) != parent_of(target) and not is_same_file
+        is_move = parent_of(source) != parent_of(target) and not is_same_file
+        if self.version >= 4 and is_move and self.records >= limits.RECORDS:
+            return f'more than {limits.RECORDS} files and directories'
+        return None
 
     def rmdir_fault(self, path: str) -> Optional[str]:
         """Why a directory can't be removed: it is the root, isn't there, or has entries. None if it
@@ -247,6 +230,7 @@ class Tree:
     def apply(self, operation: Operation) -> None:
         """Does an operation, for which fault() must be None, and counts its micro-operations and
         records. A sync changes nothing; a say is only counted."""
+        count = 1
         if isinstance(operation, (Creat, Mkdir)):
             data = b'' if isinstance(operation, Creat) else None
             entry = Entry(operation.owner, operation.group, operation.mode, data)
@@ -258,18 +242,27 @@ class Tree:
         elif isinstance(operation, Link):
             self.add_link(operation.source, operation.target)
         elif isinstance(operation, Rename):
-            self.apply_rename(operation)
-        self.micro_operations_of_all_versions += self.apply_in_place(operation)
+            count = self.apply_rename(operation)
+        elif isinstance(operation, Write):
+            count = self.apply_write(operation)
+        elif isinstance(operation, Truncate):
+            count = self.apply_truncate(operation)
+        elif isinstance(operation, (Chmod, Chown)):
+            count = self.set_rights(operation)
+        elif not isinstance(operation, Say):
+            count = 0
+        self.micro_operations_of_all_versions += count
 
-    def apply_rename(self, operation: Rename) -> None:
+    def apply_rename(self, operation: Rename) -> int:
         """Renames a path, with all that is below a directory, and replaces what is at the target.
-        Counts its micro-operations, and a move into another directory. If both paths are the same
-        file's, it does nothing, and counts nothing."""
+        Returns how many micro-operations that is in all versions: 1, or 0 if both paths are the
+        same file's, and nothing is done. A move into another directory is counted in move_count,
+        and what only version 4 has of it in micro_operations_of_version_4."""
         source, target = operation.source, operation.target
         if self.files[source] == self.files.get(target):
-            return
+            return 0
         is_directory = self.entries[source].is_directory
-        if self.is_move(operation):
+        if parent_of(source) != parent_of(target):
             self.move_count += 1
             self.micro_operations_of_version_4 += self.profile == BLOCKS and not is_directory
         inner_paths = self.paths_below(source) if is_directory else ()
@@ -277,19 +270,7 @@ class Tree:
             new_path = target + path[len(source) :]
             self.entries[new_path] = self.entries.pop(path)
             self.files[new_path] = self.files.pop(path)
-        self.micro_operations_of_all_versions += 1
-
-    def apply_in_place(self, operation: Operation) -> int:
-        """Changes bytes, a length or rights, if an operation does so. Returns how many
-        micro-operations the operation has in all versions, but 0 for a rename, which apply_rename()
-        counts. Those that only version 4 has are added to micro_operations_of_version_4."""
-        if isinstance(operation, Write):
-            return self.apply_write(operation)
-        if isinstance(operation, Truncate):
-            return self.apply_truncate(operation)
-        if isinstance(operation, (Chmod, Chown)):
-            return self.set_rights(operation)
-        return int(isinstance(operation, (Creat, Mkdir, Symlink, Unlink, Rmdir, Link, Say)))
+        return 1
 
     def apply_write(self, operation: Write) -> int:
         """Writes bytes. Returns how many micro-operations that is in all versions; 0 if there are
