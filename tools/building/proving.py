@@ -39,7 +39,8 @@ def is_library_current(copy: Path, name: str) -> bool:
 def is_library_kept(work: Work, name: str) -> bool:
     """Whether a crate seems to need no proof, since its library in the repository itself
     is_library_current(), and each crate below, which must be in work.proved_in, has the library
-    that the repository itself had when the build began. OSError as there."""
+    that the repository itself had when the build began. OSError as is_library_current() and
+    read_stamp()."""
     return is_library_current(TOP, name) and all(
         read_stamp(library_folder(work.proved_in[lower], lower)) == work.old_stamps.get(lower)
         for lower in crates_below(work.uses, name)
@@ -58,7 +59,7 @@ def copy_sources_to(folder: Path) -> Path:
 
 def report_failure(name: str, check: Check, jobs: int, processors: int) -> None:
     """Prints on standard error what a failed check printed, and if the system killed the check,
-    killed_text(). OSError as there, or if standard error can't be written."""
+    killed_text(). OSError as killed_text(), or if standard error can't be written."""
     sys.stderr.buffer.write(check.output)
     sys.stderr.buffer.flush()
     if check.is_killed:

@@ -38,12 +38,12 @@ USUAL_FILES = ScriptFiles('start.trace', 'users')
 OTHER_FILES = {'recovery': ScriptFiles('store.trace', 'store.users')}
 
 
-def list_examples() -> List[str]:
+def example_lists() -> List[str]:
     """The names of the examples that are lists of states: each has a trace of this name."""
     return sorted(path.stem for path in EXAMPLES.glob('*.list'))
 
 
-def script_examples() -> Dict[ScriptFiles, List[str]]:
+def example_scripts() -> Dict[ScriptFiles, List[str]]:
     """The names of the scripts that are examples, by the files over which they are run: those of
     OTHER_FILES, or else USUAL_FILES."""
     names_by_files: Dict[ScriptFiles, List[str]] = {}
@@ -66,7 +66,7 @@ def count_example(outcome: Outcome, name: str, printed: str) -> None:
 def count_lists(outcome: Outcome, program_words: List[str]) -> None:
     """Runs the lists by a program that these words start, and counts them in an outcome. OSError as
     count_example(), or if the program can't be started."""
-    for name in list_examples():
+    for name in example_lists():
         words = [*program_words, 'list', '--trace', f'{name}.trace', '--holes']
         count_example(outcome, f'{name}.list', run_command(words, EXAMPLES).printed)
 
@@ -74,7 +74,7 @@ def count_lists(outcome: Outcome, program_words: List[str]) -> None:
 def count_scripts(outcome: Outcome, program_words: List[str]) -> None:
     """Runs each script by a program that these words start, and counts them in an outcome. OSError
     as count_lists()."""
-    scripts = [(name, files) for files, names in script_examples().items() for name in names]
+    scripts = [(name, files) for files, names in example_scripts().items() for name in names]
     for name, files in scripts:
         words = [*program_words, *files.script_command()]
         ended = run_command(words, EXAMPLES, (EXAMPLES / f'{name}.script').read_bytes())
@@ -92,7 +92,7 @@ def run_examples(*, has_rt: bool) -> Outcome:
     if program:
         count_scripts(outcome, program_words)
     elif not has_rt:
-        script_count = sum(map(len, script_examples().values()))
+        script_count = sum(map(len, example_scripts().values()))
         outcome.not_run.append(f'{script_count} examples: {NEEDS_PROGRAM}')
     return outcome
 

@@ -14,7 +14,7 @@ from crashfs_tools.common.program import Crashfs
 
 from .at_once import Part, most_parts_at_once, run_parts
 from .crates import GATE_CRATES, crates_with_tests, run_crate_tests
-from .examples import run_examples, run_scripts, script_examples
+from .examples import run_examples, run_scripts, example_scripts
 from .outcome import Outcome
 from .tools_tests import run_tools_tests
 
@@ -35,7 +35,7 @@ def parts_with_rt() -> Dict[str, Part]:
         if crate.name not in GATE_CRATES
     }
     if Crashfs.find(None) is None:
-        for files, names in script_examples().items():
+        for files, names in example_scripts().items():
             parts[f'scripts over {files.trace}'] = partial(run_scripts, files, names)
     return parts
 
@@ -56,9 +56,9 @@ def not_run_lines_with_rt() -> List[str]:
 
 def run_all_parts(*, has_rt: bool, count: int) -> Iterator[Outcome]:
     """Runs all parts, and yields the outcome of each as it ends. The tools' tests and the examples
-    come first, side by side, since they take least; then, with `rt`, the parts of parts_with_rt(),
-    `count` at once. These aren't run if one of the first two raises an exception, which ends the
-    iterator, as in run_parts()."""
+    come first, side by side, since they take the least time; then, with `rt`, the parts of
+    parts_with_rt(), `count` at once. These aren't run if one of the first two raises an exception,
+    which ends the iterator, as in run_parts()."""
     yield from run_parts(
         {'tools': run_tools_tests, 'examples': partial(run_examples, has_rt=has_rt)}, 2
     )

@@ -14,7 +14,7 @@ from unittest import mock
 from testing import crates, examples, main, tools_tests
 from testing.at_once import Part, most_parts_at_once, run_parts
 from testing.crates import GATE_CRATES, GATE_TESTS, Crate, crates_with_tests
-from testing.examples import EXAMPLES, ScriptFiles, run_examples, run_scripts, script_examples
+from testing.examples import EXAMPLES, ScriptFiles, run_examples, run_scripts, example_scripts
 from testing.outcome import Outcome
 
 from .support import InFolder
@@ -101,13 +101,13 @@ class Examples(InFolder):
         """What comes of the scripts over the usual files, with a command in the place of `rt`."""
         self.write('rt', FAKE_RT.format(command=command), 0o755)
         path = f'{self.folder}:{os.environ["PATH"]}'
-        files, names = next(iter(script_examples().items()))
+        files, names = next(iter(example_scripts().items()))
         with mock.patch.dict(os.environ, PATH=path):
             return run_scripts(files, names)
 
     def test_each_script_has_its_files(self) -> None:
         self.assertEqual(
-            script_examples(),
+            example_scripts(),
             {
                 ScriptFiles('start.trace', 'users'): ['first_exchange', 'shared_run', 'versions'],
                 ScriptFiles('store.trace', 'store.users'): ['recovery'],

@@ -100,7 +100,8 @@ def read_book(path: Path, identity: List[object], first_seed: int) -> Book:
 def book_of_fields(path: Path, fields: Dict[str, Any], first_seed: int) -> Book:
     """The book whose save() wrote these fields; its next seed is at least first_seed. ValueError,
     KeyError, TypeError or AttributeError if the fields are of no book; of the numbers and texts in
-    them only next_seed is checked. The entries lose their `key` and `failure`."""
+    them only next_seed is checked. The objects of `entries` in the fields lose their `key` and
+    `failure`."""
     next_seed = max(first_seed, fields['next_seed'])
     book = Book(path, fields['identity'], next_seed, fields['sessions'])
     book.faults = [(seed, text) for seed, text in fields['faults']]

@@ -91,8 +91,8 @@ class Campaign:
         """Counts a failure of the session that was recorded last, which is that of `seed`; to be
         called once for each of its keys. Keeps the session, cut to the shortest part that fails in
         the same way, if the failure is new, or if that part has fewer acknowledged lines than the
-        kept one: then it prints a line. OSError if its trace can't be read; raises too what
-        Shrinking does."""
+        kept one: then it prints a line. OSError if the session's trace can't be read; also raises
+        what Shrinking does."""
         shrinking = Shrinking(self.sessions, key, lines_of_trace(self.sessions.trace))
         known_failure = self.book.entries.get(key)
         if known_failure is None:

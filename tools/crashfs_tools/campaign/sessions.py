@@ -93,7 +93,7 @@ class Sessions:
     ) -> Tuple[int, str]:
         """Runs crashfs-record or crashfs-check, as `tool` says, to its end, without a time limit,
         with these variables added to its environment. Returns its status and what it printed on
-        standard error; other output is dropped. After an exception meanwhile, as by a stop,
+        standard error; other output is dropped. If an exception comes meanwhile, such as a Stopped,
         end_tool() ends the command. OSError if it can't be started."""
         child = subprocess.Popen(
             [sys.executable, str(TOOLS / tool), *words],

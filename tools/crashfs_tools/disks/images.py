@@ -41,9 +41,9 @@ def dig_holes(image: str) -> None:
 @contextmanager
 def mounted_image(filesystem: FileSystem, image: str, mount_point: str) -> Iterator[str]:
     """Within this an image is mounted at a directory, which is made if it isn't there, and stays.
-    Yields the directory's path. After the unmount the loop device is free again. Refused if no
-    device is free, or if the image can't be mounted. OSError if the directory can't be made or the
-    image can't be opened, and at the end as unmount_directory()."""
+    Yields the directory's path. After the unmount the loop device is free again. Refused as
+    open_loop_device(), or if the image can't be mounted. OSError as open_loop_device(), or if the
+    directory can't be made, and at the end as unmount_directory()."""
     os.makedirs(mount_point, exist_ok=True)
     with attached_loop_device(image) as device:
         mount_device(filesystem, device, mount_point)

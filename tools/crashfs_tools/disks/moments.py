@@ -9,8 +9,8 @@ from crashfs_tools.common.trace import Operation, Say
 
 class Moment(NamedTuple):
     """A moment of a session, after its first `operation_count` operations. From least_says to
-    most_says lines may be acknowledged then. `line` is the number of the last operation's line in
-    the trace; 0 before the first operation."""
+    most_says lines may be acknowledged then. `line` is the number of the trace's line with the last
+    operation before the moment; 0 if there is none."""
 
     operation_count: int
     least_says: int

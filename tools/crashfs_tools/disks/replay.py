@@ -115,7 +115,7 @@ def set_owner_if_other(path: str, line: NewEntry, owners: Owners) -> None:
 
 class UnsyncedChange(NamedTuple):
     """An operation that changed a file's bytes or size. operation_count says how many operations
-    had been made then, with this one; path is what the file's path was."""
+    had been made then, with this one; path is the path that the file had."""
 
     operation_count: int
     path: str
