@@ -83,6 +83,14 @@ class KeptPart(unittest.TestCase):
             ],
         )
 
+    def test_a_torn_record_needs_a_checksum_that_zeros_fail(self):
+        (_, remedy) = torn_advice(TraceLine(4, 'write', '/f'), 'its length').lines()
+        self.assertEqual(
+            remedy,
+            'no sync helps: a record that recovery may drop needs a checksum that zeros fail; '
+            'for all else, write a new file, sync it, rename it, sync the directory',
+        )
+
 
 if __name__ == '__main__':
     unittest.main()

@@ -12,7 +12,9 @@ from .sync_points import LinePairs, end_of_path, is_synced, sync_points
 from .wording import fail_verb, failing_states_text
 
 ATOMIC = 'write a new file, sync it, rename it, sync the directory'
-TORN_WRITE = f'a record that recovery may drop needs a checksum; for all else, {ATOMIC}'
+TORN_WRITE = (
+    f'a record that recovery may drop needs a checksum that zeros fail; for all else, {ATOMIC}'
+)
 TORN_RENAME = 'a rename within one directory is one change'
 ONE_CHANGE = f'no sync helps: make these lines one change ({ATOMIC})'
 NOT_REPRODUCIBLE = (
