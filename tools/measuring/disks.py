@@ -71,7 +71,7 @@ class Measurement:
     def __init__(self, options: argparse.Namespace) -> None:
         """Reads and makes nothing yet."""
         self.options = options
-        self.filesystems = options.on.split(',')
+        self.filesystems = list(dict.fromkeys(options.on.split(',')))
         self.results_path = options.dir / RESULTS
 
     def read_results(self) -> List[SessionResult]:
@@ -89,7 +89,8 @@ class Measurement:
         ]
 
     def tasks(self) -> Iterator[Task]:
-        """A task for each seed and each file system that the options name, seed by seed."""
+        """A task for each seed and each different file system that the options name, seed by
+        seed."""
         first_seed = self.options.first
         seeds = range(first_seed, first_seed + self.options.sessions)
         return ((name, seed) for seed in seeds for name in self.filesystems)

@@ -121,6 +121,11 @@ class Kept(InFolder):
                 self.assertEqual(ended.exception.code, 2)
                 self.assertIn('is not a number from 1', printed.getvalue())
 
+    def test_a_file_system_that_is_named_twice_is_measured_once(self) -> None:
+        words = ['--on', 'ext4,xfs,ext4', '--sessions', '1', self.path('found')]
+        tasks = Measurement(parse_words(words)).tasks_left()
+        self.assertEqual(tasks, [('ext4', 1), ('xfs', 1)])
+
     def test_a_session_with_another_number_of_operations_is_not_done(self) -> None:
         os.mkdir(self.path('found'))
         run = Measurement(parse_words(['--operations', '99', self.path('found')]))
