@@ -15,7 +15,7 @@ from __future__ import annotations
 import argparse
 import sys
 from pathlib import Path
-from typing import Callable, Dict, List, Optional
+from typing import Callable, List, NamedTuple, Optional
 
 from . import disks, stores
 from .memory import add_memory_rows
@@ -25,19 +25,22 @@ from .sets import add_set_rows
 from .states import add_state_rows
 
 TOP = Path(__file__).resolve().parents[2]
-# How the rows are measured that need more than a benchmark program, by name.
-MEASURED: Dict[str, Callable[[Programs, Tally], None]] = {
-    'serve_bench': add_serving_rows,
-    'memory': add_memory_rows,
-    'states': add_state_rows,
-    'sets': add_set_rows,
-}
-# The programs that they need; each other row needs the program of its name.
-NEEDED = {
-    'serve_bench': ['serve_bench', 'crashfs'],
-    'memory': ['crashfs'],
-    'states': ['crashfs'],
-    'sets': ['crashfs'],
+
+
+class Benchmark(NamedTuple):
+    """A benchmark: the programs that it needs, and the function that measures and prints its rows
+    once these are built."""
+
+    needed_programs: List[str]
+    add_rows: Callable[[Programs, Tally], None]
+
+
+# The benchmarks, by name, that need more than a program that prints its rows itself.
+MEASURED = {
+    'serve_bench': Benchmark(['serve_bench', 'crashfs'], add_serving_rows),
+    'memory': Benchmark(['crashfs'], add_memory_rows),
+    'states': Benchmark(['crashfs'], add_state_rows),
+    'sets': Benchmark(['crashfs'], add_set_rows),
 }
 
 
@@ -60,20 +63,29 @@ def parse_words(words: List[str]) -> argparse.Namespace:
     return parser.parse_args(words)
 
 
+def benchmark_of_program(name: str) -> Benchmark:
+    """The benchmark of a program that prints its rows itself, given by its name. Its add_rows
+    raises OSError if the program can't be started."""
+
+    def run_program(programs: Programs, tally: Tally) -> None:
+        tally.run_program([str(programs.path_if_built(name)), 'time'])
+
+    return Benchmark([name], run_program)
+
+
 def measure_benchmark(programs: Programs, name: str, tally: Tally) -> None:
     """Measures a benchmark, given by its name, and prints its rows, or which programs that it needs
-    aren't built. Rows and failures are counted in the tally. OSError if the program of a benchmark
-    that isn't in MEASURED can't be started."""
-    needed = NEEDED.get(name, [name])
-    not_built = [program for program in needed if programs.path_if_built(program) is None]
+    aren't built. Rows and failures are counted in the tally. OSError as benchmark_of_program(), if
+    the benchmark isn't in MEASURED."""
+    benchmark = MEASURED.get(name) or benchmark_of_program(name)
+    not_built = [
+        program for program in benchmark.needed_programs if programs.path_if_built(program) is None
+    ]
     if not_built:
         tally.add_not_built(name, not_built)
         return
     tally.begin_benchmark(name)
-    if name in MEASURED:
-        MEASURED[name](programs, tally)
-    else:
-        tally.run_program([str(programs.path_if_built(name)), 'time'])
+    benchmark.add_rows(programs, tally)
 
 
 def main(arguments: Optional[List[str]] = None) -> int:

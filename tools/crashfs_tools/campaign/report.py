@@ -85,8 +85,8 @@ PAGE = (
 
 
 def page_text(options: CampaignOptions, book: Book, folder: str) -> str:
-    """A page of all failures and all sessions without a verdict, with the present date. Each
-    failure has a link to its own page, relative to `folder`, the directory of this page."""
+    """A page, as HTML, of all failures and all sessions without a verdict, with the present date.
+    Each failure has a link to its own page, relative to `folder`, the directory of this page."""
     body = ''.join(failure_section(options, entry, folder) for entry in book.entries.values())
     faults = ''.join(f'<li>seed {seed}: {html_text(text)}</li>' for seed, text in book.faults)
     body += f'<h2>Without a verdict</h2><ul>{faults}</ul>\n' if faults else ''
