@@ -17,7 +17,7 @@ from crashfs_tools.reading import Reading, parse_trace
 from crashfs_tools.reading.classes import SetClasses
 from crashfs_tools.reading.lines import PROFILES
 from crashfs_tools.reading.order import order_under, profile_names
-from crashfs_tools.reading.states import States
+from crashfs_tools.reading.trees import Trees
 from inventory.markdown import table_lines
 
 from .random_sessions import draw_session
@@ -58,8 +58,8 @@ def allowed_trees(reading: Reading, profile: str) -> Set[TreeAndCount]:
     """Each tree that a profile allows a crash to leave, by its digest, with how many lines are
     acknowledged then. All different states are computed, so the session must be short. ReadingFault
     if the trace's version doesn't have the profile."""
-    states, classes = States(reading), SetClasses(reading, order_under(reading, profile))
-    return {tree_and_count(states, place_set) for place_set in classes.different_sets()}
+    trees, classes = Trees(reading), SetClasses(reading, order_under(reading, profile))
+    return {tree_and_count(trees, place_set) for place_set in classes.different_sets()}
 
 
 def session_result(

@@ -12,7 +12,7 @@ from crashfs_tools.checker.states.plan import PlannedMicroOperation
 from crashfs_tools.common.trace_lines import SYNCS, TraceLine
 from crashfs_tools.reading.every import every_set
 from crashfs_tools.reading.order import Order, changed_marks
-from crashfs_tools.reading.states import States
+from crashfs_tools.reading.trees import Trees
 from crashfs_tools.reading.trace import Reading, parse_trace
 
 from .checked import CheckedExample
@@ -123,10 +123,10 @@ def find_failing_sets(checked: CheckedExample, reading: Reading, sets: List[int]
     """Those of some allowed sets that leave a state in which the check's command failed or gave no
     answer: also sets that the check didn't try, since it tries only the first set that leaves a
     state. `reading` must be the check's trace."""
-    plan, states = checked.findings.plan, States(reading)
+    plan, trees = checked.findings.plan, Trees(reading)
     numbers = (state.number for group in checked.report.groups() for state in group.states)
-    failing_states = {states.digest_and_says(plan.kept[number]) for number in numbers}
-    return {kept_set for kept_set in sets if states.digest_and_says(kept_set) in failing_states}
+    failing_states = {trees.digest_and_says(plan.kept[number]) for number in numbers}
+    return {kept_set for kept_set in sets if trees.digest_and_says(kept_set) in failing_states}
 
 
 def row_words(kind: str, line: TraceLine) -> str:

@@ -23,7 +23,7 @@ from crashfs_tools.disks.moments import Moment
 from crashfs_tools.reading import parse_trace
 from crashfs_tools.reading.every import every_set
 from crashfs_tools.reading.order import Order
-from crashfs_tools.reading.states import States
+from crashfs_tools.reading.trees import Trees
 from measuring.command import main
 from measuring.disk_sessions import (
     OPERATIONS,
@@ -45,9 +45,9 @@ def disk_of(tree: Entries, says: int) -> Disk:
 def disks_of(trace: Trace, profile: str) -> List[Disk]:
     """A disk for each of the first sets that a profile may leave."""
     reading = parse_trace(trace_text(trace).encode())
-    states, order = States(reading), Order(reading, profile)
+    trees, order = Trees(reading), Order(reading, profile)
     return [
-        disk_of(entries_of(states.tree(one)), states.count_says(one))
+        disk_of(entries_of(trees.tree(one)), trees.count_says(one))
         for one in every_set(Order(reading))
         if order.is_allowed(one)
     ][:100]

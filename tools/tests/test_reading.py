@@ -11,7 +11,7 @@ from crashfs_tools.reading import ReadingFault, make_plan, parse_trace
 from crashfs_tools.reading.listing import plain_listing
 from crashfs_tools.reading.order import Order
 from crashfs_tools.reading.plan import different_places, file_sets, read_picks
-from crashfs_tools.reading.states import States
+from crashfs_tools.reading.trees import Trees
 
 from .case_runs import Runner
 from .random_traces import RandomTrace
@@ -43,7 +43,7 @@ def listed(text, picks=(), **options):
 def files_family(text):
     """The places of each set of --files, each set once."""
     reading = parse_trace(text.encode())
-    return list(different_places(file_sets(Order(reading), States(reading))))
+    return list(different_places(file_sets(Order(reading), Trees(reading))))
 
 
 def fault_of(text):

@@ -25,7 +25,7 @@ from crashfs_tools.reading.micro import (
 from crashfs_tools.reading.names import DIRECTORY, Inode
 from crashfs_tools.reading.order import Order, order_under, profile_names
 from crashfs_tools.reading.place_sets import places_of
-from crashfs_tools.reading.states import States
+from crashfs_tools.reading.trees import Trees
 
 from .plain_rules import chains
 from .random_traces import RandomTrace
@@ -60,10 +60,10 @@ def small_ones() -> Iterator[Tuple[Reading, List[int]]]:
             yield reading, list(every_set(order))
 
 
-def shown_tree(states: States, places: int) -> Dict[str, Shown]:
+def shown_tree(trees: Trees, places: int) -> Dict[str, Shown]:
     return {
         path: (item.kind, *item.rights, item.content or b'')
-        for path, item in states.tree(places).items()
+        for path, item in trees.tree(places).items()
     }
 
 
@@ -191,36 +191,36 @@ class ByHand:
         return (node.kind, *self.rights[node], data)
 
 
-class Trees(unittest.TestCase):
+class TreesOfSets(unittest.TestCase):
     def test_each_allowed_set_leaves_the_tree_of_a_fold_by_hand(self) -> None:
         moved = sets = 0
         for reading, members in small_ones():
-            states = States(reading)
+            trees = Trees(reading)
             for places in members:
                 by_hand = ByHand(reading)
                 for place in places_of(places):
                     by_hand.do(reading.operations[place])
-                self.assertEqual(shown_tree(states, places), by_hand.tree())
-                moved += bool(places & states.directory_moves)
+                self.assertEqual(shown_tree(trees, places), by_hand.tree())
+                moved += bool(places & trees.directory_moves)
                 sets += 1
         self.assertGreater(moved, 500)
         self.assertGreater(sets, 2 * moved)
 
     def test_equal_trees_have_equal_digests_and_others_have_others(self) -> None:
         for reading, members in small_ones():
-            states = States(reading)
-            trees: Dict[object, object] = {}
+            trees = Trees(reading)
+            shown: Dict[object, object] = {}
             for places in members:
-                tree = shown_tree(states, places)
-                self.assertEqual(trees.setdefault(states.digest(places), tree), tree)
-            self.assertEqual(len(trees), len({repr(tree) for tree in trees.values()}))
+                tree = shown_tree(trees, places)
+                self.assertEqual(shown.setdefault(trees.digest(places), tree), tree)
+            self.assertEqual(len(shown), len({repr(tree) for tree in shown.values()}))
 
     def test_different_sets_are_the_first_of_each_tree_and_number_of_lines(self) -> None:
         different = 0
         for reading, members in small_ones():
-            states, seen = States(reading), {}
+            trees, seen = Trees(reading), {}
             for places in members:
-                tree = repr(shown_tree(states, places)), states.count_says(places)
+                tree = repr(shown_tree(trees, places)), trees.count_says(places)
                 seen.setdefault(tree, places)
             found = list(SetClasses(reading, Order(reading)).different_sets())
             self.assertEqual(found, list(seen.values()))

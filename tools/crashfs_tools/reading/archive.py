@@ -10,7 +10,7 @@ from typing import BinaryIO, Dict, List, Optional
 from .data import Data
 from .plan import StatePlan
 from .sparse import Extent, data_extents, extent_map, has_many_zeros
-from .states import Item
+from .trees import Item
 
 KINDS = {'dir': tarfile.DIRTYPE, 'file': tarfile.REGTYPE, 'symlink': tarfile.SYMTYPE}
 
@@ -40,7 +40,7 @@ class ArchiveWriter:
         stream.close()
 
     def tree_of_state(self, number: int) -> Dict[str, Item]:
-        """What is at each path of the state with this number, as States.tree() returns it.
+        """What is at each path of the state with this number, as Trees.tree() returns it.
         IndexError if the plan has no such state."""
         return self.plan.trees.tree(self.plan.states[number].place_set)
 

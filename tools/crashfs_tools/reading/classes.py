@@ -17,7 +17,7 @@ from .micro import Acknowledgement, ChangeSize, LinkEntry, MicroOperation, Right
 from .names import DIRECTORY, Entry, Inode, is_file
 from .order import Order
 from .place_sets import places_of, sets_by_key
-from .states import change_entries, change_rights, reachable_paths
+from .trees import change_entries, change_rights, reachable_paths
 from .trace import Reading
 
 # What a set changes of the start tree: what an entry holds then, or None if nothing, and the rights

@@ -10,7 +10,7 @@ from .micro import MicroOperation
 from .order import Order, profile_names
 from .place_sets import places_of
 from .plan import StatePlan
-from .states import Digest
+from .trees import Digest
 
 
 def plain_listing(

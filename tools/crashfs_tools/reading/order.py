@@ -98,7 +98,8 @@ class Order:
         self.synced_sets = compute_synced_sets(reading.operations, reading.syncs)
         self.logged_sets = compute_logged_sets(reading, profile)
         # For each place what it needs, by any chain, and what needs it.
-        self.needs = self.compute_needs(reading, profile)
+        durable_sets = list(map(or_, self.synced_sets, self.logged_sets))
+        self.needs = compute_needs(reading, profile, durable_sets)
         self.needed_by = inverse_sets(self.needs)
         # By their first places, the sets of both halves of a rename, which an allowed set has as a
         # whole or not at all. Only `blocks` allows a rename that is half done. The second half is
@@ -108,25 +109,6 @@ class Order:
             for place, operation in enumerate(reading.operations)
             if operation.rename_half == 1 and profile != 'blocks'
         }
-
-    def compute_needs(self, reading: Reading, profile: str) -> List[int]:
-        """For each place the set of those that its micro-operation needs, by all rules of a profile
-        and by any chain, without the place itself. synced_sets and logged_sets must be computed
-        before."""
-        needs: List[int] = []
-        providers: Dict[Mark, int] = {}
-        for place, operation in enumerate(reading.operations):
-            required = required_marks(operation, reading.version, profile)
-            direct_needs = union_of(providers.get(mark, 0) for mark in required)
-            direct_needs |= self.synced_sets[place] | self.logged_sets[place]  # P5, P11
-            if operation.rename_half == 2:
-                direct_needs |= 1 << (place - 1)  # P13
-            needs.append(
-                direct_needs | union_of(needs[needed] for needed in places_of(direct_needs))
-            )
-            provided = provided_marks(operation)
-            providers.update({mark: providers.get(mark, 0) | 1 << place for mark in provided})
-        return needs
 
     def pending_set(self, count: int) -> int:
         """Of the first `count` micro-operations the set of those that no sync point among or right
@@ -164,9 +146,9 @@ class Order:
         return new_order
 
     def with_earlier_lines(self, reading: Reading) -> Order:
-        """The order that allows a set if this one does and the set has all acknowledged lines that
-        come before one of its members. From version 3 on it allows what this one does. `reading`
-        must be that of this order."""
+        """The order that allows a set exactly if this one does and the set has all acknowledged
+        lines that come before one of its members. From version 3 on it allows what this one does.
+        `reading` must be that of this order."""
         line_order = copy(self)
         earlier_lines, line_order.needs = 0, []
         for place, operation in enumerate(reading.operations):
@@ -178,14 +160,32 @@ class Order:
     def is_allowed(self, place_set: int) -> bool:
         """Whether a set has all that its members need, and each unit as a whole or not at all. All
         its places must be those of the trace."""
+        if any(place_set & unit not in (0, unit) for unit in self.units.values()):
+            return False
         gaps = (1 << place_set.bit_length()) - 1 & ~place_set
-        return all(place_set & unit in (0, unit) for unit in self.units.values()) and not any(
-            self.needed_by[gap] & place_set for gap in places_of(gaps)
-        )
+        return not any(self.needed_by[gap] & place_set for gap in places_of(gaps))
 
     def set_without(self, place_set: int, lost: int) -> int:
         """A set without the places of the set `lost`, and without all that need one of these."""
         return place_set & ~(lost | union_of(self.needed_by[place] for place in places_of(lost)))
+
+
+def compute_needs(reading: Reading, profile: str, durable_sets: List[int]) -> List[int]:
+    """For each place the set of those that its micro-operation needs, by all rules of a profile and
+    by any chain, without the place itself. durable_sets has for each place what sync points before
+    it make durable under this profile."""
+    needs: List[int] = []
+    providers: Dict[Mark, int] = {}
+    for place, operation in enumerate(reading.operations):
+        required = required_marks(operation, reading.version, profile)
+        direct_needs = union_of(providers.get(mark, 0) for mark in required)
+        direct_needs |= durable_sets[place]  # P5, P11
+        if operation.rename_half == 2:
+            direct_needs |= 1 << (place - 1)  # P13
+        needs.append(direct_needs | union_of(needs[needed] for needed in places_of(direct_needs)))
+        provided = provided_marks(operation)
+        providers.update({mark: providers.get(mark, 0) | 1 << place for mark in provided})
+    return needs
 
 
 def inverse_sets(needs: List[int]) -> List[int]:
@@ -211,8 +211,8 @@ def compute_synced_sets(operations: List[MicroOperation], syncs: List[SyncPoint]
 
 def compute_logged_sets(reading: Reading, profile: str) -> List[int]:
     """For each place, and for the end, the set of what sync points before it wrote to the log. With
-    the profile `journal` a fresh sync point writes all changes of entries before it; with other
-    profiles there is no log, and all sets are empty."""
+    the profile `journal` a sync point that is_fresh() writes all changes of entries before it; with
+    other profiles there is no log, and all sets are empty."""
     entry_changes, logged_sets, begin = 0, [0] * (len(reading.operations) + 1), 0
     for sync in reading.syncs if profile == 'journal' else []:
         operations_since = reading.operations[begin : sync.place]

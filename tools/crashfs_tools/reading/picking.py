@@ -13,7 +13,7 @@ from .lines import PROFILES
 from .order import Order, order_under
 from .place_sets import places_of
 from .plan import different_places, family_sets
-from .states import States
+from .trees import Trees
 from .trace import Reading
 
 DEFAULT_MOST = 1_000_000
@@ -94,7 +94,7 @@ def picked_sets(reading: Reading, options: Options) -> Iterator[List[int]]:
         drawn = drawn_sets(Order(reading), count, seed)
         return (list(places_of(place_set)) for place_set in drawn)
     has_lost, has_files = '--lost' in options, '--files' in options
-    order, trees = Order(reading), States(reading)
+    order, trees = Order(reading), Trees(reading)
     families = family_sets(order, trees, has_lost=has_lost, has_files=has_files)
     return (places for family in families for places in different_places(family))
 

@@ -9,7 +9,7 @@ from .faults import LineFault, ReadingFault, syntax_fault
 from .json_lines import is_trace_number, read_array
 from .order import Order
 from .place_sets import places_of, set_of
-from .states import States
+from .trees import Trees
 from .trace import Reading
 
 # The most states of a plan, and the largest number in a picks file.
@@ -48,7 +48,7 @@ class StatePlan:
     def __init__(self, reading: Reading) -> None:
         self.reading = reading
         self.order = Order(reading)
-        self.trees = States(reading)
+        self.trees = Trees(reading)
         self.states: List[PlannedState] = []
 
     def add_state(self, kind: str, numbers: Tuple[int, ...], place_set: int) -> None:
@@ -146,7 +146,7 @@ def read_pick(line: bytes) -> List[int]:
 
 
 def family_sets(
-    order: Order, trees: States, *, has_lost: bool, has_files: bool
+    order: Order, trees: Trees, *, has_lost: bool, has_files: bool
 ) -> List[Iterator[int]]:
     """The sets of each family that is asked for, as a stream: of --lost first, then of --files.
     `order` and `trees` must be those of one trace."""
@@ -160,7 +160,7 @@ def lost_sets(order: Order) -> Iterator[int]:
     return (needs | 1 << place for place, needs in enumerate(order.needs))
 
 
-def file_sets(order: Order, trees: States) -> Iterator[int]:
+def file_sets(order: Order, trees: Trees) -> Iterator[int]:
     """The family --files: each prefix without those changes of one file that no sync before its
     last micro-operation covers, and without all that need them. A set may come several times.
     `order` and `trees` must be those of one trace."""

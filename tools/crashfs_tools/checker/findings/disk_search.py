@@ -27,7 +27,7 @@ from crashfs_tools.disks.pool import DiskPool
 from crashfs_tools.reading import parse_trace
 from crashfs_tools.reading.classes import SetClasses
 from crashfs_tools.reading.order import Order
-from crashfs_tools.reading.states import States
+from crashfs_tools.reading.trees import Trees
 
 from .read_trees import TreeAndCount, tree_and_count
 from .sightings import (
@@ -257,7 +257,7 @@ def search_trees(trace_bytes: bytes, wanted: Set[TreeAndCount]) -> SearchResult:
     isn't whole if it ends at MOST_STATES or MOST_SECONDS. ReadingFault if the trace has a
     fault."""
     reading = parse_trace(trace_bytes)
-    states = States(reading)
+    trees = Trees(reading)
     found: Set[TreeAndCount] = set()
     deadline = time.monotonic() + MOST_SECONDS
     searched_states = 0
@@ -265,7 +265,7 @@ def search_trees(trace_bytes: bytes, wanted: Set[TreeAndCount]) -> SearchResult:
         if searched_states >= MOST_STATES or time.monotonic() > deadline:
             return SearchResult(found, searched_states, is_whole=False)
         searched_states += 1
-        found |= {tree_and_count(states, kept_set)} & wanted
+        found |= {tree_and_count(trees, kept_set)} & wanted
         if found == wanted:
             break
     return SearchResult(found, searched_states, is_whole=True)

@@ -7,7 +7,7 @@ from typing import Dict, Tuple
 from crashfs_tools.common.entry import Entries, Entry
 from crashfs_tools.common.sparse import SparseBytes
 from crashfs_tools.disks.disk import digest_of
-from crashfs_tools.reading.states import Item, States
+from crashfs_tools.reading.trees import Item, Trees
 
 # Files of more bytes are kept without their zeros.
 WHOLE_BYTES = 1 << 20
@@ -16,11 +16,11 @@ WHOLE_BYTES = 1 << 20
 TreeAndCount = Tuple[str, int]
 
 
-def tree_and_count(states: States, kept_set: int) -> TreeAndCount:
+def tree_and_count(trees: Trees, kept_set: int) -> TreeAndCount:
     """The tree that an allowed set leaves, by its digest as disks have it, and how many lines are
     acknowledged then."""
-    tree = entries_of(states.tree(kept_set))
-    return digest_of(tree), states.count_says(kept_set)
+    tree = entries_of(trees.tree(kept_set))
+    return digest_of(tree), trees.count_says(kept_set)
 
 
 def entries_of(tree: Dict[str, Item]) -> Entries:

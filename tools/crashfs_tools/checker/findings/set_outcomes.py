@@ -8,7 +8,7 @@ from typing import Dict, Optional, Tuple
 from crashfs_tools.checker.running.runner import GOOD, Outcome
 from crashfs_tools.checker.states.plan import Plan, PlannedTrace
 from crashfs_tools.reading import parse_trace
-from crashfs_tools.reading.states import Digest, States
+from crashfs_tools.reading.trees import Digest, Trees
 
 from .groups import Findings
 
@@ -18,9 +18,9 @@ class EqualSets:
     asked for. If these are listed and the check was not stopped, each allowed set leaves a tree
     that was tried."""
 
-    def __init__(self, states: States) -> None:
-        """`states` computes what the sets leave. No outcome is known yet."""
-        self.states = states
+    def __init__(self, trees: Trees) -> None:
+        """`trees` computes what the sets leave. No outcome is known yet."""
+        self.trees = trees
         # What each set leaves, if it was asked before; and the outcomes of what was tried.
         self.left_by_sets: Dict[int, Tuple[Digest, int]] = {}
         self.outcomes: Dict[Tuple[Digest, int], Outcome] = {}
@@ -44,7 +44,7 @@ class EqualSets:
         """What a set leaves: a tree, as its digest, and how many lines are acknowledged. This is
         computed once for each set, and kept."""
         if kept_set not in self.left_by_sets:
-            self.left_by_sets[kept_set] = self.states.digest_and_says(kept_set)
+            self.left_by_sets[kept_set] = self.trees.digest_and_says(kept_set)
         return self.left_by_sets[kept_set]
 
 
@@ -55,7 +55,7 @@ def find_equal_sets(planned: PlannedTrace, findings: Findings) -> Optional[Equal
     if findings.plan.all_states is None:
         return None
     with open(planned.trace, 'rb') as file:
-        equal_sets = EqualSets(States(parse_trace(file.read())))
+        equal_sets = EqualSets(Trees(parse_trace(file.read())))
     equal_sets.add_outcomes(findings)
     return equal_sets
 

@@ -20,7 +20,7 @@ from crashfs_tools.common.command import Refused
 from crashfs_tools.common.removal import FOLDER
 from crashfs_tools.common.whole_files import write_whole_file
 from crashfs_tools.reading import parse_trace
-from crashfs_tools.reading.states import States
+from crashfs_tools.reading.trees import Trees
 
 from .runner import BAD, GOOD, Outcome
 
@@ -94,7 +94,7 @@ class StateKeys:
         refuses it."""
         with open(trace_path, 'rb') as file:
             self.reading = parse_trace(file.read())
-        self.states = States(self.reading)
+        self.trees = Trees(self.reading)
         self.plan = plan
         self.acknowledged = acknowledged
 
@@ -103,7 +103,7 @@ class StateKeys:
         of the size of blocks, and of `attempt`, which is 0 for COMMAND's first run in the state,
         and another number for each further run."""
         state = self.plan.state(number)
-        tree = self.states.digest(self.plan.kept[number])
+        tree = self.trees.digest(self.plan.kept[number])
         lines = self.acknowledged[: state.says]
         text = repr((self.reading.block_size, tree, lines, attempt))
         return hashlib.sha256(text.encode('utf-8', 'surrogateescape')).hexdigest()

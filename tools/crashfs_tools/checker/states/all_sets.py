@@ -33,7 +33,7 @@ from .plan import Needs, PlanError
 if TYPE_CHECKING:
     from crashfs_tools.reading import Reading
     from crashfs_tools.reading.order import Order
-    from crashfs_tools.reading.states import States
+    from crashfs_tools.reading.trees import Trees
 
 # What the program says if there are too many sets.
 TOO_MANY = ('more than ', 'too many sets')
@@ -228,11 +228,11 @@ class ReadingSets:
         return Order(self.reading)
 
     @cached_property
-    def trees(self) -> States:
+    def trees(self) -> Trees:
         """The trees that allowed sets leave."""
-        from crashfs_tools.reading.states import States
+        from crashfs_tools.reading.trees import Trees
 
-        return States(self.reading)
+        return Trees(self.reading)
 
     @cached_property
     def needs(self) -> Needs:

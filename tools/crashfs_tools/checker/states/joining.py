@@ -13,10 +13,10 @@ def joined_states(trace_path: str, plan: Plan) -> List[State]:
     of the trace at trace_path compares the trees: ReadingFault if it refuses the trace, OSError if
     the file can't be read."""
     from crashfs_tools.reading import parse_trace
-    from crashfs_tools.reading.states import Digest, States
+    from crashfs_tools.reading.trees import Digest, Trees
 
     with open(trace_path, 'rb') as file:
-        trees = States(parse_trace(file.read()))
+        trees = Trees(parse_trace(file.read()))
     number_by_digest: Dict[Digest, int] = {}
     first_number: Dict[int, int] = {}
     for state in plan.listed:

@@ -46,7 +46,7 @@ Digest = Tuple[Tuple[str, str, Rights, Optional[bytes]], ...]
 NodesAndRights = Tuple[Dict[str, Inode], Dict[int, Rights]]
 
 
-class States:
+class Trees:
     """Makes the trees of allowed sets; other sets may raise KeyError. What a file holds depends
     only on its own changes, and the names only on changes of entries and directories, so that many
     states share them.
