@@ -52,7 +52,7 @@ def draw_rows(picture: Picture, session: ModelledSession) -> Dict[int, float]:
     place, and no height."""
     heights: Dict[int, float] = {}
     for row in session.rows():
-        picture.add_line(row.words, f'code {"sync" if row.place is None else "ink"}', WORDS)
+        picture.add_line(row.words, row.classes, WORDS)
         if row.place is None:
             picture.add(text_element(NUMBER, picture.y, '\u2014', 'code end sync'))
         else:

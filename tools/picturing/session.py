@@ -27,6 +27,11 @@ class Row:
     place: Optional[int]
     words: str
 
+    @property
+    def classes(self) -> str:
+        """The classes of its words in a picture: a line that syncs has another colour."""
+        return 'code sync' if self.place is None else 'code ink'
+
 
 class Need(NamedTuple):
     """A place that needs an earlier place, and the rule of this need."""

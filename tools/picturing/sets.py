@@ -39,7 +39,7 @@ def draw_cells(picture: Picture, session: ModelledSession, place: int) -> None:
 def draw_row(picture: Picture, session: ModelledSession, row: Row, *, has_number: bool) -> None:
     """Adds a row below what is there: its words, the number of its line if has_number, and the
     cells of draw_cells() or, for a line that syncs, a rule across all columns."""
-    picture.add_line(row.words, f'code {"sync" if row.place is None else "ink"}', WORDS)
+    picture.add_line(row.words, row.classes, WORDS)
     if has_number:
         picture.add(text_element(NUMBER, picture.y, str(row.line.number), 'code end grey'))
     if row.place is None:
