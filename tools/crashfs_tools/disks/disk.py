@@ -7,7 +7,7 @@ import os
 import stat
 from dataclasses import dataclass
 from itertools import chain
-from typing import Dict, Iterator, List, NamedTuple, Tuple
+from typing import Dict, Iterable, Iterator, List, NamedTuple, Tuple
 
 from crashfs_tools.common.entry import Entries, Entry
 from crashfs_tools.common.file_bytes import read_file_bytes
@@ -109,7 +109,7 @@ def digested_pieces(path: str, entry: Entry) -> Iterator[bytes]:
             yield number.to_bytes(8, 'little') + page
 
 
-def different_disks(crashed_trees: Iterator[Tuple[Entries, Crash]]) -> List[Disk]:
+def different_disks(crashed_trees: Iterable[Tuple[Entries, Crash]]) -> List[Disk]:
     """The different trees that crashes left, each with its digest and with all crashes that left it
     or an equal tree; of equal trees the first is kept. Trees are in the order of their first
     crashes, and crashes in that of `crashed_trees`."""

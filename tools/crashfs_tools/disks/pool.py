@@ -6,7 +6,7 @@ import os
 import resource
 import signal
 from functools import partial
-from typing import Callable, Dict, Iterator, List, NamedTuple, Sequence, Tuple
+from typing import Callable, Dict, List, NamedTuple, Sequence, Tuple
 
 from crashfs_tools.common.descendants import die_with_parent
 from crashfs_tools.common.entry import Entries
@@ -99,7 +99,7 @@ def become_worker(parent: int) -> None:
     use_own_mounts()
 
 
-def crashes_in_order(crashed_trees: CrashedTrees) -> Iterator[Tuple[Entries, Crash]]:
+def crashes_in_order(crashed_trees: CrashedTrees) -> CrashedTrees:
     """The crashes in the order of their moments, and at one moment of their kinds of flushes:
     workers send them in any order. Crashes of one kind at one moment stay in their order."""
-    return iter(sorted(crashed_trees, key=lambda pair: (pair[1].moment, pair[1].flush_kind.rank)))
+    return sorted(crashed_trees, key=lambda pair: (pair[1].moment, pair[1].flush_kind.rank))
