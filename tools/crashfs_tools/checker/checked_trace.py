@@ -6,6 +6,7 @@ from __future__ import annotations
 import os
 import stat
 from contextlib import contextmanager
+from dataclasses import dataclass
 from functools import cached_property
 from typing import TYPE_CHECKING, Iterator, NamedTuple, Optional
 
@@ -56,39 +57,35 @@ def read_trace_file(path: str, guard: Guard) -> TraceFile:
     return TraceFile(copy_path, text, mode)
 
 
+@dataclass
 class CheckedTrace:
-    """A trace that is checked by one program. path, text and mode are those of its TraceFile.
-    windows is None until all_planned() finds that the trace needs windows; for a trace that is
-    tried whole it stays None."""
+    """A trace that is checked by one program, which must take traces of this version. path, text
+    and mode are those of its TraceFile. windows is None until all_planned() finds that the trace
+    needs windows; for a trace that is tried whole it stays None."""
 
-    def __init__(
-        self,
-        options: Options,
-        trace_file: TraceFile,
-        program: Crashfs,
-        guard: Guard,
-        progress: Optional[Progress] = None,
-    ) -> None:
-        """The program must take traces of this version. Without `progress` a new one is shown on
-        standard error."""
-        self.options, self.guard = options, guard
-        self.path, self.text, self.mode = trace_file
-        self.program = program
-        self.planner = Planner(options, program, guard)
-        self.progress = progress or Progress()
-        self.windows: Optional[Windows] = None
+    options: Options
+    path: str
+    text: str
+    mode: int
+    program: Crashfs
+    guard: Guard
+    planner: Planner
+    progress: Progress
+    windows: Optional[Windows] = None
 
     @staticmethod
     def read(
         options: Options, program: Crashfs, guard: Guard, progress: Optional[Progress] = None
     ) -> CheckedTrace:
         """Reads the trace that the options must name, and asks the program whether it takes traces
-        of this version: if not, the second reading takes its place. Exceptions as in
-        read_trace_file() and Crashfs.program_for_version()."""
+        of this version: if not, the second reading takes its place. Without `progress` a new one is
+        shown on standard error. Exceptions as in read_trace_file() and
+        Crashfs.program_for_version()."""
         assert options.trace is not None
-        trace_file = read_trace_file(options.trace, guard)
-        program = program.program_for_version(trace_version(trace_file.text))
-        return CheckedTrace(options, trace_file, program, guard, progress)
+        path, text, mode = read_trace_file(options.trace, guard)
+        program = program.program_for_version(trace_version(text))
+        planner, progress = Planner(options, program, guard), progress or Progress()
+        return CheckedTrace(options, path, text, mode, program, guard, planner, progress)
 
     def all_planned(self) -> Iterator[PlannedTrace]:
         """Yields the plan of the trace or, if --window is given or the trace is too long for one
@@ -118,19 +115,12 @@ class CheckedTrace:
         return parse_trace_text(self.text)
 
     @cached_property
-    def acknowledged_lines(self) -> AcknowledgedLines:
-        """The acknowledged lines, of which COMMAND gets files as its standard input. Use them only
-        after the program has accepted the trace, as `lines`."""
-        return AcknowledgedLines(self.lines.acknowledged, self.guard.directory)
-
-    @cached_property
     def workplace(self) -> Workplace:
         """What the trials of all windows share: always the same object, so that all of them get a
         cache that is opened later. Use it only after the program has accepted the trace, as
         `lines`."""
-        return Workplace(
-            self.options, self.program, self.guard, self.acknowledged_lines, self.progress
-        )
+        acknowledged_lines = AcknowledgedLines(self.lines.acknowledged, self.guard.directory)
+        return Workplace(self.options, self.program, self.guard, acknowledged_lines, self.progress)
 
     def trials_with_state(self, number: int) -> Trials:
         """Plans window after window until one lists the state with this number, and returns the
@@ -172,7 +162,7 @@ class CheckedTrace:
         written."""
         if self.windows is None:
             return None
-        path, line_count = self.windows.write_end(), len(self.acknowledged_lines.texts)
+        path, line_count = self.windows.write_end(), len(self.lines.acknowledged)
         return self.planner.plan(path, Offsets(states=NUMBER_OF_END, says=line_count))
 
     @contextmanager

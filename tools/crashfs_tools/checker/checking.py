@@ -72,6 +72,8 @@ class Check:
         self.report = report
         self.head = report.head
         self.earlier_results = earlier_results
+        # The states of a shard or a server are too few to find losses and advice from them.
+        self.is_of_shard_or_server = report.head.shard.parts > 1 or trace.options.serve is not None
         self.last_window: Optional[Window] = None
         self.has_tried_all = False
         # What ended the check early, also if all states had been tried.
@@ -155,7 +157,8 @@ class Check:
             self.report_losses(window)
             self.report_reruns(window)
             self.has_tried_all = planned.is_last and is_whole
-            if not is_whole or self.is_ended_by(window):
+            may_end_early = self.options.fail_fast and not self.has_tried_all
+            if not is_whole or (may_end_early and window.findings.groups):
                 self.note_end(FIRST_FAILURE)
                 return
             self.report_details(window)
@@ -246,18 +249,6 @@ class Check:
             write_whole_file(path, pieces, self.trace.mode)
 
         return Saver(save, SAVE_SECONDS).save_if_due
-
-    def is_ended_by(self, window: Window) -> bool:
-        """Whether --fail-fast ends the check after this window, because a state of the window fails
-        or gave no answer. False if has_tried_all, which must be set before: then no state is left
-        to try."""
-        return self.options.fail_fast and bool(window.findings.groups) and not self.has_tried_all
-
-    @property
-    def is_of_shard_or_server(self) -> bool:
-        """Whether only the states of a shard or of a server are tried: too few to find losses and
-        advice from them."""
-        return self.head.shard.parts > 1 or self.options.serve is not None
 
     def report_losses(self, window: Window) -> None:
         """Finds the smallest losses of failing states whose pair is a guess, and makes the groups
