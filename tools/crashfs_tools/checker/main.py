@@ -12,7 +12,6 @@ from typing import Dict, List, Optional
 
 from crashfs_tools.api.reports import Report
 from crashfs_tools.checker.report.report import NOT_ALL_TRIED
-from crashfs_tools.checker.running.descriptors import limit_inherited_descriptors
 from crashfs_tools.checker.running.progress import Progress
 from crashfs_tools.checker.running.runner import LeftRunning
 from crashfs_tools.checker.states.plan import PlanError
@@ -21,7 +20,11 @@ from crashfs_tools.common.guard import Guard
 from crashfs_tools.common.own_faults import print_own_fault
 from crashfs_tools.common.program import ProgramFault
 from crashfs_tools.common.signals import Stopped, raise_on_stop_signals
-from crashfs_tools.common.standard_streams import flushed_output, set_utf8_streams
+from crashfs_tools.common.standard_streams import (
+    flushed_output,
+    limit_inherited_descriptors,
+    set_utf8_streams,
+)
 from crashfs_tools.common.whole_files import folder_to_write
 
 from .checked_trace import mode_of_report, refuse_unreadable
@@ -103,16 +106,24 @@ def strictest_mode(paths: List[str]) -> int:
 
 
 def write_and_print(options: Options, report: Report) -> int:
-    """Writes the files that the options name, then prints the report: on standard error if one of
-    the files is standard output. Returns the exit status. If a file can't be written, the report is
-    printed nevertheless, and then the OSError is raised; an OSError of the printing is raised in
-    its place."""
+    """Writes the files of outputs_of(), in their order, then prints the report: on standard error
+    if one of the files is standard output. Returns the exit status. If a file can't be written, the
+    later ones aren't written either; the report is printed nevertheless, and then the OSError is
+    raised; an OSError of the printing is raised in its place."""
+    writers = {
+        '--json': report.write_json,
+        '--junit': report.write_junit,
+        '--tap': report.write_tap,
+        '--html': report.write_html,
+    }
+    outputs = outputs_of(options)
     write_error = None
     try:
-        write_files(options, report)
+        for name, path in outputs.items():
+            writers[name](path)
     except OSError as error:
         write_error = error
-    if '-' in outputs_of(options).values():
+    if '-' in outputs.values():
         print(report, file=sys.stderr)
     else:
         with flushed_output():
@@ -120,19 +131,6 @@ def write_and_print(options: Options, report: Report) -> int:
     if write_error is not None:
         raise write_error
     return report.status
-
-
-def write_files(options: Options, report: Report) -> None:
-    """Writes the files of outputs_of(), in their order. After an OSError the file that it names and
-    the later ones aren't written."""
-    writers = {
-        '--json': report.write_json,
-        '--junit': report.write_junit,
-        '--tap': report.write_tap,
-        '--html': report.write_html,
-    }
-    for name, path in outputs_of(options).items():
-        writers[name](path)
 
 
 def print_fault(fault: BaseException) -> None:

@@ -1,4 +1,5 @@
-"""The standard streams: all are open and in UTF-8, and output that can't be written is noticed."""
+"""The standard streams: all are open and in UTF-8, output that can't be written is noticed, and
+commands inherit no other descriptors."""
 
 from __future__ import annotations
 
@@ -19,20 +20,40 @@ def set_utf8_streams() -> None:
             stream.reconfigure(encoding='utf-8', errors='backslashreplace')
 
 
-def prepare_standard_streams() -> None:
+def open_standard_descriptors() -> None:
     """Opens /dev/null for each standard stream that is closed, also for programs that are started,
-    so that no other file gets the stream's number. Python's own sys.stdin may still be None. Then
-    calls set_utf8_streams(). OSError if /dev/null can't be opened."""
+    so that no other file gets the stream's number. OSError if /dev/null can't be opened."""
     for number in (0, 1, 2):
         try:
             os.fstat(number)
         except OSError:
             os.set_inheritable(os.open(os.devnull, os.O_RDWR), True)
+
+
+def prepare_standard_streams() -> None:
+    """Opens the standard streams that are closed, as open_standard_descriptors() does; Python's own
+    sys.stdin may still be None. Then calls set_utf8_streams(). OSError if /dev/null can't be
+    opened."""
+    open_standard_descriptors()
     if sys.stdout is None:
         sys.stdout = open(1, 'w', encoding='utf-8', closefd=False)
     if sys.stderr is None:
         sys.stderr = open(2, 'w', encoding='utf-8', closefd=False)
     set_utf8_streams()
+
+
+def limit_inherited_descriptors() -> None:
+    """Makes commands that are started later inherit only the standard streams, as
+    open_standard_descriptors() leaves them: all other descriptors that are open now become
+    close-on-exec. Python's own streams stay as they are. OSError without /proc or /dev/null."""
+    open_standard_descriptors()
+    for name in os.listdir('/proc/self/fd'):
+        if int(name) > 2:
+            try:
+                os.set_inheritable(int(name), False)
+            except OSError:
+                # That of the listing itself is closed by now.
+                continue
 
 
 @contextmanager
