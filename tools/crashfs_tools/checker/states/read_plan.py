@@ -3,6 +3,7 @@
 from __future__ import annotations
 
 import json
+from dataclasses import dataclass, field
 from typing import Any, Dict, List, Sequence, Tuple
 
 from .place_sets import set_of
@@ -29,23 +30,22 @@ def read_plan(
     return Plan(reader.operations, reader.states, needs, offsets.states, profiles=profiles)
 
 
+@dataclass
 class PlanReader:
-    """Reads what `crashfs list` printed of the parts of a plan. Call add_part() for each part, the
-    first one first."""
+    """Reads what `crashfs list` printed of the parts of a plan, which has these offsets in its
+    session. Call add_part() for each part, the first one first."""
 
-    def __init__(self, offsets: Offsets) -> None:
-        """The offsets are those of the plan in its session."""
-        self.offsets = offsets
-        # Of the part that is read: whether it is the first, and what is added to its numbers.
-        self.is_first = True
-        self.number_offset = 0
-        self.operations: List[PlannedMicroOperation] = []
-        self.states: List[State] = []
-        self.needs: List[int] = []
-        # The names of the profiles, which all allow the first state, since its set is empty; and
-        # the profiles of each state as bits. Both are empty if the program prints no profiles.
-        self.profile_names: Tuple[str, ...] = ()
-        self.profile_bits: List[int] = []
+    offsets: Offsets
+    # Of the part that is read: whether it is the first, and what is added to its numbers.
+    is_first: bool = True
+    number_offset: int = 0
+    operations: List[PlannedMicroOperation] = field(default_factory=list)
+    states: List[State] = field(default_factory=list)
+    needs: List[int] = field(default_factory=list)
+    # The names of the profiles, which all allow the first state, since its set is empty; and the
+    # profiles of each state as bits. Both are empty if the program prints no profiles.
+    profile_names: Tuple[str, ...] = ()
+    profile_bits: List[int] = field(default_factory=list)
 
     def add_part(self, listing: str) -> None:
         """Adds the states of a part, from what `list --json` printed, and the operations if it is
