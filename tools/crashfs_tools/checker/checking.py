@@ -184,22 +184,20 @@ class Check:
             self.report.add(self.last_window.findings)
 
     def prepare_first_window(self, trials: Trials, results: Results) -> None:
-        """Sets the lines of the head, opens the cache, and tries the tree at the session's end and
-        the start tree, whose outcomes the results get. Refused as open_cache(), and if COMMAND
-        fails in one of these trees; other errors as in FirstTrials.run()."""
+        """Sets the lines of the head, opens the cache of --cache, and tries the tree at the
+        session's end and the start tree, whose outcomes the results get. Refused as open_cache(),
+        and if COMMAND fails in one of these trees; other errors as in FirstTrials.run()."""
         self.head.lines = self.trace.lines.operations
-        self.open_cache(trials)
+        if self.options.cache is not None:
+            self.open_cache(self.options.cache, trials)
         FirstTrials(trials, results, self.trace.plan_end()).run()
 
-    def open_cache(self, trials: Trials) -> None:
-        """Opens the cache of --cache for the trials of all windows, and makes its directory if that
-        isn't there; does nothing without --cache. If it isn't known which files COMMAND opens, or
-        one of them has changed, runs COMMAND under strace in the first and the last prefix. Refused
-        if the directory can't be used, or COMMAND can't be traced; OSError if the list of files
-        can't be written."""
-        path = self.options.cache
-        if path is None:
-            return
+    def open_cache(self, path: str, trials: Trials) -> None:
+        """Opens the cache in the directory at this path for the trials of all windows, and makes
+        the directory if it isn't there. If it isn't known which files COMMAND opens, or one of them
+        has changed, runs COMMAND under strace in the first and the last prefix. Refused if the
+        directory can't be used, or COMMAND can't be traced; OSError if the list of files can't be
+        written."""
         from crashfs_tools.checker.running.cache import OutcomeCache, require_folder
         from crashfs_tools.checker.running.command_files import command_name
 
