@@ -33,10 +33,10 @@ class Shard(NamedTuple):
     part: int = 1
     parts: int = 1
 
-    def has_place(self, place: int) -> bool:
-        """Whether this part has the state at a place, counted from 0, in the list of the states to
-        try."""
-        return place % self.parts == self.part - 1
+    def share_of(self, numbers: List[int]) -> List[int]:
+        """This part of the numbers of the states to try: of n parts the k-th one has each n-th
+        number, from the k-th on."""
+        return numbers[self.part - 1 :: self.parts]
 
 
 @dataclass

@@ -76,7 +76,7 @@ class StateCounts:
         self.operations = findings.plan.first_place + len(findings.plan.operations)
         self.states += len(results.own_states)
         self.different_states += len(results.own_numbers)
-        self.wanted_states += sum(map(shard.has_place, range(len(results.wanted_numbers))))
+        self.wanted_states += len(shard.share_of(results.wanted_numbers))
         self.is_part = self.is_part or results.is_part
         self.seconds_per_state = results.seconds_per_state or self.seconds_per_state
         self.drawn_results.update(outcome.result for outcome in drawn_outcomes(findings))

@@ -248,10 +248,7 @@ class Trials:
     def wanted_numbers(self, results: Results) -> Set[int]:
         """The numbers of this shard's states to try, one for each trial, also of those that have an
         outcome. Refused if --serve is given and the states are more than the runs of a server."""
-        shard = self.options.shard
-        numbers = {
-            number for place, number in enumerate(results.wanted_numbers) if shard.has_place(place)
-        }
+        numbers = set(self.options.shard.share_of(results.wanted_numbers))
         if self.options.serve is not None and len(numbers) > RUNS:
             raise Refused(
                 f'{len(numbers):,} states are more than the {RUNS:,} runs of one server: '
