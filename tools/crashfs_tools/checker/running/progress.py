@@ -73,8 +73,8 @@ class Progress:
     def begin_part(
         self, state_count: int, name: str = '', most_seconds: float = float('inf')
     ) -> None:
-        """Begins a part of state_count states, of which none is counted yet, and which may take
-        most_seconds. Its lines begin with its name, which may be empty."""
+        """Begins a part of state_count states, of which none is counted yet, and which together may
+        take most_seconds. Its lines begin with its name, which may be empty."""
         self.pace = Pace(state_count, most_seconds, self.clock)
         self.name = name
         self.failed_count = 0

@@ -191,10 +191,10 @@ class Trials:
     def pass_cached_outcomes(
         self, wanted: Set[int], on_outcome: OnOutcome, attempt: int = 0
     ) -> Set[int]:
-        """Gives on_outcome those outcomes of the wanted states that the cache has, ascending, and
-        returns the numbers of the states that it lacks: all without a cache, none after a failure
-        with --fail-fast. ReadingFault if the second reading refuses the trace, OSError if the trace
-        is gone, or what on_outcome raises."""
+        """Gives on_outcome those outcomes of an attempt in the wanted states that the cache has,
+        ascending, and returns the numbers of the states that must be run: those that it lacks; all
+        without a cache, none after a failure with --fail-fast. ReadingFault if the second reading
+        refuses the trace, OSError if the trace is gone, or what on_outcome raises."""
         cache = self.workplace.cache
         if cache is None:
             return wanted
@@ -220,10 +220,11 @@ class Trials:
         self, layout: Layout, wanted: Set[int], on_outcome: OnOutcome, attempt: int = 0
     ) -> None:
         """Runs COMMAND in some states, in processes that end with this one. Adds each outcome to
-        the cache, if there is one, and gives it to on_outcome. With --fail-fast the first failure
-        ends the processes. A fault of a process is raised, such as Refused, ProgramFault or
-        OSError. Afterwards all that was started has ended: if something can't be ended, LeftRunning
-        is raised, after all outcomes, and at once in each later call."""
+        the cache, if there is one, as that of the attempt, and gives it to on_outcome. With
+        --fail-fast the first failure ends the processes. A fault of a process is raised, such as
+        Refused, ProgramFault or OSError. Afterwards all that was started has ended: if something
+        can't be ended, LeftRunning is raised, after all outcomes, and at once in each later
+        call."""
 
         def keep_outcome(number: int, outcome: Outcome) -> None:
             """Adds an outcome to the cache, if there is one, and passes it to on_outcome."""

@@ -47,9 +47,9 @@ class PlanTrees:
 
     @cached_property
     def kept(self) -> TreesByState:
-        """The trees in memory. With keeps_all they are those of a small plan, which are read now,
-        unless they have more than MOST_BYTES; then also those of keep(). ProgramFault if the
-        program lacks a tree of a small plan; errors as are_large."""
+        """The trees in memory: those that keep() added and, with keeps_all, all of a small plan,
+        which are read at the first use, but none if they have more than MOST_BYTES. ProgramFault if
+        the program lacks a tree of a small plan; other errors as in are_large."""
         plan = self.planned.plan
         if not self.keeps_all or self.are_large or not is_small(plan):
             return {}

@@ -165,8 +165,8 @@ class Planner:
 
     def divide_picks(self, picks: List[int], needs: Needs) -> List[List[int]]:
         """Divides picks into the parts of a plan whose micro-operations have these needs: each part
-        gets as many as fit next to its prefixes and, in the first part without --prefixes, its
-        holes. The first part may get none."""
+        gets as many as fit next to its prefixes and, in the first part, its holes, which --prefixes
+        leaves out. The first part may get none."""
         part_size = limits.STATES - 1 - len(needs.masks)
         hole_count = 0 if self.options.prefixes else needs.hole_count
         first_end = max(0, part_size - hole_count)
