@@ -2,6 +2,7 @@
 
 from __future__ import annotations
 
+import faulthandler
 import json
 import subprocess
 import sys
@@ -12,6 +13,9 @@ from pathlib import Path
 from typing import List
 
 TOOLS = Path(__file__).resolve().parent.parent
+# How long the tests of a module may take. A test gives up a command after 10 minutes; what waits
+# longer hangs.
+MODULE_SECONDS = 1800.0
 
 
 @dataclass
@@ -37,31 +41,36 @@ def result_of_tests(name: str, tests: unittest.TestResult) -> ModuleResult:
 
 def run_here(name: str, result_path: Path) -> int:
     """Runs a module in this process and writes its result, without the output, to a file, as JSON.
-    Returns 0, also if a test fails or the module can't be imported. OSError if the file can't be
-    written. The folder tools/ must be on Python's path."""
+    Returns 0, also if a test fails or the module can't be imported. After MODULE_SECONDS the
+    process ends with status 1 and without a result, and prints on standard error what each of its
+    threads was doing. OSError if the file can't be written. The folder tools/ must be on Python's
+    path."""
+    faulthandler.dump_traceback_later(MODULE_SECONDS, exit=True)
     tests = unittest.defaultTestLoader.loadTestsFromName(name)
     result = result_of_tests(name, unittest.TextTestRunner().run(tests))
     result_path.write_text(json.dumps(asdict(result)), encoding='utf-8')
+    faulthandler.cancel_dump_traceback_later()
     return 0
 
 
 def run_module(name: str) -> ModuleResult:
-    """Runs a module in a new process, waits for its end without limit, and returns its result."""
+    """Runs a module in a new process, which run_here() ends after a time, and returns its result.
+    Processes that the tests leave behind are not waited for."""
     with tempfile.TemporaryDirectory() as folder:
-        path = Path(folder) / 'result'
+        path, output_path = Path(folder) / 'result', Path(folder) / 'output'
         words = ['--module', name, '--result', str(path)]
-        completed = subprocess.run(
-            [sys.executable, '-m', 'gating.suite', *words],
-            cwd=TOOLS,
-            stdin=subprocess.DEVNULL,
-            stdout=subprocess.PIPE,
-            stderr=subprocess.STDOUT,
-            text=True,
-            errors='replace',
-        )
+        # A file: a pipe would end only with the last process that has it.
+        with output_path.open('wb') as output:
+            subprocess.run(
+                [sys.executable, '-m', 'gating.suite', *words],
+                cwd=TOOLS,
+                stdin=subprocess.DEVNULL,
+                stdout=output,
+                stderr=output,
+            )
         try:
             result = ModuleResult(**json.loads(path.read_text('utf-8')))
         except (OSError, ValueError):
             result = ModuleResult(name, failed=1)
-    result.output = completed.stdout
+        result.output = output_path.read_text('utf-8', 'replace')
     return result

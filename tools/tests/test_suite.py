@@ -3,14 +3,28 @@
 from __future__ import annotations
 
 import io
+import os
+import signal
+import subprocess
+import sys
+import time
 import unittest
 from typing import List
 from unittest import mock
 
 from gating.modules import ModuleResult, run_module
-from gating.suite import count_at_once, has_passed, run_modules, summary_line
+from gating.suite import TOOLS, count_at_once, has_passed, run_modules, summary_line
 
-from .support import InFolder
+from .support import PATIENCE, InFolder
+
+ENDLESS = f"""import time
+import unittest
+
+
+class Endless(unittest.TestCase):
+    def test_it_waits(self) -> None:
+        time.sleep({PATIENCE})
+"""
 
 
 class SuiteTests(InFolder):
@@ -61,6 +75,31 @@ class SuiteTests(InFolder):
         with mock.patch('sys.executable', self.path('python')):
             result = run_module('tests.test_order')
         self.assertEqual((result.run, result.failed, result.output), (0, 1, 'ends early\n'))
+
+    def test_a_process_that_the_tests_leave_is_not_waited_for(self) -> None:
+        left = self.path('left')
+        self.write('python', f'#!/bin/sh\nsleep {PATIENCE} &\necho $! >{left}\n', 0o755)
+        begin_time = time.monotonic()
+        with mock.patch('sys.executable', self.path('python')):
+            run_module('tests.test_order')
+        os.kill(int(self.read('left')), signal.SIGKILL)
+        self.assertLess(time.monotonic() - begin_time, PATIENCE / 2)
+
+    def test_a_module_that_does_not_end_says_what_it_was_doing(self) -> None:
+        self.write('endless.py', ENDLESS)
+        code = (
+            'from pathlib import Path; from gating import modules; modules.MODULE_SECONDS = 1.0; '
+            'modules.run_here("endless", Path("result"))'
+        )
+        ended = subprocess.run(
+            [sys.executable, '-c', code],
+            cwd=self.folder,
+            env={**os.environ, 'PYTHONPATH': f'{TOOLS}:{self.folder}'},
+            stderr=subprocess.PIPE,
+            text=True,
+        )
+        self.assertEqual((ended.returncode, os.path.exists(self.path('result'))), (1, False))
+        self.assertIn('in test_it_waits', ended.stderr)
 
 
 if __name__ == '__main__':
