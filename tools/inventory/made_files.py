@@ -20,8 +20,8 @@ def outdated_files(texts: Dict[Path, str]) -> List[Path]:
 
 
 def outdated_lines(texts: Dict[Path, str], sources: str, command: str) -> List[str]:
-    """A line for each path of outdated_files(), with what the file is made from, `sources`, a word
-    in the plural, and the command of tools/ that writes it. ValueError if such a path isn't in the
+    """A line for each path of outdated_files(), with `sources`, a plural that says what the file is
+    made from, and the command of tools/ that writes it. ValueError if such a path isn't in the
     repository; errors as outdated_files()."""
     return [
         f'{path.relative_to(TOP)} is missing, or not as {sources} make it: run tools/{command}'

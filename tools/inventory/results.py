@@ -57,15 +57,15 @@ def states_cell(row: Row) -> str:
 
 
 def failing_cell(row: Row) -> str:
-    """In how many different states the recovery fails, with the first word of the cause. If causes
-    have different first words, each word is there with its number of states, the commonest first.
+    """In how many different states the recovery fails, with the cause up to its first colon. If
+    these parts of the causes differ, each is there with its number of states, the commonest first.
     `none` if the recovery fails in no state."""
     if not row['failing']:
         return 'none'
-    causes = sorted(row['causes'].items(), key=lambda word_and_count: -int(word_and_count[1]))
+    causes = sorted(row['causes'].items(), key=lambda kind_and_count: -int(kind_and_count[1]))
     if len(causes) == 1:
         return f'{row["failing"]:,} {causes[0][0]}'
-    return f'{row["failing"]:,}: ' + ', '.join(f'{count:,} {word}' for word, count in causes)
+    return f'{row["failing"]:,}: ' + ', '.join(f'{count:,} {kind}' for kind, count in causes)
 
 
 def profile_cell(row: Row, profile: str) -> str:

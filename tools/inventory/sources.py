@@ -133,16 +133,16 @@ def edits_of(crate: str) -> List[str]:
     return [path.stem for path in crate_files(crate, 'must-fail', '.edit')]
 
 
-def words_in(path: Path, file: str) -> List[Word]:
+def words_in(path: Path, file_name: str) -> List[Word]:
     """The public words of a file of specs/, in their order. `path` is the path of the file, and
-    `file` its name for the words. The sentence of a word without a comment is empty. OSError if the
-    file can't be read."""
+    file_name what each Word has as its file. The sentence of a word without a comment is empty.
+    OSError if the file can't be read."""
     lines = path.read_text(encoding='utf-8').splitlines()
     words: List[Word] = []
     for index, line in enumerate(lines):
         head = WORD.match(line)
         if head is not None:
-            words.append(Word(head.group(1), file, comment_above(lines, index, '--')))
+            words.append(Word(head.group(1), file_name, comment_above(lines, index, '--')))
     return words
 
 

@@ -109,8 +109,8 @@ class ModelledSession:
 
 
 def model_session(checked: CheckedExample, trace_path: Path) -> ModelledSession:
-    """Reads the trace of a check, which must be short, since all its sets are listed. OSError if
-    the trace can't be read."""
+    """The session of a check's trace, which is read again from its path. All its sets are listed,
+    so it must be short. OSError if the trace can't be read."""
     reading = parse_trace(trace_path.read_bytes())
     order = Order(reading)
     sets = list(every_set(order))

@@ -82,10 +82,10 @@ class CrashMaker:
     def crashed_trees(
         self, moment: Moment, flush_kinds: Sequence[FlushKind]
     ) -> Iterator[Tuple[Entries, Crash]]:
-        """The tree that a crash at a moment leaves, with each possible flush of these kinds; some
-        may be equal. The session is made again for each tree, when that is asked for, and once more
-        before the first, without a flush, to find the unsynced changes: the tree of this run is
-        yielded first if NOTHING is among the kinds."""
+        """Yields the tree that a crash at a moment leaves, and the crash, for each possible flush
+        of these kinds; some trees may be equal. The session is made first without a flush, to find
+        the unsynced changes: the tree of this run comes first if NOTHING is among the kinds. For
+        each other tree the session is made again, once the tree is asked for."""
         unsynced = self.crash(moment, Flush(FlushKind.NOTHING))
         if FlushKind.NOTHING in flush_kinds:
             yield self.tree_after_crash(), Crash(moment, FlushKind.NOTHING)

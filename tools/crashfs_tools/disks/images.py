@@ -108,8 +108,8 @@ def repair_image(filesystem: FileSystem, image: str) -> None:
 
 def run_program(words: Sequence[str], highest_status: int = 0) -> None:
     """Runs a program, and waits for it without limit. Refused, with the first line that it printed,
-    if its status is above `highest_status`, or if a signal ended it. OSError if it can't be
-    started."""
+    or its status if it printed none, if the status is above `highest_status`, or if a signal ended
+    it. OSError if it can't be started."""
     completed = subprocess.run(
         words,
         stdin=subprocess.DEVNULL,
