@@ -8,11 +8,12 @@ from io import BytesIO
 from typing import BinaryIO, Dict, List, Optional
 
 from .data import Data
+from .names import DIRECTORY, FILE, SYMLINK
 from .plan import StatePlan
 from .sparse import Extent, data_extents, extent_map, has_many_zeros
 from .trees import Item
 
-KINDS = {'dir': tarfile.DIRTYPE, 'file': tarfile.REGTYPE, 'symlink': tarfile.SYMTYPE}
+TAR_TYPES = {DIRECTORY: tarfile.DIRTYPE, FILE: tarfile.REGTYPE, SYMLINK: tarfile.SYMTYPE}
 
 
 class ArchiveWriter:
@@ -97,12 +98,12 @@ class ArchiveWriter:
         0. If is_sparse is set, a large file with many zeros is written as extents. Slashes at the
         end of `name` are dropped: tarfile adds one for a directory."""
         member = tarfile.TarInfo(name.rstrip('/'))
-        member.type = KINDS[item.kind]
+        member.type = TAR_TYPES[item.kind]
         (member.uname, member.gname, mode), data = item.rights, item.data
         member.mode = int(mode, 8)
         if data is None:
             self.archive.addfile(member)
-        elif item.kind == 'symlink':
+        elif item.kind == SYMLINK:
             member.linkname = data.all_bytes().decode('utf-8')
             self.archive.addfile(member)
         elif self.is_sparse and has_many_zeros(data):

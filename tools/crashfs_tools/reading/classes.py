@@ -8,7 +8,7 @@ can show them.
 
 from __future__ import annotations
 
-from functools import reduce
+from functools import lru_cache, reduce
 from itertools import chain
 from typing import Dict, FrozenSet, Iterator, List, NamedTuple, Optional, Set, Tuple, Union
 
@@ -74,8 +74,9 @@ class SetClasses:
         self.name_changes: IdTable[NameChanges] = IdTable(
             lambda changes: frozenset(changes.items())
         )
-        self._ids_after: Dict[Tuple[int, int], int] = {}
-        self._has_name: Dict[Tuple[int, int], bool] = {}
+        # These are computed once for equal arguments.
+        self.changes_id_after = lru_cache(None)(self.compute_changes_id_after)
+        self.has_name = lru_cache(None)(self.compute_has_name)
 
     def different_sets(self) -> Iterator[int]:
         """The first set of each different state, in the order of every_set(). States differ if
@@ -125,7 +126,8 @@ class SetClasses:
     def after_operation(self, result: SetResult, place: int) -> SetResult:
         """What a set leaves together with the micro-operation at `place`, which must come after all
         places of the set; `result` is what the set leaves by itself. The files of what is returned
-        are sorted, so that equal results are equal keys. KeyError as changes_id_after()."""
+        are sorted, so that equal results are equal keys. KeyError as
+        compute_changes_id_after()."""
         operation = self.reading.operations[place]
         if operation.file_number is not None:
             content_ids = dict(result.file_contents)
@@ -140,24 +142,20 @@ class SetClasses:
 
     # Changes of names
 
-    def changes_id_after(self, changes_id: int, place: int) -> int:
+    def compute_changes_id_after(self, changes_id: int, place: int) -> int:
         """The id of the name changes after the micro-operation at `place`, if those before it have
-        the id changes_id. The micro-operation must change entries or a directory's rights. Computed
-        once for each pair. KeyError as update_entries(): not if what a set leaves has the id, and
-        the set has all that the micro-operation needs."""
-        key = changes_id, place
-        if key not in self._ids_after:
-            operation = self.reading.operations[place]
-            changes = dict(self.name_changes.values[changes_id])
-            self.update_entries(changes, operation)
-            self.update_directory_rights(changes, operation)
-            self._ids_after[key] = self.name_changes.id_of(changes)
-        return self._ids_after[key]
+        the id changes_id. The micro-operation must change entries or a directory's rights. KeyError
+        as update_entries()."""
+        operation = self.reading.operations[place]
+        changes = dict(self.name_changes.values[changes_id])
+        self.update_entries(changes, operation)
+        self.update_directory_rights(changes, operation)
+        return self.name_changes.id_of(changes)
 
     def update_entries(self, changes: NameChanges, operation: MicroOperation) -> None:
         """Updates `changes` by what a micro-operation does to entries. An entry that holds the same
         as at the start again is dropped. KeyError if an entry that the micro-operation removes or
-        moves holds nothing."""
+        moves holds nothing, because the set lacks what it needs."""
         nodes = {entry: self.node_at_entry(changes, entry) for entry in operation.entries}
         held_nodes = {entry: node for entry, node in nodes.items() if node is not None}
         change_entries(held_nodes, operation)
@@ -185,13 +183,10 @@ class SetClasses:
         assert node is None or isinstance(node, Inode)
         return node
 
-    def has_name(self, changes_id: int, file_number: int) -> bool:
+    def compute_has_name(self, changes_id: int, file_number: int) -> bool:
         """Whether a file or symbolic link, given by its number, has an entry after the name changes
-        with this id. Computed once for each pair."""
-        key = changes_id, file_number
-        if key not in self._has_name:
-            self._has_name[key] = any(True for _ in self.entries_of(changes_id, file_number))
-        return self._has_name[key]
+        with this id."""
+        return any(True for _ in self.entries_of(changes_id, file_number))
 
     def entries_of(self, changes_id: int, file_number: int) -> Iterator[Entry]:
         """The entries that hold a file or symbolic link, given by its number, after the name

@@ -12,7 +12,7 @@ from .trace import Reading
 
 Value = TypeVar('Value')
 # The id of a block of zeros. No content has it among its blocks.
-ZEROS = 0
+ZERO_ID = 0
 # The blocks of a content that aren't zero, ascending: the number of each, and its id.
 BlockIds = Tuple[Tuple[int, int], ...]
 
@@ -52,7 +52,7 @@ class Contents:
     """
 
     def __init__(self, reading: Reading) -> None:
-        """No content has an id yet. The block of zeros has the id ZEROS."""
+        """No content has an id yet. The block of zeros has the id ZERO_ID."""
         self.reading = reading
         self.contents: IdTable[Content] = IdTable(lambda content: content)
         self.blocks: IdTable[bytes] = IdTable(lambda block_bytes: block_bytes)
@@ -88,22 +88,22 @@ class Contents:
             content = content._replace(blocks=self.blocks_after_write(blocks, operation))
         return self.contents.id_of(content)
 
-    def blocks_up_to(self, blocks: BlockIds, length: int) -> BlockIds:
-        """The blocks of a content without the bytes from an offset on, `length`. A block of which
-        only zeros are left is dropped."""
-        cut_block, cut_offset = divmod(length, self.reading.block_size)
+    def blocks_up_to(self, blocks: BlockIds, end: int) -> BlockIds:
+        """The blocks of a content without the bytes from the offset `end` on. A block of which only
+        zeros are left is dropped."""
+        cut_block, cut_offset = divmod(end, self.reading.block_size)
         whole_blocks = tuple((block, block_id) for block, block_id in blocks if block < cut_block)
-        bytes_left = self.blocks.values[dict(blocks).get(cut_block, ZEROS)][:cut_offset]
+        bytes_left = self.blocks.values[dict(blocks).get(cut_block, ZERO_ID)][:cut_offset]
         id_left = self.blocks.id_of(bytes_left.rstrip(b'\0'))
-        return whole_blocks if id_left == ZEROS else (*whole_blocks, (cut_block, id_left))
+        return whole_blocks if id_left == ZERO_ID else (*whole_blocks, (cut_block, id_left))
 
     def blocks_after_write(self, blocks: BlockIds, write: WriteBlock) -> BlockIds:
         """The blocks of a content after a write to a block, which the content may lack before. If
         the block has only zeros afterwards, it is dropped."""
         ids_after = dict(blocks)
-        bytes_before = self.blocks.values[ids_after.pop(write.block, ZEROS)]
+        bytes_before = self.blocks.values[ids_after.pop(write.block, ZERO_ID)]
         block_id = self.blocks.id_of(overwritten_block(bytes_before, write.offset, write.data))
-        if block_id != ZEROS:
+        if block_id != ZERO_ID:
             ids_after[write.block] = block_id
         return tuple(sorted(ids_after.items()))
 

@@ -15,7 +15,7 @@ from .trace import Reading
 # The digests of a file's blocks, by their numbers.
 BlockDigests = Dict[int, bytes]
 # The digest of a block of zeros.
-ZEROS = b''
+ZERO_DIGEST = b''
 
 
 class Digests:
@@ -23,7 +23,7 @@ class Digests:
     blocks. In a file that never shrinks, a block's digest depends only on the writes to the block
     and on the file's size, so that many states share it: these digests are kept in memory.
 
-    `changes` has the set of each changed file's changes, by the file's number. `compute_file`
+    change_places has the set of each changed file's changes, by the file's number. compute_file
     returns the rights and bytes of a file after a part of such a set, without hidden bytes: it is
     called for files that may shrink, and for those without changes.
     """
@@ -31,7 +31,7 @@ class Digests:
     def __init__(
         self,
         reading: Reading,
-        changes: Dict[int, int],
+        change_places: Dict[int, int],
         compute_file: Callable[[int, int], Tuple[Rights, Data]],
     ) -> None:
         """Finds the files that never shrink. Digests are computed only by rights_and_digest()."""
@@ -45,7 +45,7 @@ class Digests:
         # The writes to each block of the files that never shrink, by the file's number.
         self.block_writes = {
             file_number: self.writes_by_block(place_set)
-            for file_number, place_set in changes.items()
+            for file_number, place_set in change_places.items()
             if not self.may_shrink(file_number, place_set)
         }
         # These are computed once for equal arguments, initial_digests for the last 64 files.
@@ -68,6 +68,7 @@ class Digests:
         leave this size. Blocks past the size, and some that are zeros, are left out."""
         block_writes, block_size = self.block_writes[file_number], self.reading.block_size
         initial_blocks = self.reading.initial_data[file_number].blocks
+        # The digests of blocks that are written are computed below, from their first bytes on.
         has_unwritten_blocks = not initial_blocks.keys() <= block_writes.keys()
         digests = dict(self.initial_digests(file_number)) if has_unwritten_blocks else {}
         last_block, last_bytes = divmod(size, block_size)
@@ -140,14 +141,14 @@ class Digests:
 
 
 def hash_block(block_bytes: bytes) -> bytes:
-    """The digest of a block, given by its bytes without the zeros at its end; ZEROS if there are
-    none."""
-    return hashlib.sha256(block_bytes).digest() if block_bytes else ZEROS
+    """The digest of a block, given by its bytes without the zeros at its end; ZERO_DIGEST if there
+    are none."""
+    return hashlib.sha256(block_bytes).digest() if block_bytes else ZERO_DIGEST
 
 
 def hash_file(length: int, block_digests: BlockDigests) -> bytes:
     """The digest of a file, from its length and the digests of its blocks, by their numbers. A
-    block counts as zeros if it has no digest, or ZEROS."""
+    block counts as zeros if it has no digest, or ZERO_DIGEST."""
     digest = hashlib.sha256(length.to_bytes(8, 'little'))
     for block in sorted(block_digests):
         if block_digests[block]:

@@ -60,7 +60,7 @@ def operation_objects(plan: StatePlan) -> Iterator[Dict[str, Any]]:
         yield {
             'op': place,
             'kind': operation.kind,
-            **operation.fields(),
+            **operation.fields,
             'line': operation.line_number,
             'needs': list(places_of(plan.order.needs[place] | 1 << place)),
         }

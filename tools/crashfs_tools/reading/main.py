@@ -8,7 +8,7 @@ from typing import List
 
 from .faults import ReadingFault
 from .listing import json_listing, plain_listing
-from .picking import Options, UsageFault, is_number_text, picks_lines, refuse_options
+from .picking import Options, UsageFault, is_number_text, picks_lines, refuse_picks_options
 from .plan import StatePlan, add_families, make_plan, read_picks
 from .trace import parse_trace
 
@@ -33,10 +33,10 @@ HELP = (
 
 
 def main(words: List[str]) -> int:
-    """Runs a command, such as `list`, with its options, and returns the exit status that the
-    program has: 1 for a ReadingFault, or if nobody reads standard output any more, which is
-    /dev/null then; 2 for wrong words. A fault or a wrong word is printed on standard error, before
-    any output. Any other OSError of standard output is raised."""
+    """Runs a command, given by its words, such as `list` and its options, and returns the exit
+    status that the program has: 0; 1 for a ReadingFault, or if nobody reads standard output any
+    more, which is /dev/null then; 2 for wrong words. A fault or a wrong word is printed on standard
+    error, before any output. Any other OSError of standard output is raised."""
     try:
         options = read_options(words)
         print_output(words[0], options)
@@ -59,7 +59,7 @@ def main(words: List[str]) -> int:
 def read_options(words: List[str]) -> Options:
     """The options in the words of a command line, of which the first is the command, as
     parse_options(). UsageFault if there is no command, or for an unknown command or option; without
-    --help also if --trace is missing, and for `picks` as refuse_options()."""
+    --help also if --trace is missing, and for `picks` as refuse_picks_options()."""
     if not words or words[0] not in FLAGS:
         raise UsageFault(f"unrecognized subcommand '{words[0] if words else ''}'")
     options = parse_options(words[0], words[1:])
@@ -68,7 +68,7 @@ def read_options(words: List[str]) -> Options:
     if '--trace' not in options:
         raise UsageFault('the following required arguments were not provided: --trace <FILE>')
     if words[0] == 'picks':
-        refuse_options(options)
+        refuse_picks_options(options)
     return options
 
 

@@ -43,10 +43,12 @@ class MicroOperation:
         """The micro-operation as `list` prints it."""
         raise NotImplementedError
 
+    @property
     def fields(self) -> Dict[str, Any]:
         """The fields that only its kind has in `list --json`."""
         raise NotImplementedError
 
+    @property
     def file_fields(self) -> Dict[str, Any]:
         """The fields in `list --json` of the file that it changes: a path of the file, and the
         file's number. `path` and file_number must be set."""
@@ -73,6 +75,7 @@ class CreateEntry(MicroOperation):
     def text(self) -> str:
         return f'{self.kind} {self.paths[0]} {self.node.kind}'
 
+    @property
     def fields(self) -> Dict[str, Any]:
         """See MicroOperation.fields. A directory has no `file`, and only a symbolic link has
         `target`."""
@@ -99,6 +102,7 @@ class DeleteEntry(MicroOperation):
     def text(self) -> str:
         return f'{self.kind} {self.paths[0]}'
 
+    @property
     def fields(self) -> Dict[str, Any]:
         return {'path': self.paths[0], 'node': self.node.kind}
 
@@ -131,6 +135,7 @@ class MoveEntry(MicroOperation):
     def text(self) -> str:
         return f'{self.kind} {self.paths[0]} {self.paths[1]}'
 
+    @property
     def fields(self) -> Dict[str, Any]:
         fields = {'path': self.paths[0], 'to': self.paths[1]}
         return {**fields, 'node': self.node.kind} if self.has_node_field else fields
@@ -160,6 +165,7 @@ class LinkEntry(MicroOperation):
     def text(self) -> str:
         return f'{self.kind} {self.paths[0]} {self.node.number}'
 
+    @property
     def fields(self) -> Dict[str, Any]:
         return {'path': self.paths[0], 'file': self.node.number}
 
@@ -178,8 +184,9 @@ class ChangeSize(MicroOperation):
     def text(self) -> str:
         return f'{self.kind} {self.file_number} {self.length}'
 
+    @property
     def fields(self) -> Dict[str, Any]:
-        return {**self.file_fields(), 'length': self.length}
+        return {**self.file_fields, 'length': self.length}
 
 
 class WriteBlock(MicroOperation):
@@ -203,9 +210,10 @@ class WriteBlock(MicroOperation):
     def text(self) -> str:
         return f'{self.kind} {self.file_number} {self.block} {self.offset} {len(self.data)}'
 
+    @property
     def fields(self) -> Dict[str, Any]:
         write = {'block': self.block, 'at': self.offset, 'count': len(self.data)}
-        return {**self.file_fields(), **write}
+        return {**self.file_fields, **write}
 
 
 class SetRights(MicroOperation):
@@ -222,6 +230,7 @@ class SetRights(MicroOperation):
         owner, group, mode = self.rights
         return f'{mode} {owner} {group}'
 
+    @property
     def rights_fields(self) -> Dict[str, str]:
         """The fields in `list --json` of what is set."""
         owner, group, mode = self.rights
@@ -241,8 +250,9 @@ class SetFileRights(SetRights):
     def text(self) -> str:
         return f'{self.kind} file {self.file_number} {self.rights_text}'
 
+    @property
     def fields(self) -> Dict[str, Any]:
-        return {**self.file_fields(), **self.rights_fields()}
+        return {**self.file_fields, **self.rights_fields}
 
 
 class SetDirectoryRights(SetRights):
@@ -259,8 +269,9 @@ class SetDirectoryRights(SetRights):
     def text(self) -> str:
         return f'{self.kind} dir {self.path} {self.rights_text}'
 
+    @property
     def fields(self) -> Dict[str, Any]:
-        return {'path': self.path, **self.rights_fields()}
+        return {'path': self.path, **self.rights_fields}
 
 
 class Acknowledgement(MicroOperation):
@@ -268,5 +279,6 @@ class Acknowledgement(MicroOperation):
 
     kind = text = 'say'
 
+    @property
     def fields(self) -> Dict[str, Any]:
         return {}

@@ -11,7 +11,7 @@ from .lines import Line, bytes_of
 FILE_BYTES, LARGE_FILE_BYTES = 16_777_216, 1_073_741_824
 # The most names of a path, records (see NameTree) of a trace, and bytes of an acknowledged line.
 PATH_NAMES, RECORDS, SAY_BYTES = 64, 65_536, 1_024
-# The words of lines that add a record.
+# The words of lines that add a path, and so a record.
 RECORD_WORDS = ('creat', 'mkdir', 'dir', 'file', 'link', 'symlink')
 DIRECTORY, FILE, SYMLINK = 'dir', 'file', 'symlink'
 KIND_TEXTS = {DIRECTORY: 'a directory', FILE: 'a file', SYMLINK: 'a symbolic link'}
@@ -164,11 +164,11 @@ class NameTree:
         or of another kind, or a limit is passed. The tree isn't changed. A header always fits."""
         if line.key == 'trace':
             return
-        if line.word in ('creat', 'mkdir', 'dir', 'file', 'symlink'):
-            self.require_free(line.fields['path'])
-        elif line.word == 'link':
+        if line.word == 'link':
             self.require_kind(line.fields['from'], (FILE,))
             self.require_free(line.fields['path' if line.key == 'start' else 'to'])
+        elif line.word in RECORD_WORDS:
+            self.require_free(line.fields['path'])
         elif line.word == 'rename':
             self.refuse_rename(line.fields['from'], line.fields['to'])
         elif line.word == 'rmdir':

@@ -29,12 +29,11 @@ class UsageFault(Exception):
     """A command line that is refused, as a line that says why."""
 
 
-def refuse_options(options: Options) -> None:
+def refuse_picks_options(options: Options) -> None:
     """UsageFault unless the options of `picks` ask for exactly one of --every, --sample and the
     families (--lost, --files or both), go together, and have values in their ranges."""
-    kinds = [option for option in ('--every', '--sample') if option in options]
-    kinds += ['--lost'] if {'--lost', '--files'} & options.keys() else []
-    if len(kinds) != 1:
+    has_families = bool({'--lost', '--files'} & options.keys())
+    if ('--every' in options) + ('--sample' in options) + has_families != 1:
         raise UsageFault('one of --every, --sample, --lost and --files is needed')
     of_every = [option for option in OPTIONS_OF_EVERY if option in options]
     if of_every and '--every' not in options:
@@ -67,7 +66,7 @@ def is_number_text(text: str) -> bool:
 
 
 def picks_lines(reading: Reading, options: Options) -> Iterator[str]:
-    """The lines that `picks` prints of a trace, for options that refuse_options() has accepted.
+    """The lines that `picks` prints of a trace, for options that refuse_picks_options() accepts.
     ReadingFault, before the first line, if there are too many sets, or if traces of this version
     can't have the profile."""
     if '--count' in options:
@@ -85,7 +84,7 @@ def count_text(count: int) -> str:
 
 def picked_sets(reading: Reading, options: Options) -> Iterator[List[int]]:
     """The places of each set that the options ask for, in the order in which they are printed; a
-    set of both families comes twice. The options must be some that refuse_options() accepts.
+    set of both families comes twice. The options must be some that refuse_picks_options() accepts.
     ReadingFault as sets_of_every() and, only when the first set is asked for, as drawn_sets()."""
     if '--every' in options:
         return sets_of_every(reading, options)

@@ -103,6 +103,7 @@ def make_plan(
     plan.add_prefixes()
     if has_holes:
         plan.add_holes()
+    # This fault comes before that of any pick.
     if len(plan.states) + len(picks) > STATES:
         raise ReadingFault('plan too large')
     for number, pick in enumerate(picks):
@@ -112,9 +113,9 @@ def make_plan(
 
 
 def add_families(plan: StatePlan, *, has_lost: bool, has_files: bool) -> None:
-    """Adds the sets of the families --lost and --files to a plan, as picks, in this order. Each set
-    is added once, and only if the plan lacks it. ReadingFault if the plan is full; the sets added
-    before stay."""
+    """Adds the sets of the families that are asked for, --lost before --files, to a plan, as picks.
+    Each set is added once, and only if the plan lacks it. ReadingFault if the plan is full; the
+    sets added before stay."""
     families = family_sets(plan.order, plan.trees, has_lost=has_lost, has_files=has_files)
     planned_sets = {state.place_set for state in plan.states}
     for place_set in dict.fromkeys(chain.from_iterable(families)):
@@ -148,8 +149,8 @@ def read_pick(line: bytes) -> List[int]:
 def family_sets(
     order: Order, trees: Trees, *, has_lost: bool, has_files: bool
 ) -> List[Iterator[int]]:
-    """The sets of each family that is asked for, as a stream: of --lost first, then of --files.
-    `order` and `trees` must be those of one trace."""
+    """A stream of the sets of each family that is asked for: --lost first, then --files. `order`
+    and `trees` must be those of one trace."""
     families = [lost_sets(order)] if has_lost else []
     return [*families, file_sets(order, trees)] if has_files else families
 

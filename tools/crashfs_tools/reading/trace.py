@@ -25,6 +25,7 @@ from .syncs import DataSync, DirectorySync, FileSync, RangeSync, SyncPoint
 
 # The most micro-operations of a trace.
 MICRO_OPERATIONS = 1_024
+# The bytes of a page. From version 4 on a file grows to the end of its last page first.
 PAGE_BYTES = 4_096
 # What a line may have that counts as empty.
 BLANKS = ' \t\r'
@@ -142,7 +143,7 @@ class Reading:
         self.add_start_entry(line, node)
 
     def add_start_entry(self, line: Line, node: Inode) -> None:
-        """Adds the entry of a start line's path, which holds `node`, to the start tree. `names`
+        """Adds a start line's path, at which `node` is, and its entry to the start tree. `names`
         must have the path already."""
         path = line.fields['path']
         self.start[self.names.entry_at(path)] = self.start_paths[path] = node
