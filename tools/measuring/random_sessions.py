@@ -156,7 +156,7 @@ class DrawnSession:
         return len(data)
 
     def draw_bytes(self) -> bytes:
-        """Draws 2 to 5000 equal bytes to write."""
+        """Draws 2, 3, 4096 or 5000 equal bytes to write."""
         letter = self.random.choice(b'ABCDEFG')
         return bytes([letter]) * self.random.choice([2, 3, 4096, 5000])
 

@@ -80,8 +80,8 @@ def plan_windows() -> List[Window]:
 
 
 def draw_places(picture: Picture, place_count: int, unsynced: int) -> None:
-    """Adds a row of squares below what is there, one for each place of a session. The square of
-    the place `unsynced` is red."""
+    """Adds a row of squares below what is there, one for each place of a session. The square of the
+    place `unsynced` is red, the others are blue."""
     picture.y += LINE + 2
     for place in range(place_count):
         colour = 'bad' if place == unsynced else 'sync'
