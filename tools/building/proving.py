@@ -12,7 +12,7 @@ from typing import Tuple
 
 from crashfs_tools.common.command import shorten
 from crashfs_tools.common.printable import escape_unprintable
-from crashfs_tools.common.standard_streams import flushed_output
+from crashfs_tools.common.streams import flushed_output
 
 from .checks import Check, killed_text, run_check
 from .crates import PROGRAM, TOP, crates_below

@@ -10,8 +10,11 @@ from unittest import mock
 from crashfs_tools.common import removal
 from crashfs_tools.common.forked_reading import ForkedReading
 from crashfs_tools.common.guard import Guard
-from crashfs_tools.common.standard_streams import flushed_output
+from crashfs_tools.common.program import output_of_started
+from crashfs_tools.common.streams import flushed_output
 from crashfs_tools.disks import loops
+
+from .support import EXAMPLES
 
 
 def open_descriptors():
@@ -53,7 +56,7 @@ def start_guard():
 class LeftDescriptors(unittest.TestCase):
     def setUp(self):
         # Modules that the first reading imports may keep files open.
-        ForkedReading(['--help']).communicate()
+        output_of_started(ForkedReading(['list', '--trace', str(EXAMPLES / 'start.trace')]))
         self.descriptors = open_descriptors()
 
     def assert_fails_and_leaves_none(self, start, error_number):

@@ -8,7 +8,7 @@ from unittest import mock
 from crashfs_tools.common.command import LINE_CHARACTERS, print_line
 from crashfs_tools.common.pages import html_text
 from crashfs_tools.common.printable import escape_unprintable, folded_lines
-from crashfs_tools.common.standard_streams import set_utf8_streams
+from crashfs_tools.common.streams import set_utf8_streams
 
 
 class Printable(unittest.TestCase):

@@ -13,7 +13,7 @@ from crashfs_tools.common.own_faults import print_own_fault
 from crashfs_tools.common.printable import escape_unprintable
 from crashfs_tools.common.removal import remove_tree
 from crashfs_tools.common.signals import Stopped, raise_on_stop_signals
-from crashfs_tools.common.standard_streams import flushed_output, set_utf8_streams
+from crashfs_tools.common.streams import flushed_output, set_utf8_streams
 from crashfs_tools.common.whole_files import folder_to_write, write_whole_file
 
 from .book import Book, KnownFailure, failures_by_key, read_book

@@ -20,7 +20,7 @@ from crashfs_tools.common.guard import Guard
 from crashfs_tools.common.own_faults import print_own_fault
 from crashfs_tools.common.program import ProgramFault
 from crashfs_tools.common.signals import Stopped, raise_on_stop_signals
-from crashfs_tools.common.standard_streams import (
+from crashfs_tools.common.streams import (
     flushed_output,
     limit_inherited_descriptors,
     set_utf8_streams,

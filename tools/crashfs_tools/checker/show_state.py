@@ -16,7 +16,7 @@ from crashfs_tools.checker.states.plan import State
 from crashfs_tools.common.command import TEXT
 from crashfs_tools.common.guard import Guard
 from crashfs_tools.common.removal import remove_tree
-from crashfs_tools.common.standard_streams import flushed_output
+from crashfs_tools.common.streams import flushed_output
 
 from .checked_trace import no_such_state
 from .checking import open_trace

@@ -15,7 +15,7 @@ from typing import Any, Dict, List, NoReturn, Optional, Tuple
 
 from crashfs_tools import VERSION
 
-from .standard_streams import flushed_output
+from .streams import flushed_output
 
 # How every file of text is written.
 TEXT: Dict[str, Any] = {'encoding': 'utf-8', 'errors': 'surrogateescape', 'newline': '\n'}

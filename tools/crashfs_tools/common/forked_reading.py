@@ -6,15 +6,13 @@ import os
 import signal
 import sys
 from contextlib import ExitStack
-from typing import Any, BinaryIO, Dict, Iterator, List, NoReturn, Tuple
+from typing import Any, BinaryIO, List, NoReturn
 
 from .descendants import die_with_parent
-from .pipes import open_pipe, poll_for_input
+from .streams import open_pipe
 from .signals import STOPS, stop_signals_blocked
 
 INTERNAL_ERROR = 70
-# So much of an output is read at once.
-PIECE_BYTES = 1 << 16
 
 
 class ForkedReading:
@@ -73,18 +71,6 @@ class ForkedReading:
         finally:
             os._exit(status)
 
-    def communicate(self) -> Tuple[bytes, bytes]:
-        """Reads standard output and standard error up to their ends, closes both, waits for the
-        process without limit, and sets `returncode`. Returns what was read from each. May be called
-        only once."""
-        with self.stdout, self.stderr:
-            pieces: Dict[int, List[bytes]] = {self.stdout.fileno(): [], self.stderr.fileno(): []}
-            for descriptor, piece in read_pipes(*pieces):
-                pieces[descriptor].append(piece)
-        self.wait()
-        output, error_text = map(b''.join, pieces.values())
-        return output, error_text
-
     def wait(self) -> int:
         """Waits for the process to end, sets `returncode`, and returns it: the status, negative for
         a signal; or -SIGKILL if something else in this process has waited for the process. The
@@ -107,17 +93,3 @@ class ForkedReading:
                 os.kill(self.process, signal.SIGKILL)
             except ProcessLookupError:
                 pass
-
-
-def read_pipes(*pipes: int) -> Iterator[Tuple[int, bytes]]:
-    """Reads pipes to their ends, by their descriptors, and waits for them without limit. Yields
-    each piece when it has come, with its pipe's descriptor. The pipes stay open."""
-    poll, open_pipes = poll_for_input(*pipes), set(pipes)
-    while open_pipes:
-        pipe, _ = poll.poll()[0]
-        piece = os.read(pipe, PIECE_BYTES)
-        if piece:
-            yield pipe, piece
-        else:
-            poll.unregister(pipe)
-            open_pipes.remove(pipe)

@@ -20,7 +20,7 @@ from typing import Dict, Iterable, Mapping, NoReturn, Optional, Set
 from . import descendants
 from .command import print_line
 from .mount_table import MountTable
-from .pipes import open_pipe
+from .streams import open_pipe
 from .removal import TRASH_ENDING, remove_tree
 from .signals import STOPS, ignore_signals, stop_signals_blocked
 

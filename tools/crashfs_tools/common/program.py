@@ -25,7 +25,7 @@ from .archive import (
 from .command import Refused, ending_text
 from .entry import Entries
 from .forked_reading import ForkedReading
-from .pipes import poll_for_input
+from .streams import poll_for_input
 
 PACKAGE = os.path.dirname(os.path.dirname(os.path.realpath(__file__)))
 LIBRARY = os.path.dirname(PACKAGE)
@@ -36,6 +36,8 @@ READING = os.path.join(PACKAGE, 'reading', '__main__.py')
 # The status of a command line that the program doesn't know.
 UNKNOWN_OPTION = 2
 PIECE_BYTES = 1 << 16
+# No more is kept of what a program prints as an error: it may name a number of millions of digits.
+ERROR_BYTES = 1 << 24
 # So much of an archive is read at once.
 ARCHIVE_BYTES = 1 << 18
 # The first version that a program may refuse, and what it then says of its header.
@@ -73,10 +75,10 @@ RunningProgram = Union['subprocess.Popen[bytes]', ForkedReading]
 class ProgramFault(Exception):
     """`crashfs` refused what it was asked, or failed. `status` is the program's; the exception's
     own text is the line that says why or, if nothing was printed, how the program ended. `text` has
-    all that it printed as an error."""
+    what it printed as an error, without blanks at both ends."""
 
     def __init__(self, status: int, error_text: bytes) -> None:
-        """error_text is all that the program printed as an error. Its last line becomes the
+        """error_text is what the program printed as an error. Its last line becomes the
         exception's own text; if the command line was wrong, its first line, since the usage comes
         after that."""
         self.text = error_text.decode('utf-8', 'replace').strip()
@@ -273,17 +275,17 @@ def program_of_tools(tools_folder: str) -> Optional[str]:
 
 
 class ProgramOutput(io.RawIOBase):
-    """A program's standard output, as a stream. Each read also takes what the program prints as an
-    error, since the program would wait forever once that pipe is full; error_text has its last
-    PIECE_BYTES."""
+    """A program's standard output, as a stream. While a read waits, it also takes what the program
+    prints as an error, since the program would wait forever once that pipe is full; error_text has
+    its last ERROR_BYTES. open_pipes has the pipes that haven't ended."""
 
     def __init__(self, output_pipe: int, error_pipe: int) -> None:
         """Takes the descriptors of two pipes, which the caller closes."""
         super().__init__()
-        self.output_pipe, self.error_pipe = output_pipe, error_pipe
-        self.error_text = b''
-        self.has_error_end = False
+        self.output_pipe = output_pipe
+        self.open_pipes = {output_pipe, error_pipe}
         self.poll = poll_for_input(output_pipe, error_pipe)
+        self.error_text = b''
 
     def readable(self) -> bool:
         """True, as RawIOBase asks of a stream that can be read."""
@@ -291,46 +293,36 @@ class ProgramOutput(io.RawIOBase):
 
     def readinto(self, buffer: Any) -> int:
         """Waits without limit for standard output, and reads it into a buffer. Returns the number
-        of bytes read; 0 at the end. What is printed as an error until then is added to
-        error_text."""
-        while True:
-            ready = {pipe for pipe, _ in self.poll.poll()}
-            if self.error_pipe in ready:
-                self.read_errors()
-            if self.output_pipe in ready:
-                return os.readv(self.output_pipe, [buffer])
-
-    def read_errors(self) -> bool:
-        """Waits without limit for a piece of what the program prints as an error, and adds it to
-        error_text, which keeps only the last PIECE_BYTES. Returns False at the end of the pipe,
-        also if it is called again then."""
-        piece = os.read(self.error_pipe, PIECE_BYTES)
-        self.error_text = (self.error_text + piece)[-PIECE_BYTES:]
-        if not piece and not self.has_error_end:
-            self.poll.unregister(self.error_pipe)
-            self.has_error_end = True
-        return bool(piece)
-
-    def drop_rest(self) -> None:
-        """Reads standard output to its end, and drops what it reads. Waits without limit."""
-        while self.read(PIECE_BYTES):
-            pass
-
-    def all_error_text(self) -> bytes:
-        """Reads the rest of what the program prints as an error, and waits for its end without
-        limit. Returns error_text, which has only the last PIECE_BYTES."""
-        while self.read_errors():
-            pass
-        return self.error_text
+        of bytes read; 0 once both outputs have ended. What is printed as an error until then is
+        added to error_text."""
+        while self.open_pipes:
+            pipe, _ = self.poll.poll()[0]
+            error_piece = b''
+            if pipe == self.output_pipe:
+                byte_count = os.readv(pipe, [buffer])
+                if byte_count:
+                    return byte_count
+            else:
+                error_piece = os.read(pipe, PIECE_BYTES)
+                self.error_text = (self.error_text + error_piece)[-ERROR_BYTES:]
+            if not error_piece:
+                self.poll.unregister(pipe)
+                self.open_pipes.remove(pipe)
+        return 0
 
 
 def output_of_started(child: RunningProgram) -> str:
-    """Reads what a started command prints on standard output, up to its end, and waits for it;
-    what it prints as an error is dropped. ProgramFault if its status isn't 0."""
-    output, error_text = child.communicate()
+    """Reads what a started command prints on standard output, up to its end, closes both pipes, and
+    waits for the command; what it prints as an error is dropped. ProgramFault if its status isn't
+    0."""
+    assert child.stdout is not None and child.stderr is not None
+    output = ProgramOutput(child.stdout.fileno(), child.stderr.fileno())
+    with child.stdout, child.stderr:
+        printed = output.readall()
+    child.wait()
     if child.returncode != 0:
-        raise ProgramFault(child.returncode, error_text)
-    return output.decode('utf-8', 'surrogateescape')
+        raise ProgramFault(child.returncode, output.error_text)
+    return printed.decode('utf-8', 'surrogateescape')
 
 
 def end_program(child: RunningProgram) -> None:
@@ -348,10 +340,10 @@ def read_rest_and_wait(child: RunningProgram, output: ProgramOutput) -> bytes:
     the end of what it printed as an error."""
     assert child.stdout is not None and child.stderr is not None
     with child.stdout, child.stderr:
-        output.drop_rest()
-        error_text = output.all_error_text()
+        while output.read(PIECE_BYTES):
+            pass
     child.wait()
-    return error_text
+    return output.error_text
 
 
 def is_plan_too_large(fault: Exception) -> bool:

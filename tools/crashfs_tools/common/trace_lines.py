@@ -108,20 +108,6 @@ class TraceLine(NamedTuple):
         return None
 
 
-def trace_line_of_fields(number: int, fields: Dict[str, Any]) -> TraceLine:
-    """The TraceLine of an operation's line, from its number and its fields. A missing path is an
-    empty text; KeyError if `op` is missing, or as details_text()."""
-    path = fields.get('path', fields.get('from', ''))
-    return TraceLine(
-        number,
-        fields['op'],
-        path,
-        target=fields.get('to', ''),
-        details=details_text(fields),
-        note=fields.get('note', ''),
-    )
-
-
 def details_text(fields: Dict[str, Any]) -> str:
     """What reports show of an operation in addition to its paths: a say's text, cut to LARGEST_SAY
     characters; the number of bytes of a write or an fsync_range, and their offset, or `all bytes`
@@ -163,7 +149,14 @@ def parse_trace_text(text: str) -> TraceText:
     acknowledged: List[str] = []
     for number, fields in parse_lines(text.split('\n')):
         if 'op' in fields:
-            operations[number] = trace_line_of_fields(number, fields)
+            operations[number] = TraceLine(
+                number,
+                fields['op'],
+                fields.get('path', fields.get('from', '')),
+                target=fields.get('to', ''),
+                details=details_text(fields),
+                note=fields.get('note', ''),
+            )
             if fields['op'] == 'say':
                 acknowledged.append(fields['text'])
     return TraceText(operations, acknowledged)

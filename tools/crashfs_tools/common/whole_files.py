@@ -10,7 +10,7 @@ import tempfile
 from typing import Iterable
 
 from .command import TEXT, Refused
-from .standard_streams import flushed_output
+from .streams import flushed_output
 
 
 def folder_to_write(path: str) -> str:

@@ -14,7 +14,7 @@ from collections import deque
 from contextlib import suppress
 from typing import Deque, List, Optional, Set, TextIO, Union
 
-from crashfs_tools.common.pipes import poll_for_input
+from crashfs_tools.common.streams import poll_for_input
 from crashfs_tools.common.whole_files import refuse_foreign_file
 
 from . import stopped_processes

@@ -14,7 +14,7 @@ from crashfs_tools.common.own_faults import print_own_fault
 from crashfs_tools.common.printable import escape_unprintable
 from crashfs_tools.common.program import Crashfs
 from crashfs_tools.common.signals import Stopped, raise_on_stop_signals
-from crashfs_tools.common.standard_streams import prepare_standard_streams
+from crashfs_tools.common.streams import prepare_standard_streams
 from crashfs_tools.common.whole_files import read_umask, write_whole_file
 
 from . import stacks, strace_run, summary

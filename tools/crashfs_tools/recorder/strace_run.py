@@ -14,9 +14,8 @@ from typing import ContextManager, List, Optional, Sequence
 
 from crashfs_tools.common.command import Refused
 from crashfs_tools.common.guard import Guard
-from crashfs_tools.common.pipes import poll_for_input
 from crashfs_tools.common.signals import stop_signals
-from crashfs_tools.common.standard_streams import flushed_output
+from crashfs_tools.common.streams import flushed_output, poll_for_input
 
 from . import stacks
 from .log_stream import LogStream

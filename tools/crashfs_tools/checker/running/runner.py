@@ -14,7 +14,7 @@ from typing import Callable, Dict, List, NamedTuple, Optional, Set
 from crashfs_tools.common import descendants
 from crashfs_tools.common.command import Refused, ending_text, last_line
 from crashfs_tools.common.mount_table import MountTable
-from crashfs_tools.common.pipes import poll_for_input
+from crashfs_tools.common.streams import poll_for_input
 from crashfs_tools.common.trace_lines import without_numbers
 
 from .output import MOST_BYTES, Output

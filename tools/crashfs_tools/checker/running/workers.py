@@ -15,7 +15,7 @@ from crashfs_tools.checker.states.layout import Layout
 from crashfs_tools.common.command import Refused, ending_text
 from crashfs_tools.common.descendants import become_reaper
 from crashfs_tools.common.guard import end_processes_with_token, with_token
-from crashfs_tools.common.pipes import poll_for_input
+from crashfs_tools.common.streams import poll_for_input
 from crashfs_tools.common.program import ProgramFault
 from crashfs_tools.common.signals import STOPS, stop_signals_blocked
 

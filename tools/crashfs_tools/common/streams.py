@@ -1,14 +1,17 @@
 """The standard streams: all are open and in UTF-8, output that can't be written is noticed, and
-commands inherit no other descriptors."""
+commands inherit no other descriptors. Pipes to other processes, whose ends never have the number of
+a standard stream."""
 
 from __future__ import annotations
 
 import errno
+import fcntl
 import io
 import os
+import select
 import sys
-from contextlib import contextmanager
-from typing import Iterator
+from contextlib import ExitStack, contextmanager
+from typing import Iterator, Tuple
 
 
 def set_utf8_streams() -> None:
@@ -83,3 +86,27 @@ def discard_output() -> None:
     if null_device != output:
         os.dup2(null_device, output)
         os.close(null_device)
+
+
+def open_pipe(opened: ExitStack) -> Tuple[int, int]:
+    """Opens a pipe, and returns its ends for reading and writing. The stack closes both when it
+    unwinds: to keep them open, call its pop_all() before. No end has the number of a standard
+    stream, even if these are closed. Forks inherit the ends; programs that are started don't.
+    OSError if the system has no more pipes, or if this process may open no more files: then the
+    stack closes what is open."""
+    low_reader, low_writer = os.pipe()
+    with open(low_reader, 'rb', buffering=0), open(low_writer, 'wb', buffering=0):
+        reader = fcntl.fcntl(low_reader, fcntl.F_DUPFD_CLOEXEC, 3)
+        opened.callback(os.close, reader)
+        writer = fcntl.fcntl(low_writer, fcntl.F_DUPFD_CLOEXEC, 3)
+        opened.callback(os.close, writer)
+    return reader, writer
+
+
+def poll_for_input(*pipes: int) -> select.poll:
+    """A poll object for the reading ends of pipes, given by their descriptors: its poll() waits
+    until one of them has something to read, or is at its end."""
+    poll = select.poll()
+    for pipe in pipes:
+        poll.register(pipe, select.POLLIN)
+    return poll
