@@ -76,7 +76,7 @@ class SetClasses:
         )
         # These are computed once for equal arguments.
         self.changes_id_after = lru_cache(None)(self.compute_changes_id_after)
-        self.has_name = lru_cache(None)(self.compute_has_name)
+        self.entries_of = lru_cache(None)(self.compute_entries_of)
 
     def different_sets(self) -> Iterator[int]:
         """The first set of each different state, in the order of every_set(). States differ if
@@ -116,7 +116,7 @@ class SetClasses:
         shown_contents = []
         for file_number, content_id in result.file_contents:
             may_get_name = future & self.links.get(file_number, 0)
-            if may_get_name or self.has_name(result.changes_id, file_number):
+            if may_get_name or self.entries_of(result.changes_id, file_number):
                 if not future & self.resizes.get(file_number, 0):
                     content_id = self.contents.shown_content_id(content_id)
                 if content_id != self.start_ids[file_number]:
@@ -183,20 +183,18 @@ class SetClasses:
         assert node is None or isinstance(node, Inode)
         return node
 
-    def compute_has_name(self, changes_id: int, file_number: int) -> bool:
-        """Whether a file or symbolic link, given by its number, has an entry after the name changes
-        with this id."""
-        return any(True for _ in self.entries_of(changes_id, file_number))
-
-    def entries_of(self, changes_id: int, file_number: int) -> Iterator[Entry]:
+    def compute_entries_of(self, changes_id: int, file_number: int) -> Tuple[Entry, ...]:
         """The entries that hold a file or symbolic link, given by its number, after the name
-        changes with this id, in no particular order."""
+        changes with this id, in no particular order; none if it has no name then."""
         changes = self.name_changes.values[changes_id]
         start_entries = self.start_entries.get(file_number, [])
-        yield from (entry for entry in start_entries if entry not in changes)
-        for key, node in changes.items():
-            if isinstance(key, tuple) and isinstance(node, Inode) and is_file(node, file_number):
-                yield key
+        unchanged_entries = (entry for entry in start_entries if entry not in changes)
+        changed_entries = (
+            key
+            for key, node in changes.items()
+            if isinstance(key, tuple) and isinstance(node, Inode) and is_file(node, file_number)
+        )
+        return (*unchanged_entries, *changed_entries)
 
     # The trees
 

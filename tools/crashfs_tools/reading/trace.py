@@ -114,7 +114,8 @@ class Reading:
         return self.make_file(line, SYMLINK, rights, data)
 
     def make_directory(self, line: Line) -> Inode:
-        """Makes the directory of a line, with its unmoved path, and returns its inode."""
+        """Makes the directory of a line, with its rights and its unmoved path, and returns its
+        inode."""
         path = line.fields['path']
         node = self.names.add_directory(path)
         self.unmoved_paths[node.number] = self.unmoved_path(self.names.entry_at(path))
