@@ -1,8 +1,12 @@
-"""Files of which only what isn't zero is kept."""
+"""Files of which only what isn't zero is kept, and how bytes are written to a file."""
 
+import os
 import random
+import tempfile
 import unittest
+from unittest import mock
 
+from crashfs_tools.common.file_bytes import write_at
 from crashfs_tools.common.sparse import GAP_BYTES, PAGE_BYTES, SparseBytes
 
 
@@ -72,6 +76,18 @@ class Sparse(unittest.TestCase):
         sparse.resize(10)
         sparse.resize(100)
         self.assertEqual(bytes(sparse), b'x' * 10 + bytes(90))
+
+
+class Files(unittest.TestCase):
+    def test_all_bytes_are_written_if_the_system_takes_two_at_once(self):
+        write = os.pwrite
+        with tempfile.TemporaryFile() as file, mock.patch(
+            'os.pwrite', side_effect=lambda fd, data, offset: write(fd, data[:2], offset)
+        ):
+            file.write(b'old bytes')
+            file.flush()
+            write_at(file.fileno(), 3, b'seven b')
+            self.assertEqual(os.pread(file.fileno(), 100, 0), b'oldseven b')
 
 
 if __name__ == '__main__':
