@@ -71,7 +71,7 @@ def main() -> int:
 def build_all(processors: int) -> int:
     """Proves the libraries on this number of processors, then builds the program. Returns the
     status: 0 if all is proved and built. After a crate that isn't proved no other is begun, but
-    running checks go on to their end. Proved libraries are copied to the repository itself in
+    running checks continue to their end. Proved libraries are copied to the repository itself in
     either case. OSError if crates.txt or a text can't be read, or a copy of the repository or of a
     library can't be made."""
     uses, start_time = library_uses(), time.monotonic()

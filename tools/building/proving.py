@@ -69,7 +69,7 @@ def report_failure(name: str, check: Check, jobs: int, processors: int) -> None:
 def prove_crates_in(copy: Path, work: Work, start_time: float) -> None:
     """Proves one crate after the other in a copy of the repository, until none is left, or one
     isn't proved, here or in another thread. Prints a line for each, by print_progress(), and what a
-    failed check printed. Errors as report_failure(): other threads go on."""
+    failed check printed. Errors as report_failure(): other threads continue."""
     for name, jobs in iter(work.begin_next_crate, None):
         used_copy, check = check_crate_in(copy, work, name, jobs)
         work.end_crate(name, used_copy if check.status == 0 else None)

@@ -84,7 +84,7 @@ def unexplained_comments_in(sources: Dict[str, str]) -> List[str]:
     reason: `# type: ignore[code]  # reason` has both. `sources` has the texts of files by their
     names."""
     return [
-        f'{name}:{number}: {comment[0]}: give the code, and the reason in a comment behind it'
+        f'{name}:{number}: {comment[0]}: give the code, and the reason in a comment after it'
         for name, text in sources.items()
         for number, line in enumerate(text.splitlines(), 1)
         if (comment := UNEXPLAINED.search(line))

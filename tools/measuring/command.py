@@ -6,7 +6,7 @@ finds allowed sets) need the program `crashfs`, too. Servers and their clients u
 processors each. The figures count only if nothing else runs.
 Status 0: no row is past its bound, and no program failed.
 
-Two commands have options of their own: `measure disks` compares crashes of real file systems with
+Two commands have other options: `measure disks` compares crashes of real file systems with
 crash states, and `measure stores` checks the sessions of examples/stores.
 """
 

@@ -101,7 +101,7 @@ def draw_picks(picture: Picture, drawing: Drawing) -> None:
 def rows_by_loss(drawing: Drawing) -> List[str]:
     """The signs of the states with other losses, as rows: those that lack the fewest
     micro-operations first, as in the drawing's picks. States that lack the same number of
-    micro-operations begin a row, and go on in further rows if they don't fit."""
+    micro-operations begin a row, and continue in further rows if they don't fit."""
     width = (WIDTH - 2 * MARGIN) // CELL
     signs: Dict[int, str] = {}
     for _, sign, lost_count in drawing['picks']:

@@ -77,7 +77,7 @@ class Shrinking:
     def write_part(self, line_count: int, trace: Path, page: Path) -> Optional[Failure]:
         """Writes the session, up to the acknowledged line number line_count (0: all of it), to the
         file `trace`, and the report on it to `page`. Returns the failure as a check finds it in
-        this part; None if the check doesn't find it: the trace is written even so, and the page if
+        this part; None if the check doesn't find it: the trace is written then too, and the page if
         the check makes a report. Raises what find_failure() does, and OSError if the trace can't be
         written."""
         failure = self.find_failure(line_count, page)
