@@ -20,7 +20,7 @@ from typing import Any, Dict, List, NamedTuple
 
 from crashfs_tools.common.signals import Stopped, raise_on_stop_signals
 
-from .store_rows import STORES, TOP, ResultsFile, disk_counts, read_stores, row_of_check
+from .store_rows import STORES, TOP, ResultsFile, Row, disk_counts, read_stores, row_of_check
 
 TOOLS = TOP / 'tools'
 # Sessions of at most so many operations are made again on disks.
@@ -125,7 +125,7 @@ class SessionCheck:
         self.trace_path = folder / f'{session.name}.trace'
         self.report_path = folder / 'report.json'
 
-    def make_row(self) -> Dict[str, Any]:
+    def make_row(self) -> Row:
         """Builds the store's program, makes the session's trace, checks it, and returns the
         session's row, with the version of the store's package. The program stays with the scripts.
         Waits for the scripts without limit, and ignores their status. NoResult if a package is
@@ -136,14 +136,20 @@ class SessionCheck:
             raise NoResult(f'not installed: {", ".join(missing)}')
         run_command([str(STORES / 'build.sh'), str(self.session.scripts_folder)])
         self.make_trace()
+        version = installed_version(self.session.store['package'])
+        return {**self.check_for_row(), 'version': version}
+
+    def check_for_row(self) -> Row:
+        """Checks the session, whose trace must be made, and returns its row, with an empty version.
+        With a time limit disks are tried by a second check: one that the limit ends tries none.
+        NoResult if no report is made; errors as run_check() and row_of_check()."""
         limit, disks = self.limit_options(), self.disk_options()
         report = self.run_check(*limit, *([] if limit else disks))
         row = row_of_check(self.session.store, self.session.key, str(self.report_path), report)
         if limit and disks:
-            # A check that the limit ends tries no disks: they have a second check.
             self.run_check('--prefixes', *disks)
             row['disks'] = disk_counts(json.loads(self.report_path.read_text('utf-8')))
-        return {**row, 'version': installed_version(self.session.store['package'])}
+        return row
 
     def make_trace(self) -> None:
         """Puts the session's trace into the folder: a copy of the committed trace, or, if there is
