@@ -50,7 +50,8 @@ class TimedCommand(NamedTuple):
 
 def time_command(words: List[str], environment: Optional[Dict[str, str]] = None) -> TimedCommand:
     """Runs a command to its end, however long it takes, in this environment, or in that of this
-    process if it is None. OSError if the command can't be started, or if its status isn't 0."""
+    process if it is None, and returns what it printed, with its times. OSError if the command can't
+    be started, or if its status isn't 0."""
     start_time = time.monotonic()
     with subprocess.Popen(
         words, stdout=subprocess.PIPE, stdin=subprocess.DEVNULL, text=True, env=environment

@@ -57,12 +57,12 @@ def tool_items() -> Items:
 def document_items() -> Items:
     """Pages, pictures, data and examples, by their paths in a release. They are in the same folders
     there as in the repository, so that links between them work. Errors as tool_items()."""
-    data = [
+    further_paths = [
         *tracked_files('docs/images'),
         *tracked_files('docs/results.json'),
         *tracked_files('examples'),
     ]
-    paths = [*TOP_PAGES, *tracked_files('docs/*.md'), *data]
+    paths = [*TOP_PAGES, *tracked_files('docs/*.md'), *further_paths]
     return {f'{DOCUMENTS}/{path}': item_of_file(path) for path in paths}
 
 

@@ -172,5 +172,5 @@ def failures_in(fields: Dict[str, Any], unanswered: List[str]) -> List[Failure]:
 
 def fault_text(tool: str, status: int, error_text: str) -> str:
     """Why a command gave no result: its name, its status, and the last line of error_text, such as
-    what it printed on standard error."""
+    what it printed on standard error; `it printed nothing` if all of error_text is blank."""
     return f'{tool}: status {status}: {last_line(error_text) or "it printed nothing"}'
