@@ -48,6 +48,8 @@ class First(InCounted):
                 'lost (state 11, says 1): old: ./x',
                 'crashfs-check: is COMMAND stricter than the session, or does it look for files '
                 'elsewhere?',
+                'crashfs-check: did the directory have files of an earlier session when it was '
+                'recorded?',
                 'crashfs-check: inspect it with --state 11',
             ],
         )
@@ -67,18 +69,20 @@ class First(InCounted):
     def test_files_of_an_earlier_session_are_asked_for(self):
         rights = '"owner":"u","group":"u","mode":"755"'
         question = 'crashfs-check: did the directory have files of an earlier session when it was '
-        for start, asked in (f'{{"start":"file","path":"/log",{rights},"bytes":"61"}}\n', True), (
-            '',
-            False,
+        for start, is_asked in (
+            (f'{{"start":"file","path":"/log",{rights},"bytes":"61"}}\n', True),
+            ('', False),
         ):
-            trace = self.write(
-                'old.trace',
-                f'{{"trace":1,{rights}}}\n{start}' f'{{"op":"creat","path":"/new",{rights}}}\n',
-            )
-            ran = self.check(trace, command=['sh', '-c', 'test -e new'])
-            self.assertEqual((ran.returncode, ran.stdout), (2, ''), ran.stderr)
-            self.assertIn('in the start tree', ran.stderr)
-            self.assertEqual(f'{question}recorded?' in ran.stderr, asked, ran.stderr)
+            header = f'{{"trace":1,{rights}}}\n{start}'
+            self.write('old.trace', f'{header}{{"op":"creat","path":"/new",{rights}}}\n')
+            for condition, tree in (('-e new', 'start tree'), ('! -e new', "session's end")):
+                ran = self.check('old.trace', command=['sh', '-c', f'test {condition}'])
+                self.assertEqual((ran.returncode, ran.stdout), (2, ''), ran.stderr)
+                self.assertIn(tree, ran.stderr)
+                self.assertEqual(f'{question}recorded?' in ran.stderr, is_asked, ran.stderr)
+        # Where the cause is known, nothing else is asked.
+        self.write('check.py', '')
+        self.assertNotIn(question, '\n'.join(self.refusal(['sh', 'check.py'])))
 
     def test_a_command_without_an_answer_there_is_tried_everywhere(self):
         ran = self.check(

@@ -50,8 +50,8 @@ class FirstTrials:
         outcome = self.outcome_of(number, next_numbers)
         if outcome.result == BAD:
             place = f'{tree_name}, {LOSSLESS} (state {number}, says {state.says})'
-            is_start = state.numbers[0] == 0
-            raise self.refusal(outcome, place, self.hints_on_state(number, is_start=is_start))
+            hints = [f'inspect it with --state {number}'] if self.is_command else []
+            raise self.refusal(outcome, place, hints)
 
     def outcome_of(self, number: int, next_numbers: Sequence[int]) -> Outcome:
         """The outcome of the state of a number: that of the results, or else that of a run, which
@@ -77,22 +77,12 @@ class FirstTrials:
         first_line = f'{name} fails in {place}: {outcome.cause}'
         return Refused('\n'.join([first_line, *self.hints_on_cause(outcome.cause), *hints]))
 
-    def hints_on_state(self, number: int, *, is_start: bool) -> List[str]:
-        """The lines that ask for a look at a state in which COMMAND fails, maybe none. is_start
-        says whether it is the start tree: files there may be a mistake. Errors as in
-        PlanTrees.of_state()."""
-        hints = []
-        if is_start and self.trials.trees.of_state(number):
-            hints.append('did the directory have files of an earlier session when it was recorded?')
-        if self.is_command:
-            hints.append(f'inspect it with --state {number}')
-        return hints
-
     def hints_on_cause(self, cause: str) -> List[str]:
         """One or more lines that ask what may be wrong with COMMAND, or with the recovery function,
-        if that fails with this cause."""
+        if that fails with this cause. Errors as in hints_on_start_files()."""
         if not self.is_command:
-            return ['does it expect more than the session did, or files of another place?']
+            question = 'does it expect more than the session did, or files of another place?'
+            return [question, *self.hints_on_start_files()]
         relative_words = relative_path_arguments(self.trials.options.command)
         if relative_words:
             return [
@@ -102,4 +92,12 @@ class FirstTrials:
             ]
         if 'not found' in cause or 'No such file' in cause or cause == 'status 127':
             return ['does COMMAND run something that is neither on PATH nor an absolute path?']
-        return ['is COMMAND stricter than the session, or does it look for files elsewhere?']
+        question = 'is COMMAND stricter than the session, or does it look for files elsewhere?'
+        return [question, *self.hints_on_start_files()]
+
+    def hints_on_start_files(self) -> List[str]:
+        """A line that asks whether files of the start tree, which may be a mistake, are those of an
+        earlier session; no line if it has none. Errors as in PlanTrees.of_state()."""
+        if not self.trials.trees.of_state(self.trials.plan.first):
+            return []
+        return ['did the directory have files of an earlier session when it was recorded?']
