@@ -63,6 +63,12 @@ class Order(Listing):
             families = set().union(*states_in_batches(results, has_all=False))
             self.assertEqual(set().union(*found[:-1]), families - found[-1])
 
+    def test_each_state_is_in_one_shard(self) -> None:
+        numbers = [0, 2, 3, 7, 9]
+        shares = [Shard(part, 2).share_of(numbers) for part in (1, 2)]
+        self.assertEqual(shares, [[0, 3, 9], [2, 7]])
+        self.assertEqual(Shard().share_of(numbers), numbers)
+
     def test_the_first_states_end_at_acknowledged_lines(self) -> None:
         plan = self.planned(TORN).plan
         first = states_in_batches(Results(plan), has_all=True)[0]

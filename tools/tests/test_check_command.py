@@ -198,7 +198,7 @@ class Checks(InStore):
             self.assertEqual(file.read(), 'a=2 is stored\n')
 
     def test_shards_are_merged_into_the_whole(self):
-        whole = self.check(self.bad)
+        whole = self.check('--json', self.path('whole.json'), self.bad)
         files = []
         for part in (1, 2):
             files.append(self.path(f'{part}.json'))
@@ -208,8 +208,11 @@ class Checks(InStore):
         # What was tried of the advice is known only where COMMAND runs.
         untried = re.sub(' *tried: .*\n', '', whole.stdout)
         self.assertEqual((ran.returncode, ran.stdout), (1, untried), ran.stderr)
-        parts = [json.loads(self.read(f'{part}.json'))['windows'][0]['outcomes'] for part in (1, 2)]
-        merged = json.loads(self.read('all.json'))['windows'][0]['outcomes']
+        all_outcomes, merged, *parts = (
+            json.loads(self.read(f'{name}.json'))['windows'][0]['outcomes']
+            for name in ('whole', 'all', '1', '2')
+        )
+        self.assertEqual(merged, all_outcomes)
         self.assertEqual(merged, {**parts[0], **parts[1]})
         self.assertEqual(len(merged), sum(map(len, parts)))
         self.merged_with_trace(whole.stdout, files)

@@ -20,7 +20,7 @@ from crashfs_tools.checker.running import runner
 from crashfs_tools.checker.running.progress import Progress
 from crashfs_tools.checker.running.runner import GOOD, NO_ANSWER, LeftRunning
 from crashfs_tools.checker.running.trials import Trials
-from crashfs_tools.checker.running.workers import StateWorkers
+from crashfs_tools.checker.running.workers import PIECE_BYTES, StateWorkers
 from crashfs_tools.checker.states.layout import Layout
 from crashfs_tools.common import descendants
 from crashfs_tools.common.guard import Guard
@@ -187,6 +187,13 @@ class Reapers(InRuns):
         self.assertEqual(statuses[-1], 0)
         os.close(workers.life_writer)
         os.close(workers.life_pipe)
+
+    def test_an_outcome_that_comes_in_pieces_is_read_whole(self):
+        flood = "head -c 70000 /dev/zero | tr '\\0' x; exit 1"
+        with mock.patch.object(runner, 'OUTPUT_CHARACTERS', 1 << 17):
+            outcomes = self.outcomes_of(flood, range(2))
+        # Of the output so many bytes are kept; with them the line is longer than a piece.
+        self.assertEqual([len(one.output) for one in outcomes.values()], [PIECE_BYTES] * 2)
 
     def test_an_error_of_a_path_in_bytes_is_reported(self):
         layout = OneState(self.path('state'))
