@@ -90,9 +90,9 @@ class Tally:
         self.add_line(f'{label}: {figure:.3f} {unit}{verdict}')
 
     def run_program(self, words: List[str], processors: Optional[Sequence[int]] = None) -> None:
-        """Runs a program on these processors, or on all, to its end, however long it takes, and
-        adds each line that it prints. A status that isn't 0 is added as a failure. Errors as
-        start_program()."""
+        """Runs a program on these processors, or on all, and adds each line that it prints, until
+        it, and each process that shares its standard output, has ended, however long that takes. A
+        status that isn't 0 is added as a failure. Errors as start_program()."""
         child = start_program(words, processors)
         assert child.stdout is not None
         with child.stdout:

@@ -198,9 +198,9 @@ class SessionCheck:
 
 
 def run_command(words: List[str]) -> str:
-    """Runs a command to its end, however long it takes, and returns what it printed on standard
-    output. Its status is ignored: callers look for the files that it makes. OSError if it can't be
-    started."""
+    """Runs a command, waits without limit until it, and each process that shares its standard
+    output, has ended, and returns what was printed there. Its status is ignored: callers look for
+    the files that it makes. OSError if it can't be started."""
     completed = subprocess.run(words, stdin=subprocess.DEVNULL, stdout=subprocess.PIPE, check=False)
     return completed.stdout.decode('utf-8', 'replace')
 

@@ -16,8 +16,9 @@ class EndedCommand(NamedTuple):
 
 
 def run_command(words: List[str], folder: Path, input_bytes: bytes = b'') -> EndedCommand:
-    """Runs a command in a folder, with these bytes as its standard input, and waits for it without
-    limit. Any status is returned; OSError if the command can't be started."""
+    """Runs a command in a folder, with these bytes as its standard input, and waits without limit
+    until it, and each process that shares its outputs, has ended. Any status is returned; OSError
+    if the command can't be started."""
     completed = subprocess.run(
         words,
         cwd=folder,

@@ -101,8 +101,8 @@ class Campaign:
             self.count_known_failure(seed, failure, known_failure, shrinking)
 
     def add_new_failure(self, seed: int, failure: Failure, shrinking: Shrinking) -> None:
-        """Adds a failure that the book doesn't have, and keeps its session, cut by `shrinking`.
-        Raises what Shrinking does: then the book doesn't have it."""
+        """Adds a failure that the book doesn't have, keeps its session, cut by `shrinking`, and
+        prints a line. Raises what Shrinking does: then the book doesn't have it."""
         new_failure = KnownFailure(failure, seed, len(self.book.entries) + 1)
         self.keep_session(new_failure, seed, shrinking, shrinking.shortest_length())
         self.book.entries[shrinking.key] = new_failure
@@ -111,9 +111,9 @@ class Campaign:
     def count_known_failure(
         self, seed: int, failure: Failure, known_failure: KnownFailure, shrinking: Shrinking
     ) -> None:
-        """Counts one more session of a failure that the book has, and keeps it, cut by `shrinking`,
-        if it is then shorter than the kept one. `failure` is that of this session. Raises what
-        Shrinking does: then the session is counted."""
+        """Counts one more session of a failure that the book has. If the session, cut by
+        `shrinking`, is shorter than the kept one, keeps it instead, and prints a line. `failure` is
+        that of this session. Raises what Shrinking does: then the session is counted."""
         known_failure.sessions += 1
         line_count = shrinking.shortest_length(known_failure.most_lines)
         if line_count:
