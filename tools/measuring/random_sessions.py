@@ -5,6 +5,7 @@ from __future__ import annotations
 import random
 from typing import List, Optional
 
+from crashfs_tools.common.entry import DIRECTORY_KIND, FILE_KIND, SYMLINK_KIND
 from crashfs_tools.common.sparse import SparseBytes
 from crashfs_tools.common.trace import (
     Creat,
@@ -128,17 +129,12 @@ class DrawnSession:
     # Paths and sizes of the tree
 
     def paths_of(self, kind: str) -> List[str]:
-        """The paths of all entries of a kind: `dir`, `file`, or `link` for symbolic links. The root
-        isn't among them."""
-        return [
-            path
-            for path, entry in self.tree.entries.items()
-            if path != '/'
-            and kind == ('dir' if entry.is_directory else 'file' if entry.is_file else 'link')
-        ]
+        """The paths of all entries of a kind, as Entry.kind has it. The root isn't among them."""
+        entries = self.tree.entries
+        return [path for path, entry in entries.items() if path != '/' and entry.kind == kind]
 
     def draw_path(self, *kinds: str) -> Optional[str]:
-        """Draws the path of an entry of these kinds, as paths_of() has them; None if there is no
+        """Draws the path of an entry of these kinds, as Entry.kind has them; None if there is no
         such entry."""
         paths = [path for kind in kinds for path in self.paths_of(kind)]
         return self.random.choice(paths) if paths else None
@@ -146,7 +142,7 @@ class DrawnSession:
     def draw_new_path(self, names: str) -> str:
         """Draws a path for a new entry: one of the letters of `names`, in the root or another
         directory. Something may be at the path already."""
-        directory = self.random.choice(['', *self.paths_of('dir')])
+        directory = self.random.choice(['', *self.paths_of(DIRECTORY_KIND)])
         return f'{directory}/{self.random.choice(names)}'
 
     def file_size(self, path: str) -> int:
@@ -177,59 +173,59 @@ class DrawnSession:
     def draw_write(self) -> Optional[Operation]:
         """Draws a write to a file at 0, 2 or 4096, which may be past its end; None if there is no
         file."""
-        path = self.draw_path('file')
+        path = self.draw_path(FILE_KIND)
         if path is None:
             return None
         offset = self.random.choice([0, 0, 2, 4096])
         return Write(path, offset, self.draw_bytes())
 
     def draw_append(self) -> Optional[Operation]:
-        path = self.draw_path('file')
+        path = self.draw_path(FILE_KIND)
         return Write(path, self.file_size(path), self.draw_bytes()) if path else None
 
     def draw_truncate(self) -> Optional[Operation]:
         """Draws a truncate of a file to 0, 1, 2, 4096 or 6000 bytes, whatever length it has; None
         if there is no file."""
-        path = self.draw_path('file')
+        path = self.draw_path(FILE_KIND)
         length = self.random.choice([0, 1, 2, 4096, 6000])
         return Truncate(path, length) if path else None
 
     def draw_rename(self) -> Optional[Operation]:
-        path = self.draw_path('file', 'link')
+        path = self.draw_path(FILE_KIND, SYMLINK_KIND)
         return Rename(path, self.draw_new_path(NAMES)) if path else None
 
     def draw_rename_directory(self) -> Optional[Operation]:
-        path = self.draw_path('dir')
+        path = self.draw_path(DIRECTORY_KIND)
         return Rename(path, self.draw_new_path(DIRECTORIES)) if path else None
 
     def draw_link(self) -> Optional[Operation]:
-        path = self.draw_path('file')
+        path = self.draw_path(FILE_KIND)
         return Link(path, self.draw_new_path(NAMES)) if path else None
 
     def draw_unlink(self) -> Optional[Operation]:
-        path = self.draw_path('file', 'link')
+        path = self.draw_path(FILE_KIND, SYMLINK_KIND)
         return Unlink(path) if path else None
 
     def draw_rmdir(self) -> Optional[Operation]:
-        path = self.draw_path('dir')
+        path = self.draw_path(DIRECTORY_KIND)
         return Rmdir(path) if path else None
 
     def draw_fsync(self) -> Optional[Operation]:
-        path = self.draw_path('file')
+        path = self.draw_path(FILE_KIND)
         return Fsync(path) if path else None
 
     def draw_fdatasync(self) -> Optional[Operation]:
-        path = self.draw_path('file')
+        path = self.draw_path(FILE_KIND)
         return Fdatasync(path) if path else None
 
     def draw_fsync_range(self) -> Optional[Operation]:
         """Draws a sync of the first or the second page of a file, which may be past its end; None
         if there is no file."""
-        path = self.draw_path('file')
+        path = self.draw_path(FILE_KIND)
         return FsyncRange(path, 4096 * self.random.randrange(2), 4096) if path else None
 
     def draw_fsync_directory(self) -> Operation:
-        return Fsync(self.random.choice(['/', *self.paths_of('dir')]))
+        return Fsync(self.random.choice(['/', *self.paths_of(DIRECTORY_KIND)]))
 
     def draw_sync(self) -> Operation:
         return Sync()
