@@ -1,4 +1,4 @@
-"""A guard that can't have its directory."""
+"""A guard that can't have its directory, and the processes that guards find."""
 
 import io
 import os
@@ -11,7 +11,7 @@ from contextlib import redirect_stderr
 from unittest import mock
 
 from crashfs_tools.common import descendants
-from crashfs_tools.common.guard import Guard
+from crashfs_tools.common.guard import VARIABLE, Guard, processes_with_token, with_token
 from crashfs_tools.common.signals import STOPS, TimeUp, stop_signals_blocked, time_limit
 
 from .support import TOOLS, InFolder
@@ -65,6 +65,19 @@ class Guards(InFolder):
             script = f'exec {sys.executable} -c "$1" "$2" {closed}'
             subprocess.run(['sh', '-c', script, 'sh', GUARDED, out], cwd=TOOLS, check=True)
             self.assertEqual(self.read('out'), 'True', closed)
+
+
+class Tokens(unittest.TestCase):
+    def test_a_process_has_the_tokens_of_all_guards_around_it_and_no_other(self):
+        environment = {f'{VARIABLE}_2': 'e5', 'LAST': 'f6'}
+        for token in ('a1', 'b2', 'c3'):
+            environment = with_token(environment, token)
+        child = subprocess.Popen(['/bin/sleep', '60'], env={**environment, f'X{VARIABLE}': 'd4'})
+        self.addCleanup(child.wait)
+        self.addCleanup(child.kill)
+        for token in ('a1', 'b2', 'c3', 'd4', 'e5', 'f6', 'a', '1', '2:c'):
+            is_found = child.pid in processes_with_token(token)
+            self.assertEqual(is_found, token in ('a1', 'b2', 'c3'), token)
 
 
 class Limits(unittest.TestCase):

@@ -11,6 +11,7 @@ from __future__ import annotations
 import errno
 import json
 import os
+import re
 import signal
 import tempfile
 import time
@@ -213,24 +214,20 @@ def with_token(environment: Mapping[str, str], token: str) -> Dict[str, str]:
 def processes_with_token(token: str) -> Set[int]:
     """The processes that were started with a token in their environment, and forks of these. A
     process that has ended, or may not be read, isn't found. OSError without /proc."""
-    return {
-        process for process in descendants.all_processes() if has_token(process, token.encode())
-    }
-
-
-def has_token(process: int, token: bytes) -> bool:
-    """Whether a process was started with a token in its environment. False if it is gone, or may
-    not be read."""
-    try:
-        with open(f'/proc/{process}/environ', 'rb', buffering=0) as file:
-            environment = file.readall()
-    except OSError:
-        return False
-    if token not in environment:
-        return False
-    prefix = VARIABLE.encode() + b'='
-    lines = [line for line in environment.split(b'\0') if line.startswith(prefix)]
-    return any(token in line[len(prefix) :].split(b':') for line in lines)
+    name, value = VARIABLE.encode(), token.encode()
+    # Each entry of an environment ends with a NUL; tokens are separated by colons.
+    entry = re.compile(rb'(?:\A|\0)%s=(?:[^\0]*:)?%s(?:[:\0]|\Z)' % (name, value))
+    processes: Set[int] = set()
+    for process in descendants.all_processes():
+        try:
+            with open(f'/proc/{process}/environ', 'rb', buffering=0) as file:
+                environment = file.readall()
+        except OSError:
+            continue
+        # Few environments have the token, and most others are left out faster so.
+        if value in environment and entry.search(environment):
+            processes.add(process)
+    return processes
 
 
 def end_processes_with_token(token: str) -> None:

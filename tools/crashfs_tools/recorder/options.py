@@ -5,7 +5,7 @@ from __future__ import annotations
 import argparse
 import os
 from dataclasses import dataclass, field
-from typing import List, Optional
+from typing import Any, Dict, List, Optional
 
 from crashfs_tools.common.command import (
     Refused,
@@ -74,135 +74,6 @@ class RecordOptions:
         return None if self.trace_version == AUTO else int(self.trace_version)
 
 
-def make_parser() -> argparse.ArgumentParser:
-    """A new parser of the words before `--`, with all options."""
-    parser = argparse.ArgumentParser(
-        prog=NAME,
-        description=DESCRIPTION,
-        epilog=EPILOG,
-        usage='crashfs-record [OPTION].. DIR OUT.trace -- COMMAND [ARG]..',
-        formatter_class=argparse.RawDescriptionHelpFormatter,
-    )
-    parser.add_argument('--version', action='version', version=version_text(NAME))
-    parser.add_argument('directory', metavar='DIR', help='the directory that COMMAND changes')
-    parser.add_argument('out', metavar='OUT.trace', help='the trace to write; - is standard output')
-    add_recording_options(parser)
-    add_acknowledgement_options(parser)
-    add_trace_options(parser)
-    parser.add_argument(
-        '--crashfs',
-        metavar='PATH',
-        help='the program crashfs, for the comparison at the end (default: the one on PATH, then '
-        'next to this tool, then the one that tools/build made)',
-    )
-    add_log_options(parser)
-    return parser
-
-
-def add_recording_options(parser: argparse.ArgumentParser) -> None:
-    """Adds to a parser the options that say which changes of the directory are recorded."""
-    parser.add_argument(
-        '--mapped',
-        action='store_true',
-        help='also record stores through shared mappings: COMMAND is stopped at each '
-        'call that syncs, writes, maps or changes a name (slower)',
-    )
-    parser.add_argument(
-        '--ignore',
-        metavar='GLOB',
-        action='append',
-        type=check_pattern,
-        default=[],
-        help='leave out files that match, by the rules of .gitignore (may be repeated)',
-    )
-
-
-def add_acknowledgement_options(parser: argparse.ArgumentParser) -> None:
-    """Adds to a parser the options that say what COMMAND acknowledges, and how."""
-    parser.add_argument(
-        '--say-fd',
-        metavar='N',
-        action='append',
-        default=[],
-        dest='acknowledging_descriptors',
-        type=parse_say_fd,
-        help="take the acknowledged lines from COMMAND's descriptor N, not from "
-        f"standard output; `{SOCKETS}`: from each connection that it accepts "
-        '(may be repeated)',
-    )
-    parser.add_argument(
-        '--say-each',
-        metavar='WHAT',
-        choices=[each.value for each in SayEach],
-        help='what acknowledges something: each `line`, or each `write`, as in binary '
-        'protocols (default: line; over a connection without line feeds: write)',
-    )
-    parser.add_argument(
-        '--no-say',
-        action='store_true',
-        help='do not warn if no line is acknowledged, if all are in one write, or if '
-        'files change while one is written in parts',
-    )
-
-
-def add_trace_options(parser: argparse.ArgumentParser) -> None:
-    """Adds to a parser the options that say how the trace is written: its notes, where it begins,
-    its model of the disk, and its version."""
-    parser.add_argument(
-        '--stacks',
-        action='store_true',
-        help="note at each operation which of COMMAND's functions made it (slower)",
-    )
-    parser.add_argument(
-        '--begin-after',
-        metavar='LINE',
-        type=check_begin_after,
-        help='begin the trace after the acknowledged line with this number, or after '
-        'the first that matches; earlier changes belong to the start tree',
-    )
-    parser.add_argument(
-        '--profile',
-        choices=[*PROFILES, JOURNAL],
-        default=BLOCKS,
-        help='which directory operations the file system keeps in order: only those of the same '
-        'names (blocks, the default), all (ordered), or all, with each sync that writes the log '
-        'making them durable (journal, as ext4 and XFS do; needs a trace of version 4)',
-    )
-    parser.add_argument(
-        '--block',
-        type=int,
-        choices=BLOCK_SIZES,
-        default=BLOCK_SIZES[-1],
-        help='how many bytes the disk writes whole; with 512, records inside a page '
-        'may be torn (default: 4096)',
-    )
-    parser.add_argument(
-        '--trace-version',
-        metavar='VERSION',
-        choices=[AUTO, *VERSIONS],
-        default=AUTO,
-        help='the version of the trace. 4 has symbolic links, renamed directories and files of up '
-        'to 1 GiB (default: auto, which is 3 if that has all that happens, else 4)',
-    )
-
-
-def add_log_options(parser: argparse.ArgumentParser) -> None:
-    """Adds to a parser the options on strace's log."""
-    parser.add_argument('--keep-log', metavar='FILE', help="keep strace's log")
-    parser.add_argument(
-        '--from-log',
-        metavar='FILE',
-        help='run nothing, but convert the log of an earlier run; DIR must be as it '
-        'was before that run',
-    )
-    parser.add_argument(
-        '--log-dir',
-        metavar='PATH',
-        dest='log_directory',
-        help="with --from-log: DIR's path where the log was written",
-    )
-
-
 def check_pattern(text: str) -> str:
     """A pattern of --ignore, unchanged; ArgumentTypeError for one that never matches in git."""
     try:
@@ -232,6 +103,115 @@ def check_begin_after(text: str) -> str:
     if text.isdecimal() and parse_number(text) is None:
         raise argparse.ArgumentTypeError(f'no line has a number of {len(text):,} digits')
     return text
+
+
+# The options in the order of --help, with what argparse takes for each. A value is the field of
+# RecordOptions that has the option's name, or the name `dest`.
+OPTIONS: Dict[str, Dict[str, Any]] = {
+    # Which changes of the directory are recorded.
+    '--mapped': dict(
+        action='store_true',
+        help='also record stores through shared mappings: COMMAND is stopped at each '
+        'call that syncs, writes, maps or changes a name (slower)',
+    ),
+    '--ignore': dict(
+        metavar='GLOB',
+        action='append',
+        type=check_pattern,
+        default=[],
+        help='leave out files that match, by the rules of .gitignore (may be repeated)',
+    ),
+    # What COMMAND acknowledges, and how.
+    '--say-fd': dict(
+        metavar='N',
+        action='append',
+        default=[],
+        dest='acknowledging_descriptors',
+        type=parse_say_fd,
+        help="take the acknowledged lines from COMMAND's descriptor N, not from "
+        f"standard output; `{SOCKETS}`: from each connection that it accepts "
+        '(may be repeated)',
+    ),
+    '--say-each': dict(
+        metavar='WHAT',
+        choices=[each.value for each in SayEach],
+        help='what acknowledges something: each `line`, or each `write`, as in binary '
+        'protocols (default: line; over a connection without line feeds: write)',
+    ),
+    '--no-say': dict(
+        action='store_true',
+        help='do not warn if no line is acknowledged, if all are in one write, or if '
+        'files change while one is written in parts',
+    ),
+    # How the trace is written: its notes, where it begins, its model of the disk, and its version.
+    '--stacks': dict(
+        action='store_true',
+        help="note at each operation which of COMMAND's functions made it (slower)",
+    ),
+    '--begin-after': dict(
+        metavar='LINE',
+        type=check_begin_after,
+        help='begin the trace after the acknowledged line with this number, or after '
+        'the first that matches; earlier changes belong to the start tree',
+    ),
+    '--profile': dict(
+        choices=[*PROFILES, JOURNAL],
+        default=BLOCKS,
+        help='which directory operations the file system keeps in order: only those of the same '
+        'names (blocks, the default), all (ordered), or all, with each sync that writes the log '
+        'making them durable (journal, as ext4 and XFS do; needs a trace of version 4)',
+    ),
+    '--block': dict(
+        type=int,
+        choices=BLOCK_SIZES,
+        default=BLOCK_SIZES[-1],
+        help='how many bytes the disk writes whole; with 512, records inside a page '
+        'may be torn (default: 4096)',
+    ),
+    '--trace-version': dict(
+        metavar='VERSION',
+        choices=[AUTO, *VERSIONS],
+        default=AUTO,
+        help='the version of the trace. 4 has symbolic links, renamed directories and files of up '
+        'to 1 GiB (default: auto, which is 3 if that has all that happens, else 4)',
+    ),
+    # What compares the directory at the end.
+    '--crashfs': dict(
+        metavar='PATH',
+        help='the program crashfs, for the comparison at the end (default: the one on PATH, then '
+        'next to this tool, then the one that tools/build made)',
+    ),
+    # strace's log.
+    '--keep-log': dict(metavar='FILE', help="keep strace's log"),
+    '--from-log': dict(
+        metavar='FILE',
+        help='run nothing, but convert the log of an earlier run; DIR must be as it '
+        'was before that run',
+    ),
+    '--log-dir': dict(
+        metavar='PATH',
+        dest='log_directory',
+        help="with --from-log: DIR's path where the log was written",
+    ),
+}
+
+
+def make_parser() -> argparse.ArgumentParser:
+    """A new parser of DIR, OUT.trace and OPTIONS, without COMMAND. Each value that it reads has the
+    name of a field of RecordOptions."""
+    parser = argparse.ArgumentParser(
+        prog=NAME,
+        description=DESCRIPTION,
+        epilog=EPILOG,
+        usage='crashfs-record [OPTION].. DIR OUT.trace -- COMMAND [ARG]..',
+        formatter_class=argparse.RawDescriptionHelpFormatter,
+    )
+    parser.add_argument('--version', action='version', version=version_text(NAME))
+    parser.add_argument('directory', metavar='DIR', help='the directory that COMMAND changes')
+    parser.add_argument('out', metavar='OUT.trace', help='the trace to write; - is standard output')
+    for name, settings in OPTIONS.items():
+        parser.add_argument(name, **settings)
+    return parser
 
 
 def read_options(arguments: List[str]) -> RecordOptions:
