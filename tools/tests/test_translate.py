@@ -9,13 +9,14 @@ from crashfs_tools.recorder.live_files import StartConditions
 from . import support
 from .support import needs_version_3, operations_of, recording_of, short
 from .translated_calls import CASES, FILE, OPEN_F
+from .translated_forks import FORKS
 from .translated_syncs import SYNCS
 
 
 class Calls(unittest.TestCase):
     @needs_version_3
     def test_calls_become_the_operations_that_they_are(self):
-        for shown, start, log, wanted in CASES + SYNCS:
+        for shown, start, log, wanted in CASES + FORKS + SYNCS:
             with self.subTest(shown):
                 recording = recording_of(log, start)
                 self.assertEqual([short(one) for one in recording.trace.operations], wanted)

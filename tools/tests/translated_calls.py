@@ -71,63 +71,6 @@ CASES = [
         ['write /f 5 a', 'write /f 6 b'],
     ),
     (
-        'a child has its parent\'s files, but for what exec closes',
-        FILE,
-        [
-            '1 openat(AT_FDCWD</d>, "f", O_RDWR|O_CLOEXEC) = 3</d/f>',
-            '1 openat(AT_FDCWD</d>, "f", O_RDWR) = 4</d/f>',
-            '1 clone(child_stack=NULL, flags=CLONE_CHILD_SETTID|SIGCHLD <unfinished ...>',
-            '2 execve("/bin/x", ["x"], 0x7ffc /* 3 vars */) = 0',
-            '2 write(4</d/f>, "a", 1) = 1',
-            '1 <... clone resumed>, child_tidptr=0x7f) = 2',
-            '1 write(4</d/f>, "b", 1) = 1',
-        ],
-        ['write /f 0 a', 'write /f 1 b'],
-    ),
-    (
-        'an exec by another thread than the first closes and keeps what any exec does',
-        FILE,
-        [
-            '1 openat(AT_FDCWD</d>, "f", O_RDWR|O_CLOEXEC) = 8</d/f>',
-            '1 openat(AT_FDCWD</d>, "f", O_RDWR) = 3</d/f>',
-            '1 clone(child_stack=0x7f, flags=CLONE_VM|CLONE_FS|CLONE_FILES|CLONE_THREAD) = 2',
-            '2 execve("/bin/x", ["x"], 0x7ffc /* 3 vars */ <pid changed to 1 ...>',
-            '1 +++ superseded by execve in pid 2 +++',
-            '1 <... execve resumed>) = 9',
-            '1 write(8</etc/x>, "a", 1) = 1',
-            '1 write(3</d/f>, "J", 1) = 1',
-        ],
-        ['write /f 0 J'],
-    ),
-    (
-        'an exec ends what a process shares with others: descriptors and working directory',
-        FILE,
-        [
-            OPEN_F,
-            '1 clone(child_stack=0x7f, flags=CLONE_FS|CLONE_FILES|SIGCHLD) = 2',
-            '2 execve("/bin/x", ["x"], 0x7ffc /* 3 vars */) = 0',
-            '2 close(3</d/f>) = 0',
-            '2 chdir("/") = 0',
-            '1 write(3</d/f>, "x", 1) = 1',
-            '1 unlink("f") = 0',
-        ],
-        ['write /f 0 x', 'unlink /f'],
-    ),
-    *[
-        (
-            f'a child of {name} has what its parent had then',
-            FILE,
-            [
-                OPEN_F,
-                f'1 {name}(child_stack=NULL, flags=SIGCHLD) = 2',
-                '1 close(3</d/f>) = 0',
-                '2 write(3</d/f>, "x", 1) = 1',
-            ],
-            ['write /f 0 x'],
-        )
-        for name in ('clone', 'clone3', 'fork', 'vfork')
-    ],
-    (
         'calls that change no bytes',
         FILE,
         [
@@ -137,17 +80,6 @@ CASES = [
             '1 write(3</d/f>, "J", 1) = 1',
         ],
         ['write /f 0 J'],
-    ),
-    (
-        'a table of descriptors that is shared, and no more',
-        FILE,
-        [
-            OPEN_F,
-            '1 clone(child_stack=0x7f, flags=CLONE_VM|CLONE_FILES) = 2',
-            '2 close_range(3, 3, CLOSE_RANGE_UNSHARE) = 0',
-            '1 write(3</d/f>, "x", 1) = 1',
-        ],
-        ['write /f 0 x'],
     ),
     (
         'O_TRUNC empties what isn\'t empty',
