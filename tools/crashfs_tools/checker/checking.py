@@ -6,7 +6,7 @@ from __future__ import annotations
 import os
 from contextlib import contextmanager
 from functools import cached_property
-from typing import TYPE_CHECKING, Callable, Iterator, NamedTuple, Optional
+from typing import TYPE_CHECKING, Callable, Iterator, List, NamedTuple, Optional
 
 from crashfs_tools.checker.findings.accepted_failures import AcceptedFailures
 from crashfs_tools.checker.findings.groups import Findings
@@ -173,7 +173,8 @@ class Check:
         previous, planned = self.last_window, trials.planned
         numbers_before = known_states(previous.trials.plan, planned.plan) if previous else {}
         results = Results(planned.plan, numbers_before=numbers_before)
-        self.add_earlier_outcomes(results)
+        if self.earlier_results is not None:
+            self.add_earlier_outcomes(results, self.earlier_results.windows)
         if previous is None:
             self.prepare_first_window(trials, results)
         try:
@@ -219,11 +220,10 @@ class Check:
             except OSError as error:
                 print_line(NAME, f'--cache {error.filename}: {error.strerror}')
 
-    def add_earlier_outcomes(self, results: Results) -> None:
-        """Adds to the results of the window that is tried next its outcomes in the check of
-        --resume; nothing without --resume, or if that check ended before this window. Refused if
-        the window had another plan there: then it was a check of something else."""
-        earlier_windows = self.earlier_results.windows if self.earlier_results else []
+    def add_earlier_outcomes(self, results: Results, earlier_windows: List[Results]) -> None:
+        """Adds to the results of the window that is tried next its outcomes in an earlier check
+        with these windows; nothing if that check ended before this window. Refused if the window
+        had another plan there: then it was a check of something else."""
         place = self.report.counts.windows
         if place < len(earlier_windows):
             if earlier_windows[place].identity() != results.identity():
