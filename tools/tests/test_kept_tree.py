@@ -6,12 +6,10 @@ import subprocess
 import time
 import unittest
 from dataclasses import replace
-from types import SimpleNamespace
 from unittest import mock
 
 from crashfs_tools.checker.states import kept_tree
 from crashfs_tools.checker.states.kept_tree import KeptTree
-from crashfs_tools.checker.states.plan_trees import PlanTrees
 from crashfs_tools.common.entry import Entry
 from crashfs_tools.common.file_bytes import read_file_bytes
 from crashfs_tools.common.sparse import SparseBytes
@@ -24,12 +22,6 @@ RIGHTS = '"owner":"u","group":"u","mode"'
 
 def file(text: str, mode: int = 0o644) -> Entry:
     return Entry('u', 'g', mode, text.encode())
-
-
-def say_of(size: int) -> str:
-    """A line of so many bytes."""
-    line = '{"op":"say","text":""}'
-    return line[:-2] + 'x' * (size - len(line)) + line[-2:]
 
 
 def folder(mode: int = 0o755) -> Entry:
@@ -373,22 +365,6 @@ class Checks(InStore):
         ):
             self.assertEqual(self.states(only, trace, script), wanted)
         self.assert_ended()
-
-    def test_trees_are_kept_if_they_are_large_at_any_time(self):
-        start = '{"start":"dir","path":"/d"}\n'
-        grown = '{"op":"truncate","path":"/f","length":%d}\n'
-        for text, expected in (
-            (start * 31, False),
-            (start * 32, True),
-            (grown % 1_000_000, False),
-            (grown % 500_000 * 3, True),
-            (grown % 1_048_576, True),
-            (say_of(1_048_575), False),
-            (say_of(524_288) + '\n' + say_of(524_288), True),
-        ):
-            planned = SimpleNamespace(trace=self.write('much.trace', text))
-            trees = PlanTrees(mock.Mock(), planned, mock.Mock(), keeps_all=False)
-            self.assertEqual(trees.are_large, expected, text[:99])
 
     def test_a_small_tree_is_laid_out_whole(self):
         no_changes = self.write(

@@ -4,6 +4,7 @@ from __future__ import annotations
 
 import os
 import unittest
+from types import SimpleNamespace
 from typing import Any, List
 from unittest import mock
 
@@ -31,6 +32,12 @@ STORE = HEADER + creat('/a') + write('/a', 9) + sync('/a') + said('1') + write('
 def programs() -> List[str]:
     """The second reading in the place of the program, and the program itself if it is built."""
     return [f'python3 -S {FAKE}', *([BUILT] if os.access(BUILT, os.X_OK) else [])]
+
+
+def say_of(size: int) -> str:
+    """A line of so many bytes."""
+    line = '{"op":"say","text":""}'
+    return line[:-2] + 'x' * (size - len(line)) + line[-2:]
 
 
 class Starts(Listing):
@@ -107,6 +114,22 @@ class Archived(Listing):
             with self.subTest(bounds), mock.patch.multiple(plan_trees, **bounds):
                 self.assertEqual(len(self.kept_trees(planned)), count if is_kept else 0)
         self.assertEqual(self.kept_trees(planned, keeps_all=False), {})
+
+    def test_trees_are_large_if_they_are_large_at_any_time(self) -> None:
+        start = '{"start":"dir","path":"/d"}\n'
+        grown = '{"op":"truncate","path":"/f","length":%d}\n'
+        for text, expected in (
+            (start * 31, False),
+            (start * 32, True),
+            (grown % 1_000_000, False),
+            (grown % 500_000 * 3, True),
+            (grown % 1_048_576, True),
+            (say_of(1_048_575), False),
+            (say_of(524_288) + '\n' + say_of(524_288), True),
+        ):
+            planned: Any = SimpleNamespace(trace=self.write('much.trace', text))
+            trees = PlanTrees(mock.Mock(), planned, mock.Mock(), keeps_all=False)
+            self.assertEqual(trees.are_large, expected, text[:99])
 
     def test_a_program_that_leaves_a_state_out_is_named(self) -> None:
         planned = self.planned(STORE)
