@@ -10,7 +10,7 @@ from typing import Any, Dict, Iterator, List
 from typing import Counter as Counts
 
 from crashfs_tools.checker.findings.sightings import OUTSIDE
-from crashfs_tools.checker.report.counts import set_count_of_windows
+from crashfs_tools.checker.report.counts import StateCounts
 from crashfs_tools.checker.running.read_results import read_json
 from crashfs_tools.checker.running.results import Results
 from crashfs_tools.checker.running.runner import BAD
@@ -82,7 +82,7 @@ def row_of_check(store: Dict[str, Any], key: str, json_path: str, report: str) -
         'version': '',
         'session': store['sessions'][key.partition('/')[2]],
         'micro_operations': sum(len(window.plan.operations) for window in windows),
-        'sets': set_count_of_windows([window.plan.all_states for window in windows]),
+        'sets': StateCounts(all_states=[window.plan.all_states for window in windows]).set_count,
         'is_whole': ALL_STATES.search(first_line) is not None,
         'tried': len(outcomes),
         'failing': len(failing),

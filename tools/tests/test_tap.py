@@ -18,7 +18,7 @@ from crashfs_tools.checker.findings.sightings import OUTSIDE, DiskFailure, Expla
 from crashfs_tools.checker.report.report import CheckReport
 from crashfs_tools.checker.report.tap import tap_lines
 from crashfs_tools.checker.report.text import ReportText
-from crashfs_tools.checker.running.runner import BAD, NO_ANSWER, Outcome
+from crashfs_tools.checker.running.runner import BAD, GOOD, NO_ANSWER, Outcome
 
 from .support import EXAMPLES, InFolder
 from .test_groups import HEADER, findings_of, line, reported, write
@@ -76,7 +76,7 @@ class Points(unittest.TestCase):
                 '# lost: the log',
                 *details,
                 f'#   state {group.example.number} of a.trace',
-                f'ok 2 - all other states ({report.counts.good_count})',
+                f'ok 2 - all other states ({report.counts.results[GOOD]})',
             ],
         )
 

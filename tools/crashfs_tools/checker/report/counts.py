@@ -9,7 +9,7 @@ from typing import Dict, Iterator, List, NamedTuple, Optional, Set
 
 from crashfs_tools.checker.findings.groups import Findings, Group, TriedState
 from crashfs_tools.checker.running.results import Head
-from crashfs_tools.checker.running.runner import BAD, GOOD, Outcome
+from crashfs_tools.checker.running.runner import BAD, Outcome
 from crashfs_tools.checker.states.plan import AllStates
 
 # There are more sets than so many if they can't be counted.
@@ -25,15 +25,6 @@ class AcceptedStates(NamedTuple):
 
 
 NO_ACCEPTED = AcceptedStates(0, Counter())
-
-
-def set_count_of_windows(all_states: List[Optional[AllStates]]) -> Optional[int]:
-    """How many sets the rules allow in a session, from what the plan of each window knows of all
-    its crash states. None if these are too many to count, if only families were asked for, and for
-    any other number of windows than one: counts of windows can't be added."""
-    if len(all_states) != 1 or all_states[0] is None:
-        return None
-    return all_states[0].sets
 
 
 @dataclass
@@ -90,16 +81,6 @@ class StateCounts:
         self.cause_kinds.update(outcome.cause_kind for outcome in outcomes if outcome.result == BAD)
 
     @property
-    def good_count(self) -> int:
-        """How many different states are good."""
-        return self.results[GOOD]
-
-    @property
-    def failing_count(self) -> int:
-        """How many different states are bad."""
-        return self.results[BAD]
-
-    @property
     def untried_count(self) -> int:
         """How many of the different states that were chosen for this shard, in the windows so far,
         have no outcome."""
@@ -124,8 +105,12 @@ class StateCounts:
 
     @property
     def set_count(self) -> Optional[int]:
-        """How many sets the rules allow; None as set_count_of_windows()."""
-        return set_count_of_windows(self.all_states)
+        """How many sets the rules allow. None if they are too many to be counted, if only families
+        were asked for, and for any other number of windows than one: counts of windows can't be
+        added."""
+        if len(self.all_states) != 1 or self.all_states[0] is None:
+            return None
+        return self.all_states[0].sets
 
     @property
     def tried_text(self) -> str:

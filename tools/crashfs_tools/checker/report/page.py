@@ -34,11 +34,9 @@ def page_pieces(report: CheckReport) -> Iterator[str]:
         '<meta name="viewport" content="width=device-width">\n'
         f'<title>{title}</title>\n<style>{STYLE}</style></head>\n<body>\n<h1>{title}</h1>\n'
     )
-    first_lines = [
-        *report_text.first_lines(),
-        *report_text.question_lines(),
-        *report_text.recovery_counts(),
-    ]
+    first_lines = [*report_text.first_lines(), *report_text.question_lines()]
+    if report.recoveries:
+        first_lines += report_text.recovery_counts()
     yield elements('p class="summary"', first_lines)
     yield about_line(report)
     groups = sorted(report.groups(), key=lambda group: group.accepted_entry is not None)

@@ -3,7 +3,7 @@
 from __future__ import annotations
 
 import time
-from dataclasses import replace
+from dataclasses import dataclass, field, replace
 from typing import TYPE_CHECKING, List, Optional, Tuple
 
 from crashfs_tools.checker.findings.advice import AllSyncs, FailingCounts
@@ -28,42 +28,34 @@ NONE_FAILS, SOME_FAIL, NOT_ALL_TRIED = 0, 1, 3
 StateRow = Tuple[State, Outcome, List[str]]
 
 
+@dataclass
 class CheckReport:
-    """The findings of a check, window by window. With has_json it keeps all that the JSON has, with
-    has_page the drawings of the page, and with has_states the outcome of each state. Otherwise it
-    keeps little of each window. accept_list has the failures of --accept, None without --accept."""
+    """The findings of a check, window by window; none at first. With has_json it keeps all that the
+    JSON has, with has_page the drawings of the page, and with has_states the outcome of each state.
+    Otherwise it keeps little of each window. accept_list has the failures of --accept, None without
+    --accept. begin is when the report was made, from which the time of the check is counted."""
 
-    def __init__(
-        self,
-        head: Head,
-        *,
-        has_json: bool = False,
-        has_page: bool = False,
-        has_states: bool = False,
-        accept_list: Optional[AcceptedFailures] = None,
-    ) -> None:
-        """A report without findings. The time that the check takes is counted from here on."""
-        self.head = head
-        self.accept_list = accept_list
-        self.has_states = has_states
-        # How many runs of COMMAND were those of earlier checks.
-        self.cache_hits = 0
-        self.state_outcomes: List[StateRow] = []
-        self.profiles: Tuple[str, ...] = ()
-        self.has_json = has_json
-        self.has_page = has_page
-        self.counts = StateCounts()
-        self.begin = time.monotonic()
-        self.groups_of_windows: List[List[Group]] = []
-        self.syncs_of_windows: List[Optional[AllSyncs]] = []
-        self.packed_windows: List[bytes] = []
-        self.drawings: List[Drawing] = []
-        self.recoveries: List[Recovery] = []
-        self.sightings: Optional[Sightings] = None
-        # Options that were given and not done, each with the reason.
-        self.not_done: List[str] = []
-        # Asked if COMMAND passes where all that was acknowledged is lost; else empty.
-        self.total_loss_question = ''
+    head: Head
+    has_json: bool = False
+    has_page: bool = False
+    has_states: bool = False
+    accept_list: Optional[AcceptedFailures] = None
+    begin: float = field(default_factory=time.monotonic)
+    counts: StateCounts = field(default_factory=StateCounts)
+    profiles: Tuple[str, ...] = ()
+    state_outcomes: List[StateRow] = field(default_factory=list)
+    groups_of_windows: List[List[Group]] = field(default_factory=list)
+    syncs_of_windows: List[Optional[AllSyncs]] = field(default_factory=list)
+    packed_windows: List[bytes] = field(default_factory=list)
+    drawings: List[Drawing] = field(default_factory=list)
+    recoveries: List[Recovery] = field(default_factory=list)
+    sightings: Optional[Sightings] = None
+    # How many runs of COMMAND were those of earlier checks.
+    cache_hits: int = 0
+    # Options that were given and not done, each with the reason.
+    not_done: List[str] = field(default_factory=list)
+    # Asked if COMMAND passes where all that was acknowledged is lost; else empty.
+    total_loss_question: str = ''
 
     def add(self, findings: Findings) -> None:
         """Adds the findings of a window; with has_page also the window's drawing, if it is the

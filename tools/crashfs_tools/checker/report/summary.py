@@ -28,7 +28,7 @@ class Summary:
         self.head = head
         self.counts = counts
         self.accepted = accepted
-        self.failing_count = counts.failing_count - accepted.total
+        self.failing_count = counts.results[BAD] - accepted.total
         self.is_whole = counts.has_tried_all(head)
 
     @property

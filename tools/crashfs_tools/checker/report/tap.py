@@ -56,7 +56,7 @@ def entry_point(
     cause = group.outcome.cause
     if group.accepted_entry is not None:
         return TestPoint(cause, reason=accepted_text(group.accepted_entry))
-    example = f'state {example_number(group, second_crash)} of {report_text.head.trace}'
+    example = f'state {example_number(group, second_crash)} of {report_text.report.head.trace}'
     return failed_point(cause, [*report_text.entry_details(group, second_crash), example])
 
 

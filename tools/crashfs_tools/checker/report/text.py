@@ -2,11 +2,13 @@
 
 from __future__ import annotations
 
+from dataclasses import dataclass
 from typing import TYPE_CHECKING, List, Optional
 
 from crashfs_tools.checker.findings.groups import Group
 from crashfs_tools.checker.findings.accepted_failures import AcceptedFailure
 from crashfs_tools.checker.findings.wording import fail_text, joined_by
+from crashfs_tools.checker.running.runner import BAD, GOOD
 from crashfs_tools.common.printable import COLUMNS, count_text, escape_unprintable, folded_lines
 from crashfs_tools.common.program import can_be_built
 from crashfs_tools.common.trace_lines import TraceLine
@@ -29,18 +31,16 @@ VERSION_UNPROVED = (
 )
 SETS_UNPROVED = 'unproved: the Python implementation found which states there are, not crashfs'
 HOW_TO_BUILD = ' (tools/build builds crashfs)'
-# File systems that keep to a profile, as far as was seen (docs/DISKS.md).
-SEEN = {'journal': 'ext4, XFS'}
+# How a profile is named if file systems were seen to keep to it (docs/DISKS.md).
+SHOWN_PROFILES = {'journal': 'journal (ext4, XFS)'}
 
 
+@dataclass(frozen=True)
 class ReportText:
-    """The lines of a report, and those of its parts for the page, for JUnit and for TAP."""
+    """The lines of a report, and those of its parts for the page, for JUnit and for TAP. Each is
+    computed when it is asked for: what is added to the report later is in later lines too."""
 
-    def __init__(self, report: CheckReport) -> None:
-        """Computes nothing yet: what is added to the report later is in the lines too."""
-        self.report = report
-        self.head = report.head
-        self.counts = report.counts
+    report: CheckReport
 
     def lines(self) -> List[str]:
         """The lines of the whole report, without their ends. Only those of first_lines() may be
@@ -67,7 +67,7 @@ class ReportText:
                 *self.recovery_lines(),
                 *self.disk_lines(),
                 *folded_lines(self.report.not_done, '  '),
-                *folded_lines(partial_check_lines(self.counts), '  '),
+                *folded_lines(partial_check_lines(self.report.counts), '  '),
                 *self.cache_lines(),
             ]
         ]
@@ -98,8 +98,8 @@ class ReportText:
     def missing_accepted_lines(self) -> List[str]:
         """The folded lines of the failures in the file of --accept that no entry is. They are
         `gone` if all crash states of the whole check were tried, else `not seen`."""
-        counts = self.counts
-        has_tried_all = counts.has_tried_all(self.head) and not counts.is_part
+        counts = self.report.counts
+        has_tried_all = counts.has_tried_all(self.report.head) and not counts.is_part
         is_gone = has_tried_all and counts.are_all_listed
         words = 'accepted, and gone' if is_gone else 'accepted, and not seen'
         missing = self.report.missing_accepted_failures()
@@ -107,7 +107,8 @@ class ReportText:
 
     def summary(self) -> str:
         """The line that says what was checked, and the verdict."""
-        return Summary(self.head, self.counts, count_accepted_states(self.report.groups())).line
+        accepted = count_accepted_states(self.report.groups())
+        return Summary(self.report.head, self.report.counts, accepted).line
 
     def all_syncs_lines(self, shown: List[Group]) -> List[str]:
         """A line for all advised syncs at once. No line unless several of the shown entries have
@@ -140,11 +141,11 @@ class ReportText:
     def first_lines(self) -> List[str]:
         """The summary line. If the second reading took the program's place or found the sets, a
         line before it says so. These lines may have any length."""
-        if self.head.refused_version:
-            return [VERSION_UNPROVED.format(self.head.refused_version), self.summary()]
-        if self.head.unproved:
+        if self.report.head.refused_version:
+            return [VERSION_UNPROVED.format(self.report.head.refused_version), self.summary()]
+        if self.report.head.unproved:
             return [UNPROVED + (HOW_TO_BUILD if can_be_built() else ''), self.summary()]
-        if self.counts.is_by_second_reading:
+        if self.report.counts.is_by_second_reading:
             return [SETS_UNPROVED, self.summary()]
         return [self.summary()]
 
@@ -152,7 +153,7 @@ class ReportText:
         """The question that is asked if COMMAND passes where all is lost. No line if some state
         fails: then it notices losses."""
         question = self.report.total_loss_question
-        return [question] if question and not self.counts.failing_count else []
+        return [question] if question and not self.report.counts.results[BAD] else []
 
     def cache_lines(self) -> List[str]:
         """A line that counts the outcomes from earlier checks; no line if there are none."""
@@ -163,10 +164,10 @@ class ReportText:
         """A line that names the first line of the trace whose loss wasn't tried to the session's
         end, since a window ended before the line was durable, and says how many more there are. No
         line if all losses were tried to the end."""
-        if not self.head.cut_off:
+        if not self.report.head.cut_off:
             return []
-        number, tried_count = self.head.cut_off[0]
-        more = len({line for line, _ in self.head.cut_off}) - 1
+        number, tried_count = self.report.head.cut_off[0]
+        more = len({line for line, _ in self.report.head.cut_off}) - 1
         also = f', and so with {count_text(more, "more line")}' if more else ''
         return [
             f'  the loss of {self.line_text(number)} was tried for {tried_count:,} later '
@@ -176,6 +177,8 @@ class ReportText:
     def recovery_lines(self) -> List[str]:
         """The lines on second crashes, during the recovery from the first one: the counts, all
         entries, and the recoveries that weren't tried. No line if no recovery was chosen."""
+        if not self.report.recoveries:
+            return []
         lines = [f'  {line}' for line in self.recovery_counts()]
         for group, second_crash in self.report.recovery_groups():
             lines += self.group_lines(group, second_crash)
@@ -184,16 +187,14 @@ class ReportText:
     def recovery_counts(self) -> List[str]:
         """A line that counts the states of second crashes, and those of them that fail or gave no
         answer; then a line if the second reading computed some states, but not those of the first
-        crash. No line if no recovery was chosen."""
-        if not self.report.recoveries:
-            return []
+        crash. At least one recovery must have been chosen."""
         tried = [recovery for recovery in self.report.recoveries if not recovery.fault]
         failing = sum(recovery.failing_count for recovery in tried)
         states = count_text(sum(recovery.tried_count for recovery in tried), 'different state')
         recoveries = count_text(len(tried), 'recovery', 'recoveries')
         lines = [f'{recoveries}: {states} of a second crash, {fail_text(failing)}']
         unproved = sum(recovery.unproved for recovery in tried)
-        if unproved and not self.head.unproved:
+        if unproved and not self.report.head.unproved:
             lines.append(
                 f'unproved: the Python implementation computed the states of {unproved} of these'
             )
@@ -212,7 +213,7 @@ class ReportText:
     def others_name(self) -> str:
         """The name of the test of all states that are in no entry, for JUnit and TAP: it counts the
         good states."""
-        return f'all other states ({self.counts.good_count:,})'
+        return f'all other states ({self.report.counts.results[GOOD]:,})'
 
     def others_fault_lines(self) -> List[str]:
         """Why the test of all states that are in no entry fails: a state or a recovery wasn't
@@ -272,7 +273,7 @@ class ReportText:
             )
         lines += self.other_loss_lines(group)
         if counts_by_profile(group):
-            lines.append(profiles_text(group, are_all=self.counts.are_all_listed))
+            lines.append(profiles_text(group, are_all=self.report.counts.are_all_listed))
         if self.report.sightings is not None:
             numbers = [state.number for state in group.states]
             lines.append(self.report.sightings.text_of_states(numbers))
@@ -294,7 +295,7 @@ class ReportText:
     def line_text(self, number: int) -> str:
         """A line of the trace in words, by its number; with empty brackets if the report doesn't
         have that line."""
-        line = self.head.lines.get(number, TraceLine(number, ''))
+        line = self.report.head.lines.get(number, TraceLine(number, ''))
         return f'line {number} ({line.text})'
 
 
@@ -339,23 +340,18 @@ def profiles_text(group: Group, *, are_all: bool) -> str:
     """The profiles that allow states of an entry, with how many if a profile allows only some, and
     those that allow none; counts_by_profile() must not be empty. are_all says whether all sets that
     leave the states were looked at; if not, the text says so."""
-    counts = counts_by_profile(group)
+    counts = {
+        SHOWN_PROFILES.get(name, name): count for name, count in counts_by_profile(group).items()
+    }
     has_parts = any(0 < count < group.count for count in counts.values())
     allowing = [
-        f'{profile_text(name)}: {count:,}' if has_parts else profile_text(name)
-        for name, count in counts.items()
-        if count
+        f'{name}: {count:,}' if has_parts else name for name, count in counts.items() if count
     ]
-    others = [profile_text(name) for name, count in counts.items() if not count]
+    others = [name for name, count in counts.items() if not count]
     if not others:
         return f'under {joined_by("and", allowing)}'
     by_which = '' if are_all else 'by the sets that were tried '
     return f'under {joined_by("and", allowing)}; {by_which}not under {joined_by("or", others)}'
-
-
-def profile_text(name: str) -> str:
-    """A profile's name, with the file systems that were seen to keep to it."""
-    return f'{name} ({SEEN[name]})' if name in SEEN else name
 
 
 def acceptance_lines(group: Group) -> List[str]:
