@@ -82,18 +82,12 @@ class AdviceResult:
         """A sentence on advice that helps: how many of the group's states are left, and how many
         other states fail. sync_count is how many syncs are advised."""
         syncs = 'that sync' if sync_count == 1 else f'those {sync_count:,} syncs'
-        line = f'tried: with {syncs} {self.states_left_text}'
-        if self.states_left:
-            line += f', so {"one sync is" if sync_count == 1 else "they are"} not enough'
-        return f'{line}, and {self.other_failures_text}'
-
-    @property
-    def states_left_text(self) -> str:
-        """How many of the group's states are left, as `this state is not left` or `0 of these 3
-        states are left`."""
+        left = f'{self.states_left:,} of these {self.group_states:,} states are left'
         if self.group_states == 1:
-            return f'this state is {"still" if self.states_left else "not"} left'
-        return f'{self.states_left:,} of these {self.group_states:,} states are left'
+            left = f'this state is {"still" if self.states_left else "not"} left'
+        if self.states_left:
+            left += f', so {"one sync is" if sync_count == 1 else "they are"} not enough'
+        return f'tried: with {syncs} {left}, and {self.other_failures_text}'
 
     @property
     def other_failures_text(self) -> str:

@@ -3,7 +3,7 @@
 from __future__ import annotations
 
 import os
-from typing import Dict, FrozenSet, Iterable, List, NamedTuple, Optional, Set, Tuple
+from typing import Dict, FrozenSet, List, NamedTuple, Optional, Set, Tuple
 
 from crashfs_tools.checker.running.results import Results
 from crashfs_tools.checker.running.runner import Outcome
@@ -78,7 +78,7 @@ class AdviceTrials:
                 continue
             group.is_covered = self.is_covered(group, copies)
             if not group.is_covered:
-                copies.append(self.make_copy(advised_points([group])))
+                copies.append(self.make_copy(frozenset(group.advice.syncs.items())))
                 if len(copies) <= MOST_TRIED:
                     group.advice.result = self.try_copy(copies[-1], group)
         self.findings.all_syncs = self.try_all_syncs()
@@ -113,7 +113,7 @@ class AdviceTrials:
         of one group that was tried: its result is used. Exceptions as in make_copy() and
         try_copy_states()."""
         advised = [group for group in self.findings.groups if group.advice.syncs]
-        points = advised_points(advised)
+        points = frozenset(point for group in advised for point in group.advice.syncs.items())
         if not points:
             return AllSyncs(points, FailingCounts(self.failing_before, self.failing_before))
         if len(advised) == 1 and advised[0].advice.result is not None:
@@ -124,28 +124,21 @@ class AdviceTrials:
         return AllSyncs(points, FailingCounts(self.failing_before, failing_after))
 
     def make_copy(self, points: SyncPoints) -> SyncedCopy:
-        """Writes a copy of the trace that has these syncs, as write_copy() does, and plans it: by
-        known_copy() or, if that returns None, by the program. Refused if the copy is refused; other
-        exceptions as in write_copy() and Planner.plan()."""
+        """Writes a copy of the trace that has these syncs, as write_copy() does, and plans it. If
+        all crash states of the trace are listed, the second reading plans the copy; the program
+        does if they aren't, if that plan has too many states, or if one of them isn't equal to a
+        tried state of the trace. Refused if the copy is refused; other exceptions as in
+        write_copy(), Planner.plan_different_states() and Planner.plan()."""
         copy_path = self.write_copy(points)
-        copy = self.known_copy(copy_path)
-        if copy is not None:
-            return copy
+        if self.listed_sets is not None:
+            # Syncs only take states away: if all of the trace were tried, those of the copy were.
+            planned = self.planner.plan_different_states(copy_path, self.findings.plan)
+            if planned is not None:
+                copy = SyncedCopy(planned, self.listed_keys(planned.plan))
+                if copy.state_keys <= self.listed_sets.outcomes.keys():
+                    return copy
         planned = self.planner.plan(copy_path, Offsets(says=self.trials.planned.offsets.says))
         return SyncedCopy(planned, self.listed_keys(planned.plan))
-
-    def known_copy(self, copy_path: str) -> Optional[SyncedCopy]:
-        """The plan of a written copy by the second reading only, and the keys of its states. None
-        if the copy has too many states, if one isn't equal to a tried state of the trace, or if not
-        all crash states of the trace are listed. If all were tried, the copy has no others: syncs
-        only take states away. Exceptions as in Planner.plan_different_states()."""
-        if self.listed_sets is None:
-            return None
-        planned = self.planner.plan_different_states(copy_path, self.findings.plan)
-        if planned is None:
-            return None
-        copy = SyncedCopy(planned, self.listed_keys(planned.plan))
-        return copy if copy.state_keys <= self.listed_sets.outcomes.keys() else None
 
     def listed_keys(self, plan: Plan) -> Set[object]:
         """The keys of the states of a copy's plan by state_key(); empty unless all crash states of
@@ -232,8 +225,3 @@ class AdviceTrials:
                 is_in_trace = self.state_key(kept_set) in trace_keys
                 is_earlier[trial] = is_earlier.get(trial, False) or is_in_trace
         return len(is_earlier), sum(is_earlier.values())
-
-
-def advised_points(groups: Iterable[Group]) -> SyncPoints:
-    """All syncs that some groups are advised, each once."""
-    return frozenset(point for group in groups for point in group.advice.syncs.items())

@@ -3,6 +3,7 @@ tried state leaves, for which COMMAND isn't run."""
 
 from __future__ import annotations
 
+from dataclasses import dataclass, field
 from typing import Dict, Optional, Tuple
 
 from crashfs_tools.checker.running.runner import GOOD, Outcome
@@ -12,51 +13,41 @@ from crashfs_tools.reading.trees import Digest, Trees
 
 from .groups import Findings
 
+# What a set leaves: a tree, as its digest, and how many lines are acknowledged.
+TreeAndSays = Tuple[Digest, int]
 
+
+@dataclass
 class EqualSets:
-    """The outcomes of a plan's sets by what they leave, for plans of which all crash states were
-    asked for. If these are listed and the check was not stopped, each allowed set leaves a tree
-    that was tried."""
+    """The outcomes of a plan's tried sets by what these leave, for plans of which all crash states
+    were asked for. If these are listed and the check was not stopped, `outcomes` has what each
+    allowed set leaves. left_by_sets has what each set leaves for which this was asked before."""
 
-    def __init__(self, trees: Trees) -> None:
-        """`trees` computes what the sets leave. No outcome is known yet."""
-        self.trees = trees
-        # What each set leaves, if it was asked before; and the outcomes of what was tried.
-        self.left_by_sets: Dict[int, Tuple[Digest, int]] = {}
-        self.outcomes: Dict[Tuple[Digest, int], Outcome] = {}
+    trees: Trees
+    outcomes: Dict[TreeAndSays, Outcome] = field(default_factory=dict)
+    left_by_sets: Dict[int, TreeAndSays] = field(default_factory=dict)
 
-    def add_outcomes(self, findings: Findings) -> None:
-        """Adds the outcomes that the findings have now, by what the tried states leave. This is
-        computed once for equal states."""
-        plan = findings.plan
-        first_numbers = {state.trial: state.number for state in reversed(plan.states)}
-        for number in first_numbers.values():
-            outcome = findings.outcomes_by_state.get(number)
-            if outcome is not None:
-                self.outcomes[self.tree_and_says(plan.kept[number])] = outcome
-
-    def outcome(self, kept_set: int) -> Optional[Outcome]:
-        """The outcome of a tried state that is equal to what an allowed set leaves; None if no
-        tried state is."""
-        return self.outcomes.get(self.tree_and_says(kept_set))
-
-    def tree_and_says(self, kept_set: int) -> Tuple[Digest, int]:
-        """What a set leaves: a tree, as its digest, and how many lines are acknowledged. This is
-        computed once for each set, and kept."""
+    def tree_and_says(self, kept_set: int) -> TreeAndSays:
+        """What an allowed set leaves, computed once for each set, and kept."""
         if kept_set not in self.left_by_sets:
             self.left_by_sets[kept_set] = self.trees.digest_and_says(kept_set)
         return self.left_by_sets[kept_set]
 
 
 def find_equal_sets(planned: PlannedTrace, findings: Findings) -> Optional[EqualSets]:
-    """The EqualSets of a plan's trace, with the outcomes of its findings, if all crash states were
-    asked for, else None. ReadingFault if the second reading refuses the trace, OSError if its file
-    is gone."""
-    if findings.plan.all_states is None:
+    """The EqualSets of a plan's trace, with the outcomes that its findings have now, if all crash
+    states were asked for, else None. ReadingFault if the second reading refuses the trace, OSError
+    if its file is gone."""
+    plan, outcomes = findings.plan, findings.outcomes_by_state
+    if plan.all_states is None:
         return None
     with open(planned.trace, 'rb') as file:
         equal_sets = EqualSets(Trees(parse_trace(file.read())))
-    equal_sets.add_outcomes(findings)
+    # All states of a trial leave the same, and have one outcome.
+    numbers_by_trial = {state.trial: state.number for state in reversed(plan.states)}
+    for number in numbers_by_trial.values():
+        if number in outcomes:
+            equal_sets.outcomes[equal_sets.tree_and_says(plan.kept[number])] = outcomes[number]
     return equal_sets
 
 
@@ -72,7 +63,7 @@ def outcome_of_set(
     that is equal to what the set leaves. None if neither is known."""
     if kept_set in outcomes or equal_sets is None:
         return outcomes.get(kept_set)
-    return equal_sets.outcome(kept_set)
+    return equal_sets.outcomes.get(equal_sets.tree_and_says(kept_set))
 
 
 def is_failing(kept_set: int, outcomes: Dict[int, Outcome]) -> bool:
