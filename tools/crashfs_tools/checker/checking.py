@@ -266,7 +266,7 @@ class Check:
         the outcomes to the report. After so many seconds no further run begins. After an exception
         none of the outcomes is in the report."""
         if window.findings.groups:
-            from crashfs_tools.checker.findings.reruns import rerun_examples
+            from crashfs_tools.checker.findings.details import rerun_examples
 
             rerun_examples(window.trials, window.findings, seconds)
             self.report.replace_last_window(window.findings)

@@ -21,8 +21,8 @@ from crashfs_tools.common.trace_fields import trace_version
 from crashfs_tools.common.trace_lines import parse_trace_text, without_numbers, without_says
 from crashfs_tools.common.trace_read import read_lines
 
+from .details import rerun_examples
 from .groups import Findings, Group
-from .reruns import rerun_examples
 from .second_crashes import Recovery
 
 RECORD = code_to_run('recorder.main')
