@@ -120,7 +120,7 @@ class Report:
 
     def __str__(self) -> str:
         """The report as crashfs-check prints it."""
-        return '\n'.join(self.lines)
+        return '\n'.join(self._text.lines())
 
     def write_json(self, path: PathLike) -> None:
         """Writes the file of --json, for other tools, --merge and --resume; `-` is standard output.

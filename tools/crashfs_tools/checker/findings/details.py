@@ -14,7 +14,7 @@ from crashfs_tools.checker.states.planning import Planner
 from .advice_trials import AdviceTrials
 from .groups import Findings
 from .set_outcomes import find_equal_sets
-from .tree_diff import compared_states, find_differences, numbers_of
+from .tree_diff import compared_states, find_differences
 
 # So many entries have their example run again, alone: the largest. What passes then is no failure
 # of the state, but of what several runs share.
@@ -41,9 +41,9 @@ def rerun_examples(trials: Trials, findings: Findings, seconds: float = float('i
     dropped from the cache."""
     deadline = time.monotonic() + seconds
     results, groups = findings.results, findings.groups[:ENTRIES]
-    # One run of the program gives the trees of all examples, and those that are compared later.
-    examples = [group.example.number for group in groups]
-    next_numbers = [*examples, *numbers_of(compared_states(findings))]
+    # One run of the program gives the trees of all examples, and those that they are compared with.
+    next_numbers = [group.example.number for group in groups]
+    next_numbers += [good_state.number for _, good_state in compared_states(findings)]
     for group in groups:
         number = results.tried_numbers[group.example.trial]
         if number not in results.reruns and time.monotonic() < deadline:

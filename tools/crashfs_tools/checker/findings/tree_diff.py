@@ -24,7 +24,8 @@ def find_differences(trials: Trials, findings: Findings) -> None:
     first SHOWN_LINES lines. ProgramFault or KeyError if the program lacks a state: then some of the
     groups, or all, have no difference."""
     compared = compared_states(findings)
-    trials.trees.keep(numbers_of(compared))
+    examples = [group.example.number for group, _ in compared]
+    trials.trees.keep([*examples, *(good_state.number for _, good_state in compared)])
     for group, good_state in compared:
         numbers = [group.example.number, good_state.number]
         lines = list(difference_lines(*trials.trees.of_states(numbers)))
@@ -37,12 +38,6 @@ def compared_states(findings: Findings) -> List[Tuple[Group, State]]:
     groups = findings.groups[:ENTRIES]
     pairs = ((group, nearest_good_state(findings, group)) for group in groups)
     return [(group, good_state) for group, good_state in pairs if good_state is not None]
-
-
-def numbers_of(compared: List[Tuple[Group, State]]) -> List[int]:
-    """The numbers of all states of compared_states(), the examples and the good ones."""
-    examples = [group.example for group, _ in compared]
-    return [state.number for state in (*examples, *(good_state for _, good_state in compared))]
 
 
 def nearest_good_state(findings: Findings, group: Group) -> Optional[State]:

@@ -42,8 +42,10 @@ class CheckReport:
     accept_list: Optional[AcceptedFailures] = None
     begin: float = field(default_factory=time.monotonic)
     counts: StateCounts = field(default_factory=StateCounts)
+    # The names of the trace's profiles; none before the first window.
     profiles: Tuple[str, ...] = ()
     state_outcomes: List[StateRow] = field(default_factory=list)
+    # Of each window: its groups, its advised syncs and, with has_json, its packed_results().
     groups_of_windows: List[List[Group]] = field(default_factory=list)
     syncs_of_windows: List[Optional[AllSyncs]] = field(default_factory=list)
     packed_windows: List[bytes] = field(default_factory=list)
