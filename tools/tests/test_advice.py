@@ -99,6 +99,13 @@ class Points(unittest.TestCase):
 
 
 class Said(unittest.TestCase):
+    def test_results_for_one_entry_of_two_windows_are_added_up(self):
+        result = AdviceResult(1, 5, 3, 2, FailingCounts(9, 4))
+        self.assertEqual(
+            result + AdviceResult(10, 60, 40, 30, FailingCounts(90, 50)),
+            AdviceResult(11, 65, 43, 32, FailingCounts(99, 54)),
+        )
+
     def test_advice_that_leaves_as_many_failures_is_none(self):
         advice = Advice(['line 2 was not durable:'], 'fsync /f between them', {2: '/f'})
         advice.result = AdviceResult(0, 2, 84, 84, FailingCounts(84, 84))

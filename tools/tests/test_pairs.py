@@ -239,6 +239,18 @@ class Text(unittest.TestCase):
         )
         self.assertEqual(report.status, 1)
 
+    def test_states_that_the_window_before_tried_are_not_counted_again(self):
+        results = Results(read_plan(LISTED), numbers_before={0: 40, 1: 41})
+        report = CheckReport(Head('a.trace', '', []), has_states=True)
+        report.add(Findings(report.head, results, {40: LOST, 41: LOST}))
+        # These are equal to the states 0 and 1.
+        rows = [state.number for state, _, _ in report.state_outcomes]
+        self.assertEqual(rows, [6, 7, 11, 12])
+        self.assertEqual((report.counts.all_failing_states, report.counts.tried_states), (4, 0))
+        groups = report.groups_of_windows[0]
+        self.assertEqual(sorted(state.number for group in groups for state in group.states), rows)
+        self.assertEqual({group.tried_states for group in groups}, {frozenset()})
+
     def test_no_answer_counts_more_than_a_failure(self):
         report = self.report({0: Outcome(NO_ANSWER, 'it had not ended'), 1: LOST})
         self.assertIn(
