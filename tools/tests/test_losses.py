@@ -6,8 +6,9 @@ from types import SimpleNamespace
 
 from crashfs_tools.checker.findings.losses import RUNS, LossSearches, loss_search
 from crashfs_tools.checker.findings.pairs import Loss, Pair
+from crashfs_tools.checker.findings.set_outcomes import find_equal_sets, outcome_of_set
 from crashfs_tools.checker.running.runner import BAD, GOOD, Outcome
-from crashfs_tools.checker.states.plan import State
+from crashfs_tools.checker.states.plan import AllStates, State
 from crashfs_tools.checker.states.read_plan import read_plan
 from crashfs_tools.reading import make_plan, parse_trace
 
@@ -90,6 +91,26 @@ class Searched(unittest.TestCase):
 
         loss, _ = searched(plan, whole & ~0b1100, fails)
         self.assertEqual(loss, Loss(Pair(4, 2), 0b1100))
+
+
+class Equal(InStore):
+    def test_a_set_has_the_outcome_of_a_tried_one_that_leaves_the_same(self):
+        text = THIRD + line('creat', '/a') + line('unlink', '/a') + line('creat', '/b')
+        planned = SimpleNamespace(trace=self.write('a.trace', text))
+        families = read_plan(plan_text(text, picks=False))
+        plan = families.with_states(families.listed, AllStates(None, True), families.profiles)
+        start = Outcome(BAD, 'lost')
+        equal_sets = find_equal_sets(
+            planned, SimpleNamespace(plan=plan, outcomes_by_state={0: start})
+        )
+        self.assertEqual(outcome_of_set(0b11, {}, equal_sets), start)
+        self.assertIsNone(outcome_of_set(0b11, {}, None))
+        # No state with this file was tried.
+        self.assertIsNone(outcome_of_set(0b111, {}, equal_sets))
+        self.assertEqual(outcome_of_set(0b11, {0b11: Outcome(GOOD)}, equal_sets), Outcome(GOOD))
+        self.assertIsNone(
+            find_equal_sets(planned, SimpleNamespace(plan=families, outcomes_by_state={}))
+        )
 
 
 LSM = (
