@@ -44,29 +44,30 @@ class SetClasses:
     """The classes of the sets that an order of a trace allows, found by walks through these sets.
     Later walks use what earlier ones have computed, which is kept in memory.
 
-    name_changes has an id for each NameChanges that was found. By a file's number, start_ids has
-    the id of the file's first content, start_entries the entries that hold it in the start tree,
-    resizes the set of the places that change its size, and links that of the places that give it
-    one more entry. A file without such entries or places isn't in the last three.
+    name_changes has an id for each NameChanges that was found. By a file's number,
+    initial_content_ids has the id of the content with which the file is made, start_entries the
+    entries that hold it in the start tree, resize_places the set of the places that change its
+    size, and link_places that of the places that give it one more entry. A file without such
+    entries or places isn't in the last three.
     """
 
     def __init__(self, reading: Reading, order: Order) -> None:
-        """Computes the first contents of all files. `order` must be one of this trace. What sets
+        """Computes the initial contents of all files. `order` must be one of this trace. What sets
         leave is only computed by walks."""
         self.reading = reading
         self.order = order
         self.contents = Contents(reading)
-        self.start_ids = {
+        self.initial_content_ids = {
             file_number: self.contents.initial_content_id(file_number)
             for file_number in reading.initial_rights
         }
         self.start_entries = entries_by_file(reading.start)
-        self.resizes = sets_by_key(
+        self.resize_places = sets_by_key(
             (operation.file_number, place)
             for place, operation in enumerate(reading.operations)
             if isinstance(operation, ChangeSize)
         )
-        self.links = sets_by_key(
+        self.link_places = sets_by_key(
             (operation.node.number, place)
             for place, operation in enumerate(reading.operations)
             if isinstance(operation, LinkEntry)
@@ -115,11 +116,11 @@ class SetClasses:
         `future` changes. Files that are as they were made are left out too."""
         shown_contents = []
         for file_number, content_id in result.file_contents:
-            may_get_name = future & self.links.get(file_number, 0)
+            may_get_name = future & self.link_places.get(file_number, 0)
             if may_get_name or self.entries_of(result.changes_id, file_number):
-                if not future & self.resizes.get(file_number, 0):
+                if not future & self.resize_places.get(file_number, 0):
                     content_id = self.contents.shown_content_id(content_id)
-                if content_id != self.start_ids[file_number]:
+                if content_id != self.initial_content_ids[file_number]:
                     shown_contents.append((file_number, content_id))
         return result._replace(file_contents=tuple(shown_contents))
 
@@ -131,8 +132,8 @@ class SetClasses:
         operation = self.reading.operations[place]
         if operation.file_number is not None:
             content_ids = dict(result.file_contents)
-            start_id = self.start_ids[operation.file_number]
-            content_id = content_ids.get(operation.file_number, start_id)
+            initial_id = self.initial_content_ids[operation.file_number]
+            content_id = content_ids.get(operation.file_number, initial_id)
             content_ids[operation.file_number] = self.contents.content_id_after(content_id, place)
             return result._replace(file_contents=tuple(sorted(content_ids.items())))
         if operation.entries or operation.directory_number is not None:
@@ -261,7 +262,7 @@ class SetClasses:
             return None
         if node.kind == DIRECTORY:
             return node.kind, changes.get(node.number, self.reading.start_rights.get(node.number))
-        content_id = content_ids.get(node.number, self.start_ids[node.number])
+        content_id = content_ids.get(node.number, self.initial_content_ids[node.number])
         return node.kind, self.contents.shown_content_id(content_id)
 
 
