@@ -11,14 +11,12 @@ import subprocess
 import tempfile
 from contextlib import contextmanager
 from functools import cached_property
-from itertools import groupby
 from typing import Any, Dict, Iterator, List, Optional, Tuple, Union
 
 from .archive import (
     ArchiveFault,
     Member,
-    first_name_of_path,
-    parse_state_number,
+    members_by_state,
     read_members,
     tree_of_members,
 )
@@ -210,21 +208,22 @@ class Crashfs:
         child = self.start(['tar', *sparse, *words], environment)
         assert child.stdout is not None and child.stderr is not None
         output = ProgramOutput(child.stdout.fileno(), child.stderr.fileno())
+        fault = ''
         try:
             yield read_members(io.BufferedReader(output, ARCHIVE_BYTES))
         except ArchiveFault as error:
-            fault: Optional[str] = f'what it wrote is no archive: {error}'
+            fault = f'; what it wrote is no archive: {error}'
         except BaseException:
             end_program(child)
             raise
-        else:
-            fault = None
-        error_text = read_rest_and_wait(child, output)
-        if child.returncode != 0 or fault is not None:
-            ending = f'crashfs tar {ending_text(child.returncode)}'
-            raise ProgramFault(
-                child.returncode, error_text or (f'{ending}; {fault}' if fault else ending).encode()
-            )
+        with child.stdout, child.stderr:
+            # The program ends only once all that it prints is read.
+            while output.read(PIECE_BYTES):
+                pass
+        child.wait()
+        if child.returncode != 0 or fault:
+            ending = f'crashfs tar {ending_text(child.returncode)}{fault}'
+            raise ProgramFault(child.returncode, output.error_text or ending.encode())
 
     def count_states(self, trace: str, *, with_holes: bool = True) -> int:
         """How many states a trace has: its prefixes, and, if with_holes, also the holes; equal
@@ -251,9 +250,8 @@ class Crashfs:
         program is started when the first is asked for, and killed if the iterator is closed early.
         Errors as open_archive(); ProgramFault too if the first name of a path isn't a number."""
         with self.open_archive(words, environment) as archive:
-            for name, members in groupby(archive, first_name_of_path):
-                number = parse_state_number(name)
-                yield number, {'/' + path[len(name) + 1 :]: entry for path, entry in members}
+            for number, members in members_by_state(archive):
+                yield number, tree_of_members(members)
 
     def tree_with_root(
         self, words: List[str], environment: Optional[Dict[str, str]] = None
@@ -313,8 +311,8 @@ class ProgramOutput(io.RawIOBase):
 
 def output_of_started(child: RunningProgram) -> str:
     """Reads what a started command prints on standard output, up to its end, closes both pipes, and
-    waits for the command; what it prints as an error is dropped. ProgramFault if its status isn't
-    0."""
+    waits for the command. ProgramFault, with what it printed as an error, if its status isn't 0;
+    else that is dropped."""
     assert child.stdout is not None and child.stderr is not None
     output = ProgramOutput(child.stdout.fileno(), child.stderr.fileno())
     with child.stdout, child.stderr:
@@ -332,18 +330,6 @@ def end_program(child: RunningProgram) -> None:
     with child.stdout, child.stderr:
         child.kill()
         child.wait()
-
-
-def read_rest_and_wait(child: RunningProgram, output: ProgramOutput) -> bytes:
-    """Reads the rest of what a program prints, so that it can end, closes both pipes, and waits for
-    the program: child.returncode is set then. `output` must be of this child. Returns error_text,
-    the end of what it printed as an error."""
-    assert child.stdout is not None and child.stderr is not None
-    with child.stdout, child.stderr:
-        while output.read(PIECE_BYTES):
-            pass
-    child.wait()
-    return output.error_text
 
 
 def is_plan_too_large(fault: Exception) -> bool:

@@ -6,7 +6,7 @@ import os
 from abc import ABC, abstractmethod
 from contextlib import contextmanager
 from dataclasses import dataclass
-from itertools import chain, groupby
+from itertools import chain
 from typing import (
     Callable,
     ContextManager,
@@ -20,7 +20,7 @@ from typing import (
     Union,
 )
 
-from crashfs_tools.common.archive import Member, first_name_of_path, parse_state_number
+from crashfs_tools.common.archive import Member, members_by_state
 from crashfs_tools.common.entry import Entry
 from crashfs_tools.common.file_bytes import write_at
 from crashfs_tools.common.removal import FOLDER, remove_tree, set_folder_mode
@@ -132,12 +132,11 @@ def read_trees_of_request(
     doesn't notice missing ones. Other states, and a state that comes again, are skipped."""
     unread_numbers = set(wanted)
     with program.open_archive(request.options, environment) as members:
-        for top, tree in groupby(members, first_name_of_path):
-            number = parse_state_number(top) + request.number_offset
+        for printed_number, tree in members_by_state(members):
+            number = printed_number + request.number_offset
             if number in unread_numbers:
                 unread_numbers.remove(number)
-                members_below = ((path[len(top) + 1 :], entry) for path, entry in tree)
-                yield number, use_tree(number, members_below)
+                yield number, use_tree(number, tree)
 
 
 def with_all_wanted(
