@@ -8,7 +8,7 @@ from __future__ import annotations
 
 import subprocess
 from contextlib import ExitStack, closing
-from typing import Callable, List, Tuple
+from typing import Callable, List, NamedTuple, Optional, Tuple
 
 from .client import Client, ServerRefused, write_request
 from .programs import Programs, Tally
@@ -95,48 +95,59 @@ def measure_growth(
     return growth, count
 
 
-def add_connection_rows(programs: Programs, tally: Tally) -> None:
-    """Measures and prints the rows of idle connections: the memory of all together, and that of
-    each, which has a bound. ServerRefused or OSError if the server fails; no row is printed
-    then."""
-    growth, count = measure_new_server(
-        programs,
+class MemoryCase(NamedTuple):
+    """A way to fill a server, and the labels and the bound of its two rows: of the memory of all
+    things that fill it, and of that of each thing."""
+
+    # As measure_new_server() takes it: it returns how many things it made.
+    fill: Callable[[str, ExitStack], int]
+    connection_count: int
+    # The count is put in the place of `{count}`.
+    label_of_all: str
+    label_of_each: str
+    # How many bytes of each thing aren't counted, and how many others it may have at most.
+    uncounted_bytes: int = 0
+    most_bytes: Optional[float] = None
+
+
+CASES = (
+    MemoryCase(
         lambda address, opened: fill_with_connections(address, CONNECTIONS, opened),
         CONNECTIONS,
-    )
-    tally.add_figure(f'{count} idle connections', growth / 1e6, 'MB')
-    tally.add_figure('each', growth / count, 'bytes', IDLE_BYTES)
-
-
-def add_run_rows(programs: Programs, tally: Tally) -> None:
-    """Measures and prints the rows of as many runs as a server allows: the memory of all together,
-    and that of each. They have no bound. ServerRefused or OSError as add_connection_rows()."""
-    growth, count = measure_new_server(
-        programs,
+        '{count} idle connections',
+        'each',
+        most_bytes=IDLE_BYTES,
+    ),
+    MemoryCase(
         lambda address, opened: fill_with_runs(address, RUNS, CONNECTIONS, opened),
         CONNECTIONS,
-    )
-    label = f'{count} runs with a user each, by {CONNECTIONS} connections'
-    tally.add_figure(label, growth / 1e6, 'MB')
-    tally.add_figure('each, with its part of the connections', growth / count, 'bytes')
+        f'{{count}} runs with a user each, by {CONNECTIONS} connections',
+        'each, with its part of the connections',
+    ),
+    MemoryCase(
+        lambda address, opened: fill_with_writes(address, WRITES, opened),
+        1,
+        'a full journal, with {count} writes of 4 kB',
+        'each write, beside its bytes',
+        uncounted_bytes=BLOCK,
+    ),
+)
 
 
-def add_journal_rows(programs: Programs, tally: Tally) -> None:
-    """Measures and prints the rows of a full journal: its memory, and that of each write without
-    the bytes that it writes. They have no bound. ServerRefused or OSError as
-    add_connection_rows()."""
-    growth, count = measure_new_server(
-        programs, lambda address, opened: fill_with_writes(address, WRITES, opened), 1
-    )
-    tally.add_figure(f'a full journal, with {count} writes of 4 kB', growth / 1e6, 'MB')
-    tally.add_figure('each write, beside its bytes', growth / count - BLOCK, 'bytes')
+def add_case_rows(programs: Programs, tally: Tally, case: MemoryCase) -> None:
+    """Measures a case on a new server, and prints its two rows. ServerRefused or OSError if the
+    server fails; no row is printed then."""
+    growth, count = measure_new_server(programs, case.fill, case.connection_count)
+    tally.add_figure(case.label_of_all.format(count=count), growth / 1e6, 'MB')
+    bytes_of_each = growth / count - case.uncounted_bytes
+    tally.add_figure(case.label_of_each, bytes_of_each, 'bytes', case.most_bytes)
 
 
 def add_memory_rows(programs: Programs, tally: Tally) -> None:
-    """Measures and prints all rows of memory, each kind on a new server. If a server fails, that is
-    a failure of the tally, and the next rows are measured. The program `crashfs` must be built."""
-    for add_rows in (add_connection_rows, add_run_rows, add_journal_rows):
+    """Measures and prints the rows of all CASES, each on a new server. If a server fails, that is a
+    failure of the tally, and the next case is measured. The program `crashfs` must be built."""
+    for case in CASES:
         try:
-            add_rows(programs, tally)
+            add_case_rows(programs, tally, case)
         except (OSError, ServerRefused) as error:
             tally.add_failure(str(error))

@@ -254,6 +254,22 @@ class Memory(InFolder):
             with self.assertRaisesRegex(ServerRefused, 'no write was granted'):
                 fill_with_writes(address, 8, opened)
 
+    def test_each_case_has_a_row_of_all_and_a_row_of_each(self) -> None:
+        with mock.patch('measuring.memory.measure_new_server', return_value=(8_192_000, 1_000)):
+            with contextlib.redirect_stdout(io.StringIO()) as out:
+                add_memory_rows(Programs(Path(self.folder)), Tally(benchmark='memory'))
+        self.assertEqual(
+            out.getvalue().splitlines(),
+            [
+                '1000 idle connections: 8.192 MB',
+                'each: 8192.000 bytes, within (at most 200000)',
+                '1000 runs with a user each, by 64 connections: 8.192 MB',
+                'each, with its part of the connections: 8192.000 bytes',
+                'a full journal, with 1000 writes of 4 kB: 8.192 MB',
+                'each write, beside its bytes: 4096.000 bytes',
+            ],
+        )
+
     def test_connections_are_closed_after_a_fault(self) -> None:
         clients: List[Client] = []
 
