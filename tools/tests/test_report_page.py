@@ -2,20 +2,28 @@
 
 import json
 import re
+import time
 import unittest
 from dataclasses import replace
+from types import SimpleNamespace
 from xml.dom import minidom
 
 from crashfs_tools.checker.findings.groups import Difference
 from crashfs_tools.checker.findings.second_crashes import Recovery
 from crashfs_tools.checker.findings.sightings import OUTSIDE, DiskFailure, Explanation, Sightings
-from crashfs_tools.checker.findings.tree_diff import difference_lines, nearest_good_state
+from crashfs_tools.checker.findings.tree_diff import (
+    difference_lines,
+    find_differences,
+    nearest_good_state,
+)
 from crashfs_tools.checker.report.drawing import drawing_of
 from crashfs_tools.checker.report.junit import junit_lines
 from crashfs_tools.checker.report.page import page_pieces
 from crashfs_tools.checker.report.json_report import json_pieces
+from crashfs_tools.checker.report.report import CheckReport
 from crashfs_tools.checker.report.tap import tap_lines
 from crashfs_tools.checker.report.text import ReportText
+from crashfs_tools.checker.running.results import Head
 from crashfs_tools.checker.running.runner import BAD, GOOD, NO_ANSWER, Outcome
 from crashfs_tools.common.entry import Entry
 from crashfs_tools.common.trace_lines import TraceLine
@@ -196,6 +204,25 @@ class Differences(unittest.TestCase):
             if one.result == GOOD
         ]
         self.assertEqual(bin(kept[good.number] ^ kept[group.example.number]).count('1'), min(far))
+
+    def test_all_trees_that_are_compared_are_asked_for_at_once(self):
+        findings, asked = odd_findings(), []
+        trees = SimpleNamespace(
+            keep=lambda numbers: asked.append(sorted(numbers)),
+            of_states=lambda numbers: [{}, {}],
+        )
+        find_differences(SimpleNamespace(trees=trees), findings)
+        compared = [
+            number
+            for group in findings.groups
+            for number in (group.example.number, group.difference.good_state)
+        ]
+        self.assertEqual(asked, [sorted(compared)])
+
+    def test_the_time_of_a_report_is_counted_from_when_it_was_made(self):
+        before = time.monotonic()
+        report = CheckReport(Head('a.trace', '', []))
+        self.assertTrue(before <= report.begin <= time.monotonic())
 
     def test_equal_files_are_said_to_be_so(self):
         findings = odd_findings()
