@@ -242,7 +242,7 @@ class SetFileRights(SetRights):
 
     file_number: int
 
-    def __init__(self, rights: Rights, file_number: int) -> None:
+    def __init__(self, file_number: int, rights: Rights) -> None:
         super().__init__(rights)
         self.file_number = file_number
 
@@ -260,7 +260,7 @@ class SetDirectoryRights(SetRights):
 
     directory_number: int
 
-    def __init__(self, rights: Rights, directory_number: int, path: str) -> None:
+    def __init__(self, directory_number: int, path: str, rights: Rights) -> None:
         super().__init__(rights)
         self.directory_number = directory_number
         self.path = path

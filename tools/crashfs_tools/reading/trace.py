@@ -83,7 +83,7 @@ class Reading:
 
     def add_change(self, operation: MicroOperation) -> None:
         """Adds a change of a file, with the oldest of the file's paths. The change must have the
-        file's number. IndexError if the file has no path any more."""
+        number of a file that has a path."""
         assert operation.file_number is not None
         oldest_entry = self.names.file_entries[operation.file_number][0]
         operation.path = self.names.path_of_entry(oldest_entry)
@@ -262,9 +262,9 @@ class Reading:
         self.rights[node] = rights
         if node.kind == DIRECTORY:
             path = line.fields['path']
-            self.operations.append(SetDirectoryRights(rights, node.number, path))
+            self.operations.append(SetDirectoryRights(node.number, path, rights))
         else:
-            self.add_change(SetFileRights(rights, node.number))
+            self.add_change(SetFileRights(node.number, rights))
 
     def op_say(self, line: Line) -> None:
         self.operations.append(Acknowledgement())
