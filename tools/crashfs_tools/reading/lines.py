@@ -174,8 +174,8 @@ class LineReader:
 
     def expected_keys(self, line: Line, keys: Tuple[str, ...]) -> Set[str]:
         """The keys that a line must have: the one that says what it is, `keys`, and since version 3
-        its `note`, if it has one. If it lacks one of `keys`, `bytes`, this is replaced by
-        keys_of_bytes()."""
+        its `note`, if it has one. If `keys` have `bytes` but the line doesn't, keys_of_bytes() are
+        in its place."""
         expected_keys = {line.key, *keys}
         if self.version >= 3:
             expected_keys |= line.fields.keys() & {'note'}
