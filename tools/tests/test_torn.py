@@ -4,10 +4,11 @@ import unittest
 
 from crashfs_tools.checker.findings.advice import torn_advice
 from crashfs_tools.checker.findings.torn import kept_part_text
+from crashfs_tools.checker.report.text import ReportText
 from crashfs_tools.checker.states.read_plan import read_plan
 from crashfs_tools.common.trace_lines import TraceLine
 
-from .test_groups import THIRD, line, plan_text, rename, write
+from .test_groups import THIRD, line, plan_text, rename, report_of, write
 
 
 class KeptPart(unittest.TestCase):
@@ -89,6 +90,49 @@ class KeptPart(unittest.TestCase):
             remedy,
             'no sync helps: a record that recovery may drop needs a checksum that zeros fail; '
             'for all else, write a new file, sync it, rename it, sync the directory',
+        )
+
+
+class OneOfTwoLines(unittest.TestCase):
+    def details(self, text, cause, count):
+        """The first entry of a report, of which so many states have the one line and not the other,
+        and what it says of these."""
+        report = report_of(THIRD + line('creat', '/f') + line('fsync', '/') + text, cause)
+        group = report.groups()[0]
+        group.explained_states = frozenset(sorted(group.tried_states)[:count])
+        self.assertGreater(group.count, count)
+        return group, [one for one in ReportText(report).details(group) if 'of these states' in one]
+
+    def test_no_state_of_a_torn_line_lacks_one_of_two_lines(self):
+        group, lines = self.details(
+            write('/f', 'x' * 9000),
+            lambda files, says: 'torn: f' if b'\0' in files.get('/f', b'') else '',
+            count=1,
+        )
+        self.assertTrue(group.is_torn)
+        self.assertEqual(lines, [])
+
+    def test_states_that_lack_the_first_line_and_have_the_second_are_counted(self):
+        text = write('/f', 'x') + line('creat', '/g') + line('creat', '/h')
+
+        def cause(files, says):
+            return 'lost: f' if '/g' in files and files.get('/f') != b'x' else ''
+
+        for count, lack, have in [(0, '', ''), (1, 'lacks', 'has'), (2, 'lack', 'have')]:
+            _, lines = self.details(text, cause, count)
+            wanted = (
+                f'{count} of these states {lack} the first of the two lines and {have} the second'
+            )
+            self.assertEqual(lines, [wanted] if count else [])
+
+    def test_states_that_fail_without_a_loss_have_the_first_line(self):
+        text = line('creat', '/a') + line('creat', '/c') + line('fsync', '/') + line('creat', '/b')
+        group, lines = self.details(
+            text, lambda files, says: 'half' if '/a' in files and '/b' not in files else '', count=1
+        )
+        self.assertFalse(group.is_due_to_loss)
+        self.assertEqual(
+            lines, ['1 of these states has the first of the two lines and lacks the second']
         )
 
 

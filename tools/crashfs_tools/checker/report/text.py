@@ -266,12 +266,7 @@ class ReportText:
         lines = [f'line {line.number}: {line.note}' for line in lines_of_pair(group) if line.note]
         lines += [*acceptance_lines(group), *group.advice.lines()]
         lines += [*other_sync_lines(group), *self.needed_loss_lines(group)]
-        if 0 < len(group.explained_states) < group.count:
-            lines.append(
-                f'{len(group.explained_states):,} of these states lack the first of the two lines '
-                'and have the second'
-            )
-        lines += self.other_loss_lines(group)
+        lines += [*explained_lines(group), *self.other_loss_lines(group)]
         if counts_by_profile(group):
             lines.append(profiles_text(group, are_all=self.report.counts.are_all_listed))
         if self.report.sightings is not None:
@@ -304,6 +299,18 @@ def lines_of_pair(group: Group) -> List[TraceLine]:
     doesn't have. A torn line, which is both, is there once."""
     lines = {line.number: line for line in (group.lost_line, group.kept_line) if line is not None}
     return [lines[number] for number in sorted(lines)]
+
+
+def explained_lines(group: Group) -> List[str]:
+    """A line that counts the states that lack the lost one of an entry's two lines and have the
+    other. No line if these are none or all, or if the entry has one line, which was torn."""
+    count = len(group.explained_states)
+    if group.is_torn or not 0 < count < group.count:
+        return []
+    lack, have = ('lacks', 'has') if count == 1 else ('lack', 'have')
+    if not group.is_due_to_loss:
+        lack, have = have, lack
+    return [f'{count:,} of these states {lack} the first of the two lines and {have} the second']
 
 
 def other_sync_lines(group: Group) -> List[str]:
