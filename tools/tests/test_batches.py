@@ -4,6 +4,7 @@ from __future__ import annotations
 
 import unittest
 from collections import Counter
+from contextlib import nullcontext
 from types import SimpleNamespace
 from typing import Any, List, Set
 
@@ -129,6 +130,28 @@ class Order(Listing):
         self.assertFalse(trials.try_all(results))
         self.assertEqual((len(results.outcomes), trials.order), (1, []))
 
+    def test_by_fail_fast_a_failure_ends_it_also_if_the_pace_is_too_slow_then(self) -> None:
+        planned = self.planned(MANY)
+        for seconds in (1e9, 0.0):
+            trials = FailingLast(planned, seconds)
+            trials.options.fail_fast = True
+            results = Results(planned.plan)
+            self.assertFalse(trials.try_all(results))
+            self.assertEqual(len(results.outcomes), MEASURED_STATES)
+            self.assertIsNone(results.chosen_numbers)
+
+
+class FailingLast(TriedNowhere):
+    """The state after which the pace is known fails."""
+
+    def run_workers(self, layout: Any, wanted: Set[int], on_outcome: Any) -> None:
+        progress = self.workplace.progress
+        for number in sorted(wanted):
+            is_last = progress.pace.tried_count == MEASURED_STATES - 1
+            on_outcome(number, Outcome(BAD, 'lost') if is_last else GOOD_OUTCOME)
+            if is_last:
+                return
+
 
 class Paces(unittest.TestCase):
     def test_a_pace_is_too_slow_once(self) -> None:
@@ -144,6 +167,16 @@ class Paces(unittest.TestCase):
                     found.append(number)
             self.assertEqual(found, [MEASURED_STATES - 1] if is_slow else [])
         self.assertAlmostEqual(pace.seconds, 0.61)
+
+    def test_no_pace_is_too_slow_if_no_state_is_left(self) -> None:
+        for left_count in (1, 0):
+            progress = Progress(None)
+            progress.begin_part(MEASURED_STATES + left_count, most_seconds=0.0)
+            for _ in range(MEASURED_STATES - 1):
+                progress.add_outcome(GOOD_OUTCOME)
+            with self.assertRaises(TooSlow) if left_count else nullcontext():
+                progress.add_outcome(Outcome(BAD, 'lost'))
+            self.assertEqual(progress.failed_count, 1)
 
     def test_shares_are_rounded_up(self) -> None:
         for share, text in [

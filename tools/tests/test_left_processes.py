@@ -17,10 +17,17 @@ from crashfs_tools.checker import main
 from crashfs_tools.checker.checked_trace import CheckedTrace
 from crashfs_tools.checker.options import Options
 from crashfs_tools.checker.running import runner
-from crashfs_tools.checker.running.progress import Progress
-from crashfs_tools.checker.running.runner import GOOD, NO_ANSWER, LeftRunning
+from crashfs_tools.checker.running.progress import Progress, TooSlow
+from crashfs_tools.checker.running.runner import (
+    BAD,
+    GOOD,
+    GOOD_OUTCOME,
+    NO_ANSWER,
+    LeftRunning,
+    Outcome,
+)
 from crashfs_tools.checker.running.trials import Trials
-from crashfs_tools.checker.running.workers import PIECE_BYTES, StateWorkers
+from crashfs_tools.checker.running.workers import PIECE_BYTES, StateWorkers, Worker
 from crashfs_tools.checker.states.layout import Layout
 from crashfs_tools.common import descendants
 from crashfs_tools.common.guard import Guard
@@ -194,6 +201,29 @@ class Reapers(InRuns):
             outcomes = self.outcomes_of(flood, range(2))
         # Of the output so many bytes are kept; with them the line is longer than a piece.
         self.assertEqual([len(one.output) for one in outcomes.values()], [PIECE_BYTES] * 2)
+
+    def test_a_pace_that_is_only_known_at_the_end_is_no_fault(self):
+        on_outcome = mock.Mock(side_effect=TooSlow)
+        workers = StateWorkers(self.checker('true'), OneState(self.path('state')), 1, on_outcome)
+        reader, writer = os.pipe()
+        os.write(writer, b'7\n')
+        os.close(writer)
+        workers.read_last_lines(Worker(0, reader))
+        on_outcome.assert_called_once_with(7, GOOD_OUTCOME)
+        for descriptor in (reader, workers.life_pipe, workers.life_writer):
+            os.close(descriptor)
+
+    def test_with_fail_fast_one_failure_is_kept_also_if_it_is_too_slow(self):
+        on_outcome = mock.Mock(side_effect=TooSlow)
+        layout = OneState(self.path('state'))
+        workers = StateWorkers(self.checker('true'), layout, 1, on_outcome, fail_fast=True)
+        lines = [b'{"state":%d,"outcome":["bad","lost",""]}' % number for number in (3, 4)]
+        with self.assertRaises(TooSlow):
+            workers.handle_line(lines[0])
+        workers.handle_line(lines[1])
+        on_outcome.assert_called_once_with(3, Outcome(BAD, 'lost'))
+        for descriptor in (workers.life_pipe, workers.life_writer):
+            os.close(descriptor)
 
     def test_an_error_of_a_path_in_bytes_is_reported(self):
         layout = OneState(self.path('state'))

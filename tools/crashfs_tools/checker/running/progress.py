@@ -38,10 +38,10 @@ class Pace:
         self.begin_time = clock()
 
     def count_state(self) -> None:
-        """Counts one more state as tried. TooSlow once, when MEASURED_STATES are counted, if all
-        states would take longer than most_seconds at this pace."""
+        """Counts one more state as tried. TooSlow once, when MEASURED_STATES are counted and others
+        are left, if all would take longer than most_seconds at this pace."""
         self.tried_count += 1
-        is_measured = self.tried_count == MEASURED_STATES
+        is_measured = self.tried_count == MEASURED_STATES < self.state_count
         if is_measured and self.seconds * self.state_count > self.most_seconds:
             raise TooSlow
 
@@ -81,9 +81,9 @@ class Progress:
 
     def add_outcome(self, outcome: Outcome) -> None:
         """Counts one more state of the part. Then shows the part's progress if a line is_due().
-        TooSlow as Pace.count_state(): then nothing is shown."""
-        self.pace.count_state()
+        TooSlow as Pace.count_state(): the state is counted then, but nothing is shown."""
         self.failed_count += outcome.result == BAD
+        self.pace.count_state()
         if self.is_due():
             self.show_text(self.progress_text())
 

@@ -176,10 +176,16 @@ class Trials:
                     # One for all batches: the program may be started for it.
                     layout = layout or self.new_layout(is_for_many=True)
                     self.run_workers(layout, uncached, report_outcome)
-                if self.options.fail_fast and progress.failed_count:
+                if self.is_ended_by_failure:
                     break
         finally:
             progress.end_part()
+
+    @property
+    def is_ended_by_failure(self) -> bool:
+        """Whether --fail-fast is given, and a state has failed of those that the last call of
+        try_states() was for."""
+        return self.options.fail_fast and self.workplace.progress.failed_count > 0
 
     @cached_property
     def state_keys(self) -> StateKeys:
@@ -267,20 +273,22 @@ class Trials:
             results.choose(states_in_batches(results, has_all=False))
         # Families alone are tried however long they take.
         is_bounded = plan.all_states is not None and results.chosen_numbers is None
-        if is_bounded:
-            try:
-                return self.try_left(results, after_each, self.options.most_seconds)
-            except TooSlow:
+        most_seconds = self.options.most_seconds if is_bounded else float('inf')
+        try:
+            self.try_left(results, after_each, most_seconds)
+        except TooSlow:
+            # The outcome by which it is known may be the first failure.
+            if not self.is_ended_by_failure:
                 results.choose(states_in_batches(results, has_all=False))
-        return self.try_left(results, after_each, float('inf'))
+                self.try_left(results, after_each, float('inf'))
+        return self.wanted_numbers(results) <= set(results.outcomes)
 
     def try_left(
         self, results: Results, after_each: Callable[[], None], most_seconds: float
-    ) -> bool:
+    ) -> None:
         """Tries the states of the shard that have no outcome yet, adds each outcome to the results,
         and then calls after_each. Sets seconds_per_state of the results by the pace, also after an
-        exception. Returns whether each of the states has an outcome then. Exceptions as in
-        try_states() and wanted_numbers()."""
+        exception. Exceptions as in try_states() and wanted_numbers()."""
         left_numbers = self.wanted_numbers(results) - set(results.outcomes)
 
         def keep_outcome(number: int, outcome: Outcome) -> None:
@@ -294,7 +302,6 @@ class Trials:
         finally:
             pace = self.workplace.progress.pace
             results.seconds_per_state = pace.seconds or results.seconds_per_state
-        return left_numbers <= set(results.outcomes)
 
     def divide_in_batches(self, results: Results, numbers: Set[int]) -> List[Set[int]]:
         """Divides the numbers of states into batches, those first that find most: an early end then

@@ -19,6 +19,7 @@ from crashfs_tools.common.streams import poll_for_input
 from crashfs_tools.common.program import ProgramFault
 from crashfs_tools.common.signals import STOPS, stop_signals_blocked
 
+from .progress import TooSlow
 from .runner import BAD, GOOD, GOOD_OUTCOME, POLL_SECONDS, CheckEnded, Checker, Outcome, reap_child
 
 # How long processes have to undo what they laid out before they are killed.
@@ -220,8 +221,8 @@ class StateWorkers:
         is_last = self.fail_fast and outcome.result == BAD
         # Other processes may find a failing state before they are ended.
         if not (is_last and self.has_failed):
+            self.has_failed = self.has_failed or is_last
             self.on_outcome(fields['state'], outcome)
-        self.has_failed = self.has_failed or is_last
 
     def reap_worker(self, worker: Worker) -> None:
         """Waits for a process whose pipe is at its end, drops it from `workers`, and closes the
@@ -260,12 +261,13 @@ class StateWorkers:
 
     def read_last_lines(self, worker: Worker) -> None:
         """Handles the lines that a process has sent by now, without waiting. Stops at the first
-        fault among them, which isn't raised: a fault is known already, or the end is its cause."""
+        fault among them, which isn't raised: a fault is known already, or the end is its cause; nor
+        is a TooSlow of on_outcome, since no further states are tried."""
         os.set_blocking(worker.pipe, False)
         try:
             while self.read_outcomes(worker):
                 pass
-        except (OSError, Refused, ProgramFault, RuntimeError):
+        except (OSError, Refused, ProgramFault, RuntimeError, TooSlow):
             return
 
 
