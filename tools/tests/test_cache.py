@@ -83,9 +83,9 @@ class Files(InFolder):
         self.assertEqual(later.look_up('a'), Outcome(GOOD, 'cause', 'output'))
         self.assertEqual(later.look_up('b'), Outcome(BAD, 'cause', 'output'))
         self.assertEqual([later.look_up(key) for key in 'cd'], [None, None])
-        other_values: Any = {'e': 7, 'f': [GOOD], 'g': ['', '', '']}
+        other_values: Any = {'e': 7, 'f': [GOOD], 'g': [''] * 3, 'h': [BAD, 7, ''], 'i': [[]] * 3}
         later.earlier_outcomes = other_values
-        self.assertEqual([later.look_up(key) for key in 'efg'], [None, None, None])
+        self.assertEqual([later.look_up(key) for key in 'efghi'], [None] * 5)
 
     def test_checks_at_the_same_time_keep_each_other_s_outcomes(self) -> None:
         good = Outcome(GOOD, '', '')

@@ -50,7 +50,9 @@ class OutcomeCache:
         The outcome is kept for later checks. The first use of an outcome of an earlier check counts
         as a hit."""
         fields = self.used_outcomes.get(key) or self.earlier_outcomes.get(key)
-        if not isinstance(fields, list) or len(fields) != 3 or fields[0] not in (GOOD, BAD):
+        if not isinstance(fields, list) or list(map(type, fields)) != [str, str, str]:
+            return None
+        if fields[0] not in (GOOD, BAD):
             return None
         self.hits += key not in self.used_outcomes
         self.used_outcomes[key] = fields
