@@ -126,6 +126,11 @@ class Listed(unittest.TestCase):
         ]:
             with self.subTest(line[:80]), self.assertRaises(PlanError):
                 read_plan(line)
+        listed = '{"op":0,"kind":"say","line":%d,"needs":[0]}'
+        offsets = Offsets(lines=(0, 7))
+        self.assertEqual(read_listed(listed % 2, offsets).operations[0].line, 7)
+        with self.assertRaises(PlanError):
+            read_listed(listed % 3, offsets)
 
 
 class Blame(unittest.TestCase):

@@ -12,8 +12,9 @@ from .plan import PlannedMicroOperation, Needs, Offsets, Plan, PlanError, SetPro
 # The fields of a micro-operation that its text has after its kind and path, in this order.
 DETAILS = ('to', 'block', 'at', 'count', 'length', 'node', 'target', 'mode', 'owner', 'group')
 
-# What a line of another form raises: deep nesting a RecursionError, a huge place an OverflowError.
-LINE_FAULTS = ValueError, KeyError, TypeError, AttributeError, RecursionError, OverflowError
+# What a line of another form raises: deep nesting a RecursionError, a huge place an OverflowError,
+# the number of a line that the session doesn't have an IndexError.
+LINE_FAULTS = ValueError, LookupError, TypeError, AttributeError, RecursionError, OverflowError
 
 
 def read_plan(
