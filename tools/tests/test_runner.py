@@ -153,6 +153,9 @@ class Starts(InStore):
     def test_a_check_without_standard_input_gives_commands_theirs(self):
         self.check_command('test "$(grep -c stored)" = $CRASHFS_SAYS', '<&-')
 
+    def test_no_file_of_a_check_gets_the_number_of_a_closed_standard_input(self):
+        self.check_command('test "$(readlink /proc/$PPID/fd/0)" = /dev/null', '<&-')
+
     def test_a_command_has_the_signals_that_python_ignores(self):
         self.check_command('(yes; echo $? > status) | head -n 1; test $(cat status) = 141')
 
