@@ -2,8 +2,10 @@
 
 import unittest
 from typing import List, Tuple
+from unittest import mock
 
-from crashfs_tools.common.trace import StartSymlink
+from crashfs_tools.common.trace import Header, StartSymlink
+from crashfs_tools.recorder.recording import Recording, TraceSettings
 
 from .support import recording_of
 from .translated_calls import FILE, IN_DIRECTORY, OPEN_F, TWO_FILES
@@ -266,6 +268,16 @@ NOTES: List[Tuple[str, List[str], List[str]]] = [
 
 
 class Troubles(unittest.TestCase):
+    def test_a_trace_that_begins_again_has_no_lines_of_earlier_troubles(self):
+        header = Header('u', 'u', 0o755)
+        recording = Recording(header, TraceSettings())
+        recording.current_call = mock.Mock()
+        recording.report('a device was made', '/f')
+        told = '/f: a device was made'
+        self.assertEqual(list(map(str, recording.troubles.values())), [f'{told} (after line 1)'])
+        recording.begin_trace(header)
+        self.assertEqual(list(map(str, recording.troubles.values())), [told])
+
     def test_what_no_trace_can_say_is_reported_with_its_place(self):
         for are_notes, rows in [(False, TROUBLES), (True, NOTES)]:
             for wanted, start, log in rows:

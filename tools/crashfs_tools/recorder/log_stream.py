@@ -66,6 +66,7 @@ class PipeLines:
         fails."""
         milliseconds = None if idle_seconds is None else idle_seconds * 1000
         while not self.ready_lines and not self.has_ended:
+            # Before a process has opened a named pipe for writing, a read would find its end.
             if not poll_for_input(self.descriptor).poll(milliseconds):
                 return None
             piece = os.read(self.descriptor, READ_BYTES)
@@ -166,8 +167,6 @@ class LogStream:
     def read_lines(self, descriptor: int) -> None:
         """Adds the lines of the pipe from its first writer until no process has it open, and copies
         mapped files at each stop. Faults set log_error or keep_fault."""
-        # Until a process has opened the pipe for writing, a read would find its end.
-        poll_for_input(descriptor).poll()
         os.set_blocking(descriptor, True)
         # A process whose mapped files are copied is stopped until its line is read.
         lines = PipeLines(descriptor, may_gather=self.mapped_files is None)
