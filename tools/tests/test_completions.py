@@ -10,7 +10,10 @@ import unittest
 from pathlib import Path
 from typing import Dict, List, Set, Tuple
 
+from crashfs_tools.checker.command_line import OPTIONS as CHECK
+from crashfs_tools.checker.command_line import RECORDER_OPTIONS
 from crashfs_tools.common.program import Crashfs
+from crashfs_tools.recorder.options import OPTIONS as RECORD
 from inventory.command_lines import (
     HELP,
     TOOLS,
@@ -65,6 +68,9 @@ class OfTools(unittest.TestCase):
             options = options_of_tool(command)
             self.assertEqual({name for it in options for name in it.names} - names, set(), command)
             self.assertEqual(len(printed), len(options), command)
+
+    def test_the_check_knows_the_options_that_only_the_recorder_has(self) -> None:
+        self.assertEqual(set(RECORDER_OPTIONS), set(RECORD) - set(CHECK))
 
 
 @needs_program

@@ -105,10 +105,10 @@ class Commands(InFolder):
 
     @needs_strace
     def test_the_first_commands_record_and_check_a_program(self) -> None:
-        first = commands()[:3]
-        self.assertEqual(first[0], 'mkdir store')
-        last = [self.printed(command) for command in first][-1]
-        self.assertEqual(last, reports()['first.trace'].replace('first.trace', 'my.trace'))
+        first = commands()[:4]
+        self.assertEqual(first[:2], ['export PATH="$PWD/tools:$PATH"', 'mkdir store'])
+        report = reports()['first.trace'].replace('first.trace', 'my.trace')
+        self.assertEqual('\n'.join(self.printed('\n'.join(first)).splitlines()[3:]), report)
 
 
 class Figures(unittest.TestCase):

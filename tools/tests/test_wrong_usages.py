@@ -60,6 +60,8 @@ CHECK: List[Tuple[str, int, str]] = [
     ('TRACE ./check.sh -v', 2, 'error: put -- before COMMAND (./check.sh)'),
     ('TRACE more -- true', 2, 'error: unrecognized arguments: more'),
     ('--bogus TRACE -- true', 2, 'error: unrecognized arguments: --bogus'),
+    ('--block 512 TRACE -- true', 2, 'error: --block is an option of crashfs-record'),
+    ('TRACE --profile=journal true', 2, 'error: --profile is an option of crashfs-record'),
     ('--jobs 0 TRACE -- true', 2, 'error: argument --jobs: 0 is not a number from 1'),
     ('--shard 3/2 TRACE -- true', 2, 'error: argument --shard: 3/2 is not I/N '),
     ('--timeout x TRACE -- true', 2, 'error: argument --timeout: x is no number of seconds'),

@@ -228,6 +228,24 @@ OPTIONS: Dict[str, Dict[str, Any]] = {
 }
 
 
+# The options of crashfs-record that crashfs-check doesn't have.
+RECORDER_OPTIONS = (
+    '--mapped',
+    '--ignore',
+    '--say-fd',
+    '--say-each',
+    '--no-say',
+    '--stacks',
+    '--begin-after',
+    '--profile',
+    '--block',
+    '--trace-version',
+    '--keep-log',
+    '--from-log',
+    '--log-dir',
+)
+
+
 def make_parser() -> argparse.ArgumentParser:
     """The parser of TRACE and OPTIONS, without COMMAND. Each value that it reads has the name of a
     field of Options."""
@@ -263,7 +281,8 @@ def read_options(arguments: List[str]) -> Options:
     """The options of a command line, given as its words. If they have a fault, or ask for the help
     or the version, a text is printed, and the program ends (SystemExit)."""
     parser = make_parser()
-    values, command = parse_command_line(parser, with_default_every(arguments))
+    words = with_default_every(arguments)
+    values, command = parse_command_line(parser, words, RECORDER_OPTIONS)
     for line, is_fault in possible_faults(values, command).items():
         if is_fault:
             parser.error(line)

@@ -11,7 +11,7 @@ import signal
 import sys
 from contextlib import redirect_stdout
 from importlib import import_module
-from typing import Any, Dict, List, NoReturn, Optional, Tuple
+from typing import Any, Collection, Dict, List, NoReturn, Optional, Tuple
 
 from crashfs_tools import VERSION
 
@@ -59,12 +59,13 @@ def split_command(words: List[str]) -> Tuple[List[str], List[str]]:
 
 
 def parse_command_line(
-    parser: argparse.ArgumentParser, words: List[str]
+    parser: argparse.ArgumentParser, words: List[str], recorder_options: Collection[str] = ()
 ) -> Tuple[argparse.Namespace, List[str]]:
     """The options that a parser reads from the words before the first `--`, and COMMAND, the words
     after it; COMMAND may be empty. A wrong word (status 2), --help and --version (status 0) end the
-    program by SystemExit, after the text is printed. If the text of --help or --version can't be
-    printed, the status is NOT_PRINTED."""
+    program by SystemExit, after the text is printed; of a word that is one of recorder_options the
+    text says so. If the text of --help or --version can't be printed, the status is
+    NOT_PRINTED."""
     own_words, command = split_command(words)
     help_text = io.StringIO()
     try:
@@ -74,6 +75,9 @@ def parse_command_line(
         if help_text.getvalue():
             print_help(parser.prog, help_text.getvalue())
         raise
+    for name in (word.partition('=')[0] for word in unknown_words):
+        if name in recorder_options:
+            parser.error(f'{name} is an option of crashfs-record')
     if unknown_words and not command and not unknown_words[0].startswith('-'):
         parser.error(f'put -- before COMMAND ({unknown_words[0]})')
     if unknown_words:
