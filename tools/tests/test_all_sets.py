@@ -58,7 +58,7 @@ class Choices(InFolder):
 
     def test_a_line_that_is_no_set_is_refused(self) -> None:
         self.assertEqual(parse_set('[0,2]'), 0b101)
-        for line in ('', '5', '{"a":1}', '[-1]', '[[0]]', f'[{10**30}]', '[' * 100_000):
+        for line in ('', '5', '{"a":1}', '{}', '""', '[-1]', '[[0]]', f'[{10**30}]', '[' * 100_000):
             with self.subTest(line[:80]), self.assertRaises(PlanError):
                 parse_set(line)
 

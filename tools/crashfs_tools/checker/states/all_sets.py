@@ -83,8 +83,8 @@ def all_sets(program: Crashfs, environment: Dict[str, str], reading_sets: Readin
 
 def can_program_find_sets(reading: Reading) -> bool:
     """Whether the program can find the sets that a check tries, in reasonable time: the start
-    tree's files have at most START_BYTES together, and the version is at least
-    ACKNOWLEDGED_FIRST."""
+    tree's files and all symbolic links have at most START_BYTES together, and the version is at
+    least ACKNOWLEDGED_FIRST."""
     is_small = sum(data.length for data in reading.initial_data.values()) <= START_BYTES
     return is_small and reading.version >= ACKNOWLEDGED_FIRST
 
@@ -108,9 +108,9 @@ class ProgramSets:
 
     @contextmanager
     def started(self, most: int) -> Iterator[None]:
-        """Starts the commands of different_sets(most) and count_sets(), which these only read
-        within the `with`. At the end of it those that weren't read are killed. Errors as in
-        Crashfs.start()."""
+        """Starts the commands of different_sets(most) and count_sets(): within the `with` these
+        methods only read what the commands print. At its end commands whose output wasn't read are
+        killed. Errors as in Crashfs.start()."""
         try:
             for options in (different_options(most), COUNT_OPTIONS):
                 words = self.command_words(options)
@@ -192,7 +192,10 @@ def parse_set(line: str) -> int:
     """The set in a line of a picks file, which is an array of places. PlanError for any other
     line."""
     try:
-        return set_of(json.loads(line))
+        places = json.loads(line)
+        if type(places) is not list:
+            raise ValueError('no array')
+        return set_of(places)
     except (ValueError, TypeError, RecursionError, OverflowError) as error:
         raise PlanError(f'crashfs picks printed: {line}') from error
 
