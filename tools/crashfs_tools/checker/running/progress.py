@@ -115,7 +115,7 @@ class Progress:
 
     def progress_text(self) -> str:
         """The part's counts, and about how long its other states will take if they are as slow as
-        those that were tried: no time if none was."""
+        those that were tried: 0 seconds if none was."""
         tried_count, state_count = self.pace.tried_count, self.pace.state_count
         left_text = duration_text(self.pace.seconds * (state_count - tried_count))
         return (

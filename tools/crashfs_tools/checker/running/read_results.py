@@ -223,9 +223,9 @@ def parse_outcome(value: Any) -> Outcome:
 def parse_values_by_state(
     plan: Plan, values: Dict[str, Any], parse_value: Callable[[Any], Value]
 ) -> Dict[int, Value]:
-    """A map of values by the numbers of states of the plan, from a map whose keys are their digits.
-    parse_value() checks each value. ValueError for another key, AttributeError if `values` is no
-    map, and what parse_value() raises."""
+    """A map of values by the numbers of states of the plan, from a map whose keys are these numbers
+    as texts that int() reads. parse_value() checks each value. ValueError for another key,
+    AttributeError if `values` is no map, and what parse_value() raises."""
     values_by_state = {int(number): parse_value(value) for number, value in values.items()}
     if not all(map(plan.has_state, values_by_state)):
         raise ValueError('no state of the plan')

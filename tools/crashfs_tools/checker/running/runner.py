@@ -144,7 +144,7 @@ class Checker:
 
     @cached_property
     def current_directory(self) -> int:
-        """A descriptor of the directory that this process is in."""
+        """A descriptor of the directory that this process is in at the first use. It stays open."""
         return os.open('.', os.O_PATH | os.O_DIRECTORY | os.O_CLOEXEC)
 
     @cached_property

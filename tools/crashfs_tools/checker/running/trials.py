@@ -93,7 +93,7 @@ class Trials:
 
     def archive_layout(self, folder: str) -> Archive:
         """A layout that makes states below a folder, each in a directory of its own, from the kept
-        trees if these are enough: ProgramFault as PlanTrees.kept."""
+        trees if these are enough. Errors as in PlanTrees.kept."""
         return Archive(self.program, self.planned, folder, self.guard.environment, self.trees.kept)
 
     def new_layout(self, is_for_many: bool = False) -> Layout:

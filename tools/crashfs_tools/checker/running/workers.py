@@ -34,8 +34,8 @@ OnOutcome = Callable[[int, Outcome], None]
 
 @dataclass
 class Worker:
-    """One process of a check: its number, this end of its pipe, and the line of which its end isn't
-    read yet."""
+    """One process of a check: its number, this end of its pipe, and what was read of the line whose
+    end wasn't read yet."""
 
     process: int
     pipe: int

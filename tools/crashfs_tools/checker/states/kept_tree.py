@@ -312,8 +312,9 @@ def is_large(entry: Entry) -> bool:
 
 
 def signature_of(status: os.stat_result) -> Signature:
-    """Numbers from a file's status, of which a change of the file changes at least one. The first
-    RIGHTS of them stay the same if only the file's bytes are changed."""
+    """Numbers from a file's status. A change of the file changes at least one of them, except as
+    this module's text says: in the same tick of the clock, or with a store through a mapping. The
+    first RIGHTS of them stay the same if only the file's bytes are changed."""
     return (
         status.st_ino,
         status.st_mode,

@@ -30,7 +30,8 @@ class PlannedMicroOperation(NamedTuple):
 
 
 class Trial(NamedTuple):
-    """What a command is run on: states with equal trees and the same number of says are one."""
+    """What a command is run on: states with equal trees and the same acknowledged lines are one. By
+    the number of the first state with the tree, and how many lines were acknowledged."""
 
     same: int
     says: int
@@ -49,7 +50,7 @@ class State(NamedTuple):
 
     @property
     def trial(self) -> Trial:
-        """What the state is tried by: one run is enough for all states of a trial."""
+        """The trial of this state: one run is enough for all states of a trial."""
         return Trial(self.same, self.says)
 
 
@@ -232,8 +233,10 @@ class Plan:
     def state_text(self, state: State) -> str:
         """A state in words, such as `hole 1 5`: its family, and its numbers as places in the
         session. A pick is shown without numbers, since it may have hundreds."""
+        if state.family == 'pick':
+            return 'a pick'
         numbers = ' '.join(str(self.first_place + place) for place in state.numbers)
-        return 'a pick' if state.family == 'pick' else f'{state.family} {numbers}'
+        return f'{state.family} {numbers}'
 
     def set_kept_by(self, state: State) -> int:
         """The set of the places that a state has, computed from its family and numbers. `kept` has

@@ -49,7 +49,7 @@ class PlanTrees:
     def kept(self) -> TreesByState:
         """The trees in memory: those that keep() added and, with keeps_all, all of a small plan,
         which are read at the first use, but none if they have more than MOST_BYTES. ProgramFault if
-        the program lacks a tree of a small plan; other errors as in are_large."""
+        the program fails, or lacks a tree of a small plan; other errors as in are_large."""
         plan = self.planned.plan
         if not self.keeps_all or self.are_large or not is_small(plan):
             return {}
@@ -67,11 +67,11 @@ class PlanTrees:
                 return {}
         return trees
 
-    def keep(self, numbers: Iterable[int], next_numbers: Iterable[int] = ()) -> None:
+    def keep(self, numbers: Sequence[int], next_numbers: Iterable[int] = ()) -> None:
         """Adds the trees of the states of these numbers to `kept`, unless the trees are large. If
         one of them must be read, the same run of the program gives those of next_numbers, which are
-        needed next. ProgramFault if the program lacks one: those before it are kept. Other errors
-        as in are_large."""
+        needed next. ProgramFault if the program fails or lacks one: those before it are kept. Other
+        errors as in are_large."""
         if self.are_large or self.first_numbers(numbers) <= self.kept.keys():
             return
         missing_numbers = self.first_numbers([*numbers, *next_numbers]) - self.kept.keys()

@@ -48,7 +48,7 @@ class Planner:
         ask for and, if they ask for all crash states, all or drawn ones. Writes files of picks.
         TooLarge if the trace is too long for one plan; Refused for an unknown profile in --in, or
         if the readings differ in what a micro-operation needs; ProgramFault if the program fails to
-        print sets."""
+        print sets; OSError if a file can't be read or written."""
         options = self.options
         if not (options.has_lost or options.has_files or options.has_every or options.profile):
             return self.plan_picks(trace, offsets, [])
@@ -77,7 +77,7 @@ class Planner:
         """A plan of a copy of a plan's trace, with the same micro-operations: each different crash
         state, under the profile of --in if that is given, is one pick. The second reading finds
         them. The program doesn't know the plan, so that no state of it can be made. None if there
-        are more than options.most_states states. Refused as read_trace()."""
+        are more than options.most_states states. Errors as in read_trace()."""
         reading_sets = self.read_trace(copy)
         sets = reading_sets.different_sets(self.options.most_states, self.options.profile or '')
         if sets is None:
@@ -207,7 +207,7 @@ class Planner:
         """A plan of the same trace as `planned`, with only the prefixes and these sets, each once,
         as picks. Its first state has the same number as that of `planned`. The next call for this
         trace replaces the file of picks: then the states of this plan can't be made any more.
-        Refused or TooLarge if the program refuses the plan."""
+        Refused or TooLarge if the program refuses the plan; OSError as write_picks()."""
         path = self.write_picks(planned.trace, '.sets', dict.fromkeys(sets))
         options = ['--trace', planned.trace, '--picks', path]
         plan = read_plan(self.run_program(['list', *options, '--json']), planned.offsets)

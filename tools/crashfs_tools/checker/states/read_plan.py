@@ -50,9 +50,9 @@ class PlanReader:
 
     def add_part(self, listing: str) -> None:
         """Adds the states of a part, from what `list --json` printed, and the operations if it is
-        the first part: all parts have the same. In the program the picks of all parts begin with
-        the same number; here the picks of a further part get the numbers that follow those of the
-        states so far. PlanError for a line of another form."""
+        the first part: all parts have the same. In the program the picks of each further part begin
+        with the same number; here they get the numbers that follow those of the states so far.
+        PlanError for a line of another form."""
         self.is_first = not self.states
         self.number_offset = 0 if self.is_first else len(self.states) - len(self.operations) - 1
         for line in listing.rstrip('\n').split('\n'):
@@ -88,7 +88,8 @@ class PlanReader:
 
 def parse_operation(fields: Dict[str, Any], offsets: Offsets) -> PlannedMicroOperation:
     """The micro-operation of a line of `list --json`, in places and lines of the session. KeyError
-    if a field is missing."""
+    if a field is missing, IndexError if offsets.lines lacks the line, TypeError for what is no
+    number in its place."""
     details = ' '.join(str(fields[key]) for key in DETAILS if key in fields)
     line = fields['line']
     return PlannedMicroOperation(
@@ -102,7 +103,8 @@ def parse_operation(fields: Dict[str, Any], offsets: Offsets) -> PlannedMicroOpe
 
 def parse_state(fields: Dict[str, Any], offsets: Offsets) -> State:
     """The state of a line of `list --json`, with its number in the session; the numbers of its set,
-    such as its end, stay places of the plan. KeyError for another kind or a missing field."""
+    such as its end, stay places of the plan. KeyError for another kind or a missing field,
+    TypeError for what is no number in its place."""
     kind = fields['kind']
     if kind == 'pick':
         numbers = tuple(fields['places'])

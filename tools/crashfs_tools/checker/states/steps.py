@@ -81,10 +81,10 @@ def start_tree(trace: Trace) -> Tree:
 
 
 def parts_of_operation(operation: Operation, tree: Tree) -> Iterator[Operation]:
-    """Yields the operation itself or, for a write of more than PIECE_BLOCKS blocks, its parts: a
+    """Yields the operation itself or, for a write longer than PIECE_BLOCKS blocks, its parts: a
     truncate to each new size of the file, then writes of up to so many blocks. The parts have the
-    same micro-operations as the operation. `tree` is the one before the operation; the caller may
-    apply each part to it as it comes."""
+    same micro-operations as the operation. `tree` must be the one before the operation, which it
+    allows; the caller may apply each part to it as it comes."""
     if not isinstance(operation, Write) or len(operation.data) <= PIECE_BLOCKS * tree.block:
         yield operation
         return

@@ -153,9 +153,9 @@ class Windows:
         return ends[low - 1] if low else end
 
     def has_few_states(self, steps: Steps, end: int) -> bool:
-        """Whether the part up to the step `end` has so few different crash states that all can be
-        tried. Writes the part's trace, and removes it again, also after an error. Errors as in
-        Planner.has_few_states(); OSError if the trace can't be written."""
+        """Whether the part from where `steps` is up to the step `end` has so few different crash
+        states that all can be tried. Writes the part's trace, and removes it again, also after an
+        error. Errors as in Planner.has_few_states(); OSError if the trace can't be written."""
         path = os.path.join(self.planner.guard.directory, 'shorter.trace')
         write_text(path, steps.trace_until(end)[0])
         try:
@@ -243,8 +243,8 @@ class Windows:
 
 def windows_of(planner: Planner, options: Options, text: str) -> Windows:
     """The windows of the session in a trace's text, each of at most options.window
-    micro-operations, or of LARGEST if that is None. Nothing is planned yet. Refused if a line of
-    the trace has a fault."""
+    micro-operations, or of LARGEST if that is None. Nothing is planned yet. Errors as in
+    Session()."""
     return Windows(planner, Session(options.trace or '', text), options.window or LARGEST)
 
 
