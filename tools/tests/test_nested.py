@@ -23,7 +23,8 @@ from crashfs_tools.recorder.options import read_options
 
 from .support import EXAMPLES, FAKE, PATIENCE, InFolder, needs_strace
 from .test_check_command import RIGHTS, InStore
-from .test_pairs import LISTED, read_plan
+from .test_groups import THIRD, line, rename, write
+from .test_pairs import LISTED, LOST, read_plan
 
 FILE_RIGHTS = RIGHTS.replace('755', '644')
 # Moves the log into the table, and may sync the table before it empties the log.
@@ -222,7 +223,7 @@ class Faults(InFolder):
 
 class Counted(unittest.TestCase):
     def test_one_is_one(self):
-        for recoveries, line in [
+        for recoveries, text in [
             ([Recovery(7, 1)], '1 recovery: 1 different state of a second crash, none fails'),
             (
                 [Recovery(7, 1), Recovery(8, 4, 1)],
@@ -235,7 +236,7 @@ class Counted(unittest.TestCase):
         ]:
             report = CheckReport(Head('a', '', []))
             report.recoveries = recoveries
-            self.assertEqual(ReportText(report).lines()[1:], ['  ' + line])
+            self.assertEqual(ReportText(report).lines()[1:], ['  ' + text])
 
 
 class Tried(InFolder):
@@ -249,6 +250,22 @@ class Tried(InFolder):
         )
         recovery = SecondCrashTrials(1).try_recovery(trials, plan.state(5), Outcome(GOOD))
         self.assertEqual((recovery.state, recovery.tried_count, recovery.failing_count), (5, 2, 0))
+
+    def test_a_failing_state_of_two_entries_counts_once(self):
+        plan = read_plan(LISTED + '{"state":13,"kind":"pick","places":[2],"says":0,"same":8}\n')
+        outcomes = {number: Outcome(GOOD) for number in (0, 1, 2, 3, 4, 5, 9, 10)}
+        outcomes[8] = LOST
+        lines = [line('creat', '/a'), write('/a', 'x'), '\n', rename('/a', '/c')]
+        trials = SimpleNamespace(
+            plan=plan,
+            try_all=lambda results: results.outcomes.update(outcomes),
+            try_state=lambda *_: LOST,
+            planned=SimpleNamespace(trace=self.write('r.trace', THIRD + ''.join(lines))),
+            program=SimpleNamespace(is_unproved=False),
+        )
+        recovery = SecondCrashTrials(1).try_recovery(trials, plan.state(5), Outcome(GOOD))
+        self.assertEqual([len(group.states) for group in recovery.groups], [1, 1])
+        self.assertEqual((recovery.tried_count, recovery.failing_count), (9, 1))
 
 
 class Chosen(unittest.TestCase):

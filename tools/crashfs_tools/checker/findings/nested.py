@@ -130,10 +130,12 @@ class SecondCrashTrials:
         findings = Findings(head, results, {}, ignored)
         rerun_examples(trials, findings)
         groups = findings.groups
+        # Equal states may be in several groups.
+        failing_states = set().union(*(group.tried_states for group in groups))
         return Recovery(
             state.number,
             len(results.outcomes),
-            sum(group.count for group in groups),
+            len(failing_states),
             groups,
             {group.example.number: crash_place(findings, group) for group in groups},
             unproved=trials.program.is_unproved,
