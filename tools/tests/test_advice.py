@@ -154,6 +154,10 @@ class Swapped(unittest.TestCase):
         )
         self.assertEqual(lines_to_move(lines[2], lines[8], lines), [3, 5, 6, 8])
 
+    def test_a_sync_of_everything_does_not_move(self):
+        lines = lines_of(write('/a', 'x'), line('sync'), line('fsync', '/b'), write('/b', 'y'))
+        self.assertEqual(lines_to_move(lines[2], lines[5], lines), [4, 5])
+
     def test_lines_of_the_same_file_do_not_change_places(self):
         lines = lines_of(line('truncate', '/f', length=0), line('creat', '/g'), rename('/f', '/g'))
         self.assertEqual(lines_to_move(lines[2], lines[4], lines), [])

@@ -151,9 +151,9 @@ def lines_to_move(kept: TraceLine, lost: TraceLine, lines: Dict[int, TraceLine])
 def must_move_with(moved: Iterable[TraceLine], line: TraceLine) -> bool:
     """Whether a line must be moved together with some later moved lines, because a path of the line
     is, or is below or above, a path of a moved line that is no sync. A line that is a sync must be
-    moved only with a line of its own file."""
+    moved only with a line of its own file, and so never if it syncs everything."""
     if line.word in SYNCS:
-        return any(line.path in (other.path, other.target) for other in moved)
+        return bool(line.path) and any(line.path in (other.path, other.target) for other in moved)
     return not all(line.is_apart_from(other) for other in moved if other.word not in SYNCS)
 
 
