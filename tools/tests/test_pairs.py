@@ -113,6 +113,11 @@ class Listed(unittest.TestCase):
             },
         )
 
+    def test_a_line_of_the_session_is_found_by_its_last_part_in_the_trace(self):
+        offsets = Offsets(lines=(0, 7, 7, 9))
+        self.assertEqual([offsets.line_in_trace(line) for line in (7, 8, 9)], [3, None, 4])
+        self.assertEqual(Offsets().line_in_trace(8), 8)
+
     def test_a_line_of_another_form_is_refused(self):
         for line in [
             'op 1 write_block 0 0 12 4',

@@ -16,7 +16,7 @@ from crashfs_tools.checker.running.runner import AcknowledgedLines
 from crashfs_tools.checker.running.trials import Trials, Workplace
 from crashfs_tools.checker.states.plan import Offsets, PlannedTrace
 from crashfs_tools.checker.states.planning import Planner, TooLarge
-from crashfs_tools.common.command import TEXT, Refused
+from crashfs_tools.common.command import TEXT, Refused, write_text
 from crashfs_tools.common.guard import Guard
 from crashfs_tools.common.program import Crashfs, ProgramFault
 from crashfs_tools.common.trace_fields import trace_version
@@ -52,8 +52,7 @@ def read_trace_file(path: str, guard: Guard) -> TraceFile:
     if stat.S_ISREG(status.st_mode):
         return TraceFile(os.path.abspath(path), text, mode)
     copy_path = os.path.join(guard.directory, 'trace')
-    with open(copy_path, 'w', **TEXT) as file:
-        file.write(text)
+    write_text(copy_path, text)
     return TraceFile(copy_path, text, mode)
 
 

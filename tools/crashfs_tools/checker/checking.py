@@ -203,9 +203,8 @@ class Check:
         from crashfs_tools.checker.running.command_files import command_name
 
         require_folder(path)
-        prefixes = [state.number for state in trials.plan.states if state.family == 'prefix']
-        first_and_last = [prefixes[0], prefixes[-1]]
-        name = command_name(path, self.options.command, first_and_last, trials.run_words)
+        numbers = [state.number for state in trials.plan.first_and_last_prefix]
+        name = command_name(path, self.options.command, numbers, trials.run_words)
         trials.workplace.cache = OutcomeCache(path, name)
 
     def save_cache(self) -> None:

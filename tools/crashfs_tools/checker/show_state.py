@@ -13,7 +13,7 @@ from crashfs_tools.checker.running.progress import Progress
 from crashfs_tools.checker.running.runner import BAD, GOOD, NO_ANSWER
 from crashfs_tools.checker.running.trials import Trials
 from crashfs_tools.checker.states.plan import State
-from crashfs_tools.common.command import TEXT
+from crashfs_tools.common.command import write_text
 from crashfs_tools.common.guard import Guard
 from crashfs_tools.common.removal import remove_tree
 from crashfs_tools.common.streams import flushed_output
@@ -79,8 +79,7 @@ def lay_out_for_user(trials: Trials, state: State) -> Tuple[str, str]:
     try:
         ((_, directory),) = trials.archive_layout(folder).states({state.number})
         acknowledged = os.path.join(folder, f'says-{state.says}')
-        with open(acknowledged, 'w', **TEXT) as file:
-            file.write(trials.acknowledged_lines.text(state.says))
+        write_text(acknowledged, trials.acknowledged_lines.text(state.says))
         return directory, acknowledged
     except BaseException:
         remove_tree(folder)

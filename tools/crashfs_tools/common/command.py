@@ -17,7 +17,7 @@ from crashfs_tools import VERSION
 
 from .streams import flushed_output
 
-# How every file of text is written.
+# How every file of text is read and written.
 TEXT: Dict[str, Any] = {'encoding': 'utf-8', 'errors': 'surrogateescape', 'newline': '\n'}
 
 # The status of a text that could not be printed.
@@ -28,6 +28,13 @@ LINE_CHARACTERS = 8192
 
 class Refused(Exception):
     """Bad input, which ends a command: the line, or the few lines, that the user sees."""
+
+
+def write_text(path: str, text: str) -> None:
+    """Writes a text into the file at a path, in place of what it has. OSError if it can't be
+    written: a part may be."""
+    with open(path, 'w', **TEXT) as file:
+        file.write(text)
 
 
 def parse_number(text: str) -> Optional[int]:

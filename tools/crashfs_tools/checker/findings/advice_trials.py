@@ -10,7 +10,7 @@ from crashfs_tools.checker.running.runner import Outcome
 from crashfs_tools.checker.running.trials import Trials
 from crashfs_tools.checker.states.plan import Offsets, Plan, PlannedTrace, Trial
 from crashfs_tools.checker.states.planning import Planner
-from crashfs_tools.common.command import TEXT
+from crashfs_tools.common.command import TEXT, write_text
 from crashfs_tools.common.trace_lines import with_syncs
 
 from .advice import AdviceResult, AllSyncs, FailingCounts
@@ -154,14 +154,10 @@ class AdviceTrials:
         planned = self.trials.planned
         with open(planned.trace, **TEXT) as file:
             text = file.read()
-        own_points = [
-            (line, path)
-            for number, path in points
-            for line in planned.offsets.values_by_own_lines({number: path})
-        ]
+        numbered_points = ((planned.offsets.line_in_trace(line), path) for line, path in points)
+        own_points = [(line, path) for line, path in numbered_points if line is not None]
         copy_path = os.path.join(self.trials.guard.directory, 'advice.trace')
-        with open(copy_path, 'w', **TEXT) as file:
-            file.write(with_syncs(text, own_points))
+        write_text(copy_path, with_syncs(text, own_points))
         return copy_path
 
     def try_copy(self, copy: SyncedCopy, group: Group) -> AdviceResult:

@@ -13,7 +13,7 @@ from crashfs_tools.checker.running.runner import GOOD, Outcome
 from crashfs_tools.checker.running.trials import Trials
 from crashfs_tools.checker.states.plan import Offsets, State
 from crashfs_tools.checker.states.planning import Planner
-from crashfs_tools.common.command import TEXT, Refused, ending_text, last_line
+from crashfs_tools.common.command import TEXT, Refused, ending_text, last_line, write_text
 from crashfs_tools.common.program import code_to_run
 from crashfs_tools.common.removal import remove_tree
 from crashfs_tools.common.trace import WRITTEN_VERSION
@@ -203,8 +203,7 @@ def remove_says(trace: str) -> str:
     trace. OSError if the file can't be read or written."""
     with open(trace, **TEXT) as file:
         text = without_says(file.read())
-    with open(trace, 'w', **TEXT) as file:
-        file.write(text)
+    write_text(trace, text)
     return text
 
 

@@ -13,7 +13,7 @@ from crashfs_tools.checker.running.trials import Trials
 from crashfs_tools.checker.states.place_sets import places_of
 from crashfs_tools.checker.states.plan import Offsets, Plan, PlannedTrace
 from crashfs_tools.checker.states.planning import Planner
-from crashfs_tools.common.command import TEXT, Refused
+from crashfs_tools.common.command import TEXT, Refused, write_text
 from crashfs_tools.common.sparse import PAGE_BYTES, SparseBytes
 from crashfs_tools.common.trace_lines import SYNCS, TraceLine
 
@@ -72,8 +72,7 @@ class Swap:
         if lines is None:
             return None
         path = os.path.join(self.trials.guard.directory, 'swap.trace')
-        with open(path, 'w', **TEXT) as file:
-            file.write('\n'.join(line for _, line in lines))
+        write_text(path, '\n'.join(line for _, line in lines))
         session_numbers = tuple(number for number, _ in lines)
         offsets = Offsets(says=self.trials.planned.offsets.says, lines=session_numbers)
         try:

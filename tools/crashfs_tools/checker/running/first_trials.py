@@ -32,8 +32,7 @@ class FirstTrials:
         """Tries the two trees, first that at the end. Refused if COMMAND fails in one of them;
         other exceptions as in outcome_of(). The results get the outcomes of states that are among
         those to try; the outcome of end_plan's state is dropped."""
-        prefixes = [state for state in self.trials.plan.states if state.family == 'prefix']
-        start, end = prefixes[0], prefixes[-1]
+        start, end = self.trials.plan.first_and_last_prefix
         if self.end_plan is None:
             self.try_prefix(end, END_TREE, next_numbers=[start.number])
         else:

@@ -64,15 +64,13 @@ class Offsets(NamedTuple):
     says: int = 0
     lines: Tuple[int, ...] = ()
 
-    def values_by_own_lines(self, values: Dict[int, str]) -> Dict[int, str]:
-        """Takes values by line numbers of the session, and returns them by line numbers of the
-        plan's trace; `values` itself if the numbers are the same. Of several lines of the trace
-        that come from one of the session only the last one gets its value. Values of lines that the
-        trace doesn't have are left out."""
+    def line_in_trace(self, session_line: int) -> Optional[int]:
+        """The number of the line of the plan's trace that comes from a line of the session, given
+        by its number: of several the last one, None if there is none."""
         if not self.lines:
-            return values
-        own_numbers = {line: number for number, line in enumerate(self.lines, 1)}
-        return {own_numbers[line]: value for line, value in values.items() if line in own_numbers}
+            return session_line
+        numbers = (number for number, line in enumerate(self.lines, 1) if line == session_line)
+        return max(numbers, default=None)
 
 
 class AllStates(NamedTuple):
@@ -221,6 +219,13 @@ class Plan:
         """The listed states of families, which come first; all listed states if only families were
         asked for."""
         return self.listed[: self.all_states.families] if self.all_states else self.listed
+
+    @property
+    def first_and_last_prefix(self) -> List[State]:
+        """The shortest and the longest prefix that may be tried; one twice if there is no other.
+        The plan must have prefixes."""
+        prefixes = [state for state in self.states if state.family == 'prefix']
+        return [prefixes[0], prefixes[-1]]
 
     def has_state(self, number: int) -> bool:
         """Whether a state of this number is listed."""

@@ -15,7 +15,7 @@ from typing import Iterator, List, Sequence
 
 from crashfs_tools.checker.options import Options
 from crashfs_tools.common import limits
-from crashfs_tools.common.command import TEXT, Refused
+from crashfs_tools.common.command import Refused, write_text
 
 from .all_sets import ReadingSets
 from .place_sets import places_of, size_of
@@ -287,10 +287,3 @@ def with_probe(text: str) -> str:
         '"bytes":""}'
     )
     return f'{header}\n{start_line}\n{other_lines}{{"op":"truncate","path":"{name}","length":1}}\n'
-
-
-def write_text(path: str, text: str) -> None:
-    """Writes a text into the file at a path, in place of what it has. OSError if it can't be
-    written: a part may be."""
-    with open(path, 'w', **TEXT) as file:
-        file.write(text)
