@@ -4,7 +4,12 @@ import io
 import tarfile
 import unittest
 
-from crashfs_tools.common.archive import ArchiveFault, parse_extended_fields, read_members
+from crashfs_tools.common.archive import (
+    ArchiveFault,
+    members_by_state,
+    parse_extended_fields,
+    read_members,
+)
 from crashfs_tools.common.entry import Entry
 
 LONG = 'n' * 255
@@ -62,6 +67,13 @@ class Archives(unittest.TestCase):
     def test_entries_are_read_with_all_that_they_have(self):
         self.assertEqual(read(archive_of(TREE)), TREE)
         self.assertEqual(read(archive_of(SHORT, tarfile.USTAR_FORMAT)), SHORT)
+
+    def test_each_state_has_the_paths_of_its_own_tree(self):
+        folder, file = Entry('u', 'g', 0o755, None), Entry('u', 'g', 0o644, b'f')
+        members = [('0', folder), ('0/f', file), ('12', folder), ('12/d', folder), ('12/d/f', file)]
+        found = [(number, list(entries)) for number, entries in members_by_state(members)]
+        trees = [('', folder), ('f', file)], [('', folder), ('d', folder), ('d/f', file)]
+        self.assertEqual(found, [(0, trees[0]), (12, trees[1])])
 
     def test_an_archive_without_its_end_is_refused(self):
         data = archive_of(TREE[:1])

@@ -5,10 +5,17 @@ import sys
 import threading
 import unittest
 from types import SimpleNamespace
+from unittest import mock
 
 from crashfs_tools.checker.states.layout import read_trees
 from crashfs_tools.common.forked_reading import ForkedReading
-from crashfs_tools.common.program import BUILT, Crashfs, ProgramFault, program_of_tools
+from crashfs_tools.common.program import (
+    BUILT,
+    Crashfs,
+    ProgramFault,
+    ProgramOutput,
+    program_of_tools,
+)
 from crashfs_tools.common.signals import time_limit
 
 from .support import EXAMPLES, PATIENCE, InFolder
@@ -80,6 +87,21 @@ class SecondReading(InFolder):
         trace = self.write('says.trace', header + lines)
         listed = Crashfs.second_reading().output_of(['list', '--trace', trace, '--json'])
         self.assertEqual(listed.count('\n'), 1_000 + 1_001)
+
+
+class Outputs(unittest.TestCase):
+    def test_errors_of_several_pieces_are_read_to_their_end(self):
+        output_pipe, output = os.pipe()
+        error_pipe, errors = os.pipe()
+        for pipe in (output_pipe, error_pipe):
+            self.addCleanup(os.close, pipe)
+        os.write(errors, b'abc')
+        os.close(errors)
+        os.close(output)
+        read_output = ProgramOutput(output_pipe, error_pipe)
+        with mock.patch('crashfs_tools.common.program.PIECE_BYTES', 2):
+            self.assertEqual(read_output.readall(), b'')
+        self.assertEqual(read_output.error_text, b'abc')
 
 
 class Faults(unittest.TestCase):
