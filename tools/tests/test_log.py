@@ -2,6 +2,7 @@
 
 import os
 import sys
+import tempfile
 import threading
 import time
 import unittest
@@ -19,7 +20,7 @@ from crashfs_tools.recorder.recording import Recording, TraceSettings
 from crashfs_tools.recorder.strace_log import SUPERSEDE, read_log
 from crashfs_tools.recorder.translate import Translator
 
-from .support import as_strace, numbers
+from .support import PATIENCE, as_strace, numbers
 
 LARGE = 'ab' * 40_000
 
@@ -205,6 +206,22 @@ class Lines(unittest.TestCase):
         lines.add_bytes(b'a\n')
         lines.add_bytes(b'')
         self.assertEqual(list(lines.ready_lines), ['a\n'])
+
+    def test_a_named_pipe_has_not_ended_before_its_first_writer(self):
+        folder = tempfile.TemporaryDirectory()
+        self.addCleanup(folder.cleanup)
+        path = os.path.join(folder.name, 'log')
+        os.mkfifo(path)
+        reading = os.open(path, os.O_RDONLY | os.O_NONBLOCK)
+        self.addCleanup(os.close, reading)
+        lines = PipeLines(reading)
+        self.assertIsNone(lines.next_line(0.01))
+        self.assertFalse(lines.has_ended)
+        with open(path, 'wb') as writing:
+            writing.write(b'a\n')
+        self.assertEqual(lines.next_line(PATIENCE), 'a\n')
+        self.assertIsNone(lines.next_line(PATIENCE))
+        self.assertTrue(lines.has_ended)
 
     def test_a_call_that_is_cut_in_two_is_one(self):
         log = read_log(

@@ -224,20 +224,6 @@ class Descriptors(InFolder):
         self.assertIsNone(lines.next_line(PATIENCE))
         self.assertTrue(lines.has_ended)
 
-    def test_a_named_pipe_has_not_ended_before_its_first_writer(self):
-        path = self.path('log')
-        os.mkfifo(path)
-        reading = os.open(path, os.O_RDONLY | os.O_NONBLOCK)
-        self.addCleanup(os.close, reading)
-        lines = PipeLines(reading)
-        self.assertIsNone(lines.next_line(0.01))
-        self.assertFalse(lines.has_ended)
-        with open(path, 'wb') as writing:
-            writing.write(b'a\n')
-        self.assertEqual(lines.next_line(PATIENCE), 'a\n')
-        self.assertIsNone(lines.next_line(PATIENCE))
-        self.assertTrue(lines.has_ended)
-
     def test_output_whose_pipe_has_a_high_number_is_read(self):
         pipe, output = self.open_high_pipe()
         wakeup_pipe, wakeup = self.open_high_pipe()
