@@ -13,7 +13,7 @@ from typing import Any, Callable, Iterator, List, NoReturn, Optional, Sequence, 
 import pytest
 
 from crashfs_tools.api.checks import PathRecovery, check
-from crashfs_tools.api.recordings import SessionOf, record
+from crashfs_tools.api.recordings import PathSession, record
 from crashfs_tools.api.reports import Entry, PathLike, Report
 from crashfs_tools.common.command import Refused
 
@@ -46,7 +46,7 @@ class CrashStates:
 
     def __call__(
         self,
-        session: Union[SessionOf, Sequence[str]],
+        session: Union[PathSession, Sequence[str]],
         recovery: Union[PathRecovery, Sequence[str]],
         *,
         start: Optional[Callable[[Path], object]] = None,

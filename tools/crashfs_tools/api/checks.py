@@ -87,9 +87,10 @@ def refuse_every_with_families(options: Options) -> None:
         raise Refused('every goes with no families, prefixes or quick')
 
 
-def namesake(recovery: PathRecovery) -> Any:
-    """What has the module and the name by which reports name a function: itself or, of a
-    functools.partial, the function that it calls; the class of an object without a name."""
+def named_callable(recovery: PathRecovery) -> Any:
+    """The callable whose module and name reports have for a recovery: the function itself; of a
+    functools.partial the one for the function that it calls; of an object without a name its
+    class."""
     while isinstance(recovery, functools.partial):
         recovery = recovery.func
     return recovery if hasattr(recovery, '__qualname__') else type(recovery)
@@ -97,7 +98,7 @@ def namesake(recovery: PathRecovery) -> Any:
 
 def set_recovery(options: Options, recovery: Union[PathRecovery, Sequence[str]]) -> None:
     """Sets a recovery in the options: a list of words, or a text that is one program, as COMMAND; a
-    function as one that gets its directory as a Path, with the module and name of namesake().
+    function as one that gets its directory as a Path, with the module and name of named_callable().
     Refused for a function if the options have nested or cache, which need a command and must be set
     before."""
     if isinstance(recovery, Sequence):
@@ -109,7 +110,7 @@ def set_recovery(options: Options, recovery: Union[PathRecovery, Sequence[str]])
     # mypy forgets in an inner function that it is no Sequence.
     function = recovery
 
-    @functools.wraps(namesake(function), updated=())
+    @functools.wraps(named_callable(function), updated=())
     def recover_in_text_path(directory: str, lines: List[str]) -> object:
         """Calls the function with the directory as a Path. What it raises is passed on."""
         return function(Path(directory), lines)

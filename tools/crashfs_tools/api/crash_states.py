@@ -112,6 +112,5 @@ def states_of_window(
 
 
 def full_tree(_: int, members: Iterable[Member]) -> Entries:
-    """The tree of a state, in the form that read_trees() asks for: the state's number isn't
-    needed."""
+    """A use_tree() for read_trees(): the tree of a state as entries by their paths."""
     return tree_of_members(members)

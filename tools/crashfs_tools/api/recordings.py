@@ -17,7 +17,7 @@ from .reports import PathLike
 
 # Changes the store in a directory. It calls its second argument with a line when it would answer
 # its user that something is stored.
-SessionOf = Callable[[Path, Callable[[str], None]], object]
+PathSession = Callable[[Path, Callable[[str], None]], object]
 
 RECORD = code_to_run('recorder.main')
 # Calls a function: its file, its module, its name, and where Python looks for modules.
@@ -46,7 +46,7 @@ class Recording:
 
 def record(
     directory: PathLike,
-    session: Union[SessionOf, Sequence[str]],
+    session: Union[PathSession, Sequence[str]],
     trace: PathLike,
     *,
     ignore: Sequence[str] = (),
@@ -71,8 +71,9 @@ def record(
     has ended, without a limit.
 
     Refused is raised if no trace is written, so that an old one stays, or if a signal stops
-    crashfs-record, which may have written it; the directory is as the session left it. If the
-    session fails, or the trace lacks something, the recording isn't complete (Recording)."""
+    crashfs-record, which may have written it; the directory is as the session left it. Refused too
+    as in session_command(), before anything runs. If the session fails, or the trace lacks
+    something, the recording isn't complete (Recording)."""
     words = [word for glob in ignore for word in ('--ignore', glob)]
     words += ['--mapped'] if mapped else []
     words += ['--stacks'] if stacks else []
@@ -107,7 +108,7 @@ def run_recorder(
     return Recording(trace, finished.returncode != INCOMPLETE, messages)
 
 
-def session_command(session: Union[SessionOf, Sequence[str]]) -> List[str]:
+def session_command(session: Union[PathSession, Sequence[str]]) -> List[str]:
     """The words of a command that runs a session: those of a list, a text as its only word, or
     words that call a function in a new Python, with the descriptor LINES for acknowledged lines.
     Refused if a new Python can't find the function by file and name: a lambda, a function inside
@@ -126,7 +127,7 @@ def session_command(session: Union[SessionOf, Sequence[str]]) -> List[str]:
     return ['sh', '-c', WITH_LINES, 'sh', *python]
 
 
-def source_path(session: SessionOf) -> Optional[str]:
+def source_path(session: PathSession) -> Optional[str]:
     """The path of the source file of a function or class. None for a method of an object, since a
     new Python doesn't have that object, and for a callable without a source file, such as a
     partial."""

@@ -16,8 +16,9 @@ from .recordings import LINES
 
 def acknowledge(line: str) -> None:
     """Writes an acknowledged line, which may be empty, to the descriptor that crashfs-record
-    follows, in one write. ValueError if it has a line feed: then nothing is written. OSError in a
-    process without the descriptor, as after it was closed."""
+    follows, in one write. ValueError if it has a line feed, or a surrogate that isn't that of a
+    byte: then nothing is written. OSError in a process without the descriptor, as after it was
+    closed."""
     if '\n' in line:
         raise ValueError('an acknowledged line has no line feed')
     os.write(LINES, f'{line}\n'.encode('utf-8', 'surrogateescape'))

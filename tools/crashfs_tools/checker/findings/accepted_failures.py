@@ -85,9 +85,9 @@ class AcceptedFailures:
 
 def parse_entry(path: str, place: int, value: Any) -> AcceptedFailure:
     """The entry that a JSON value has. Refused, in a line with the file's path and the value's
-    place there, if the value is no object of texts, has an unknown key, lacks `cause` or `why`, or
-    has an empty one, or an `until` that is no date. A missing `lost`, `kept` or `until` counts as
-    empty."""
+    place there, from 1, if the value is no object of texts, has an unknown key, lacks `cause` or
+    `why`, or has an empty one, or an `until` that is no date. A missing `lost`, `kept` or `until`
+    counts as empty."""
     name = f'--accept {path}: entry {place}'
     if not isinstance(value, dict) or not all(isinstance(text, str) for text in value.values()):
         raise Refused(f'{name} is no object of texts')

@@ -8,7 +8,7 @@ from typing import Dict, FrozenSet, List, NamedTuple, Optional, Tuple
 from crashfs_tools.common.printable import count_text
 from crashfs_tools.common.trace_lines import TraceLine
 
-from .sync_points import LinePairs, end_of_path, is_synced, sync_points
+from .sync_points import LinePairs, first_path_change, is_synced, sync_points
 from .wording import fail_verb, failing_states_text
 
 ATOMIC = 'write a new file, sync it, rename it, sync the directory'
@@ -24,7 +24,8 @@ NOT_REPRODUCIBLE = (
 
 
 class FailingCounts(NamedTuple):
-    """How many different states fail in all, before and after a change of the trace."""
+    """How many different states fail or gave no answer in all, before and after a change of the
+    trace."""
 
     before: int
     after: int
@@ -54,9 +55,10 @@ class AllSyncs(NamedTuple):
 @dataclass
 class AdviceResult:
     """What the advice on a group does, tried on a copy of the trace; all numbers count different
-    states. The group has group_states, of which a crash of the copy may still leave states_left. Of
-    the copy's other states other_failures fail, of which earlier_failures failed without the advice
-    too. failing_counts has how many fail in all, without the advice and with it."""
+    states, and one without an answer counts as failing. The group has group_states, of which a
+    crash of the copy may still leave states_left. Of the copy's other states other_failures fail,
+    of which earlier_failures failed without the advice too. failing_counts has how many fail in
+    all, without the advice and with it."""
 
     states_left: int
     group_states: int
@@ -66,7 +68,7 @@ class AdviceResult:
 
     def __add__(self, other: AdviceResult) -> AdviceResult:
         """The results for two groups of different windows that are one entry, added up. A failing
-        state that both windows have counts twice in failing_counts."""
+        state that both windows have may count twice, except in states_left and group_states."""
         own_counts, other_counts = self.failing_counts, other.failing_counts
         return AdviceResult(
             self.states_left + other.states_left,
@@ -79,8 +81,9 @@ class AdviceResult:
         )
 
     def text(self, sync_count: int) -> str:
-        """A sentence on advice that helps: how many of the group's states are left, and how many
-        other states fail. sync_count is how many syncs are advised."""
+        """A sentence on advice that helps: how many of the group's states are left, that the syncs
+        aren't enough if any is, and how many other states fail. sync_count is how many syncs are
+        advised."""
         syncs = 'that sync' if sync_count == 1 else f'those {sync_count:,} syncs'
         left = f'{self.states_left:,} of these {self.group_states:,} states are left'
         if self.group_states == 1:
@@ -140,7 +143,7 @@ def loss_advice(
     if path is None:
         return Advice([sentence])
     syncs = sync_points(pairs, lines)
-    end = end_of_path(path, range(lost.number + 1, kept.number), lines)
+    end = first_path_change(path, range(lost.number + 1, kept.number), lines)
     end_text = f', before line {end.number} ({end.text})' if end else ''
     other_count = len(syncs) - 1
     others_text = f' (and at {count_text(other_count, "more place")})' if other_count > 0 else ''

@@ -152,9 +152,10 @@ class DiskSearch:
             yield TriedTree(tree, outcome, is_of_state=known_outcome is not None)
 
     def add_failures(self, tried_trees: List[TriedTree], sightings: Sightings) -> None:
-        """Adds to the sightings in how many trees on each file system COMMAND fails or gives no
-        answer, with some number of lines, and the failures in trees that no tried state has.
-        ReadingFault as explain_failures(): then only the numbers are added."""
+        """Adds to the sightings in how many different trees on each file system COMMAND fails or
+        gives no answer, with at least one number of acknowledged lines, and the failures in trees
+        that no tried state has. ReadingFault as explain_failures(): then only the counts are
+        added."""
         failing = [tried for tried in tried_trees if tried.outcome.result != GOOD]
         sightings.failing_counts = {
             name: len({tried.tree.digest for tried in failing if name in tried.tree.crashes})

@@ -134,10 +134,10 @@ class Group:
         return (*cause_and_result, self.is_torn, self.is_due_to_loss, *statements)
 
     def add_group(self, other: Group) -> None:
-        """Adds the states, pairs of lines and profiles of another group with the same key, which
-        isn't changed. The example stays, with all that is of the example. The result of the advice
-        becomes the sum of both results, None if one is None. The group is then covered only if both
-        groups were."""
+        """Adds the states and pairs of lines of another group with the same key and the same
+        profiles, which isn't changed. The example stays, with all that is of the example. The
+        result of the advice becomes the sum of both results, None if one is None. The group is then
+        covered only if both groups were."""
         self.states.extend(other.states)
         self.tried_states |= other.tried_states
         self.explained_states |= other.explained_states

@@ -200,7 +200,7 @@ def header_options(trace: str) -> List[str]:
 
 def remove_says(trace: str) -> str:
     """Removes the acknowledged lines from a trace's file, in place, and returns the new text of the
-    trace. OSError if the file can't be read or written."""
+    trace. OSError if the file can't be read or written; other exceptions as in without_says()."""
     with open(trace, **TEXT) as file:
         text = without_says(file.read())
     write_text(trace, text)

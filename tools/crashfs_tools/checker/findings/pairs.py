@@ -136,11 +136,11 @@ class Pairs:
     def prefix_pair(self, length: int, outcome: Outcome) -> Pair:
         """The pair of the prefix of a length, by rule 1; it must fail as a state with this outcome
         does. A prefix that wasn't tried is taken to fail alike."""
-        whole = len(self.plan.operations)
+        operation_count = len(self.plan.operations)
         shortest = self.last_failing_length(range(length, -1, -1), outcome)
-        longest = self.last_failing_length(range(length, whole + 1), outcome)
+        longest = self.last_failing_length(range(length, operation_count + 1), outcome)
         kept = shortest - 1 if shortest > 0 else None
-        return Pair(kept, longest if longest < whole else None)
+        return Pair(kept, longest if longest < operation_count else None)
 
     def last_failing_length(self, lengths: range, outcome: Outcome) -> int:
         """The last of some lengths before the first one whose prefix was tried and doesn't fail as

@@ -20,8 +20,8 @@ TreeAndSays = Tuple[Digest, int]
 @dataclass
 class EqualSets:
     """The outcomes of a plan's tried sets by what these leave, for plans of which all crash states
-    were asked for. If these are listed and the check was not stopped, `outcomes` has what each
-    allowed set leaves. left_by_sets has what each set leaves for which this was asked before."""
+    were asked for. If these are all listed and were all tried, `outcomes` has what each allowed set
+    leaves. left_by_sets has what each set leaves for which this was asked before."""
 
     trees: Trees
     outcomes: Dict[TreeAndSays, Outcome] = field(default_factory=dict)
@@ -60,7 +60,8 @@ def outcome_of_set(
     kept_set: int, outcomes: Dict[int, Outcome], equal_sets: Optional[EqualSets]
 ) -> Optional[Outcome]:
     """The outcome that `outcomes` has for a set or, if equal_sets is given, that of a tried state
-    that is equal to what the set leaves. None if neither is known."""
+    with the tree and the acknowledged lines that the set leaves. None if neither is known. The set
+    must be allowed."""
     if kept_set in outcomes or equal_sets is None:
         return outcomes.get(kept_set)
     return equal_sets.outcomes.get(equal_sets.tree_and_says(kept_set))

@@ -55,9 +55,7 @@ class DiskFailure:
         """Three lines of a report: on which file systems and after which crashes the tree was seen,
         why no tried state has it, and its first SHOWN_PATHS paths, with the count of the others."""
         more = len(self.tree) - SHOWN_PATHS
-        shown = [
-            path_with_content(path, self.tree[path]) for path in sorted(self.tree)[:SHOWN_PATHS]
-        ]
+        shown = [path_with_size(path, self.tree[path]) for path in sorted(self.tree)[:SHOWN_PATHS]]
         says = joined_by('or', list(map(str, self.says)))
         return [
             f'{sighting_text(list(self.crashes), self.crashes)}, says {says}',
@@ -172,7 +170,7 @@ def crash_text(crash: Crash) -> str:
     return f'{place}, {crash.flush_kind.value}'
 
 
-def path_with_content(path: str, entry: Entry) -> str:
-    """A path with the target of the symbolic link or the size of the file there, in parentheses;
+def path_with_size(path: str, entry: Entry) -> str:
+    """A path with the size of the file there, or the target of the symbolic link, in parentheses;
     only the path of a directory."""
     return path if entry.is_directory else f'{path} ({size_text(entry)})'

@@ -44,12 +44,14 @@ def sync_interval(lost: int, kept: int, lines: Dict[int, TraceLine]) -> Optional
     path = lines[lost].path_to_fsync if lost in lines else None
     if path is None:
         return None
-    end = end_of_path(path, range(lost + 1, kept), lines)
+    end = first_path_change(path, range(lost + 1, kept), lines)
     return Interval(end.number if end else kept, lost, path)
 
 
-def end_of_path(path: str, numbers: range, lines: Dict[int, TraceLine]) -> Optional[TraceLine]:
-    """The first of the lines with these numbers after which a path doesn't name what it named
+def first_path_change(
+    path: str, numbers: range, lines: Dict[int, TraceLine]
+) -> Optional[TraceLine]:
+    """The first of the lines with these numbers after which a path may no longer name what it named
     before; None if there is none. Numbers that `lines` doesn't have are skipped."""
     operations = (lines[number] for number in numbers if number in lines)
     return next((line for line in operations if line.may_change_path(path)), None)
@@ -65,8 +67,8 @@ def is_synced(path: str, lines: Dict[int, TraceLine]) -> bool:
 def never_synced_directory(syncs: Dict[int, str], lines: Dict[int, TraceLine]) -> str:
     """The path of the directory that all advised syncs are of, if the session never syncs that
     directory. `syncs` has the path of each, by the number of the line before it. An empty text if
-    the session syncs the directory, if the syncs are of a file or of several paths, or if there are
-    none."""
+    the session syncs the directory, if the syncs are of several paths, if one comes after a change
+    of its own path, as of a file, or if there are none."""
     paths = set(syncs.values())
     if len(paths) != 1:
         return ''

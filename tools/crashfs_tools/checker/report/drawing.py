@@ -16,10 +16,12 @@ Drawing = Dict[str, Any]
 
 
 def drawing_of(findings: Findings) -> Drawing:
-    """What the page's script draws of a window. `prefixes` is a row of signs, by the ends of the
-    prefixes. `holes` has a row for each end of a hole, in which the sign at k is that of the hole
-    that lacks k; `numbers` has the numbers of the states in each of these rows. A blank is in the
-    place of a state that isn't among the plan's `states`. `picks` is what picks_of() returns."""
+    """What the page's script draws of a window. `first` is the number of the first prefix, and
+    `prefixes` a row of signs, by the ends of the prefixes. `holes` has a row for each end of a
+    hole, in which the sign at k is that of the hole that lacks k; `numbers` has the numbers of the
+    states in each of these rows. A blank is in the place of a state that isn't among the plan's
+    `states`. `picks` is what picks_of() returns; `operations` are texts of the
+    micro-operations."""
     plan = findings.plan
     count = len(plan.operations)
     holes: List[List[str]] = [[' '] * max(0, end - 1) for end in range(count + 1)]

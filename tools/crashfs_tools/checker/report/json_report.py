@@ -40,8 +40,9 @@ def json_pieces(report: CheckReport) -> Iterator[str]:
 
 def partial_pieces(report: CheckReport, results: Results, *, has_rest: bool) -> Iterator[str]:
     """The text of the file of --json while the check still runs, in pieces, as if it were killed:
-    the results of earlier windows and, as `results`, of the present one, without entries. has_rest
-    says whether the session goes on after the present window. The report isn't changed."""
+    the results of earlier windows and, as `results`, of the present one, without entries and
+    recoveries. has_rest says whether the session goes on after the present window. The report isn't
+    changed."""
     head = replace(report.head, stopped=KILLED, has_rest=has_rest)
     yield head_piece(head)
     for window in report.packed_windows:
