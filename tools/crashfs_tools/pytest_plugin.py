@@ -53,6 +53,7 @@ class CrashStates:
         ignore: Sequence[str] = (),
         mapped: bool = False,
         block: Optional[int] = None,
+        trace_version: Optional[int] = None,
         accept: Optional[PathLike] = None,
         **options: Any,
     ) -> Report:
@@ -61,17 +62,25 @@ class CrashStates:
         answer, if the trace isn't complete, or if record() or check() refuses something. Any other
         exception, of these or of start, is passed on.
 
-        start is called with the directory before the session begins. ignore, mapped and block are
-        options of crashfs_tools.record, all others of crashfs_tools.check; accept takes the place
-        of --crash-accept. The store and the trace stay in the test's tmp_path: a second call in the
-        same test is a FileExistsError."""
+        start is called with the directory before the session begins. ignore, mapped, block and
+        trace_version are options of crashfs_tools.record, all others of crashfs_tools.check; accept
+        takes the place of --crash-accept. The store and the trace stay in the test's tmp_path: a
+        second call in the same test is a FileExistsError."""
         store = self.folder / 'store'
         store.mkdir()
         if start is not None:
             start(store)
         trace = self.folder / 'session.trace'
         try:
-            recording = record(store, session, trace, ignore=ignore, mapped=mapped, block=block)
+            recording = record(
+                store,
+                session,
+                trace,
+                ignore=ignore,
+                mapped=mapped,
+                block=block,
+                trace_version=trace_version,
+            )
             if not recording.is_complete:
                 fail('the trace is not complete:', *recording.messages)
             accept = accept or self.item.config.getoption('--crash-accept')

@@ -14,9 +14,9 @@ PAGES += sorted((TOP / 'docs').rglob('*.md')) + sorted((TOP / 'helpers').glob('*
 BLOCK = re.compile(r'(?<=\n\n)(?:    .*\n|\n+(?=    ))+')
 FENCE = re.compile(r'^```.*?^```$', re.M | re.S)
 FIRST_WORD = re.compile(
-    r'(?:\$ )?(?:tools/[\w-]+|crashfs[\w-]*|rt|apt-get|array=\S+|cargo|cd|\(cd|export|g\+\+|git|go|'
-    r'ls|man|mkdir|mount|PATH=\S+|pip|pipx|python3|rm|sbatch|sleep|sqlite3|strace|sudo|tar|truncate|'
-    r'/usr/bin/time|#!/bin/sh)'
+    r'(?:\$ )?(?:tools/[\w-]+|crashfs[\w-]*|rt|apt-get|array=\S+|cargo|cd|\(cd|export|g\+\+|git|'
+    r'go|ls|man|mkdir|mount|PATH=\S+|pip|pipx|python3|rm|sbatch|sleep|sqlite3|strace|sudo|tar|'
+    r'truncate|/usr/bin/time|#!/bin/sh)'
     r'(?=\s|$)'
 )
 # A synopsis, and not a command.

@@ -95,7 +95,7 @@ class Checks(InStore):
                 '    fsync the directory / between them',
                 '    tried: with that sync 0 of these 3 states are left, and no other fails',
                 '    state 20 also lacks line 14 (rmdir /tmp)',
-                '    under blocks and ordered',
+                '    under blocks and ordered (for ext4 and XFS, record with --trace-version 4)',
             ],
         )
         self.assert_nothing_left()

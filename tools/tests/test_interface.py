@@ -336,8 +336,9 @@ class Records(InterfaceCase):
     def test_a_text_is_one_program(self) -> None:
         os.mkdir(self.path('store'))
         program = self.write('session.sh', '#!/bin/sh\necho a > a\necho said\n', 0o755)
-        recording = record(self.path('store'), program, self.path('s.trace'))
+        recording = record(self.path('store'), program, self.path('s.trace'), trace_version=4)
         self.assertTrue(recording.is_complete, recording.messages)
+        self.assertTrue(self.read('s.trace').startswith('{"trace":4,'))
 
     def test_a_function_of_a_script_is_recorded(self) -> None:
         os.mkdir(self.path('store'))

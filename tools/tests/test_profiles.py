@@ -8,6 +8,7 @@ import unittest
 from types import SimpleNamespace
 from typing import Any, Dict, List, Set, Tuple
 
+from crashfs_tools.checker.report.report import add_version_hint
 from crashfs_tools.checker.report.text import profiles_text
 from crashfs_tools.checker.states.plan import PlannedTrace, PlanError, SetProfiles
 from crashfs_tools.checker.states.planning import Planner
@@ -26,6 +27,7 @@ UNLINK = '{"op":"unlink","path":"/a"}\n'
 REMOVED = HEADER + creat('/a') + UNLINK + creat('/b') + said('1')
 # The same, of a file that is torn in two places: no family has the sets of ordered that leave it.
 TORN = HEADER + creat('/a') + UNLINK + creat('/b') + write('/b', 3 * 4096)
+HINT = ' (for ext4 and XFS, record with --trace-version 4)'
 # Fails if /b is there, and /a isn't.
 WITHOUT_A = 'test -e a -o ! -e b || { echo lost: a; exit 1; }'
 TreeAndCount = Tuple[object, int]
@@ -236,7 +238,7 @@ class Reports(InFolder):
         ran = self.run_tool('crashfs-check', *words, '--', 'sh', '-c', script)
         self.assertEqual((ran.returncode, ran.stderr), (1, ''))
         self.assertEqual(ran.stdout.count('e.g.') + ran.stdout.count('1 state: '), 2)
-        self.assertEqual(re.findall('under .*', ran.stdout), ['under blocks and ordered'])
+        self.assertEqual(re.findall('under .*', ran.stdout), [f'under blocks and ordered{HINT}'])
         found = [group['under'] for group in json.loads(self.read('r.json'))['groups']]
         self.assertEqual(found, [{'blocks': 1, 'ordered': 1}, {}])
 
@@ -244,7 +246,9 @@ class Reports(InFolder):
         def text(are_all: bool = True, **under: int) -> str:
             sets = {name: frozenset((it,) for it in range(count)) for name, count in under.items()}
             most = max(under.values())
-            group = SimpleNamespace(states_by_profile=sets, tried_states=sets, count=most)
+            group = SimpleNamespace(
+                states_by_profile=sets, tried_states=sets, count=most, has_version_hint=False
+            )
             found: Any = group
             return profiles_text(found, are_all=are_all)
 
@@ -260,6 +264,36 @@ class Reports(InFolder):
         self.assertEqual(
             text(False, blocks=3, ordered=0),
             'under blocks; by the sets that were tried not under ordered',
+        )
+
+    def test_one_entry_of_an_older_trace_says_how_to_learn_of_ext4_and_xfs(self) -> None:
+        """The first entry that `ordered` allows, and that isn't accepted or covered; none if the
+        trace has `journal`."""
+
+        def hinted(*groups: Any) -> List[bool]:
+            for one in groups:
+                one.has_version_hint, one.tried_states = False, {(0,)}
+            add_version_hint(list(groups))
+            return [one.has_version_hint for one in groups]
+
+        def group(*names: str, is_covered: bool = False, accepted: Any = None) -> Any:
+            sets = {name: {(0,)} if name in names else set() for name in ('blocks', 'ordered')}
+            return SimpleNamespace(
+                states_by_profile=sets, is_covered=is_covered, accepted_entry=accepted
+            )
+
+        both = 'blocks', 'ordered'
+        skipped = [group('blocks'), group(*both, is_covered=True), group(*both, accepted=1)]
+        self.assertEqual(
+            hinted(*skipped, group(*both), group(*both)), [False, False, False, True, False]
+        )
+        newer = group(*both)
+        newer.states_by_profile['journal'] = set()
+        self.assertEqual(hinted(newer), [False])
+        newer.has_version_hint, newer.count = True, 1
+        self.assertEqual(
+            profiles_text(newer, are_all=True),
+            f'under blocks and ordered; not under journal (ext4, XFS){HINT}',
         )
 
 

@@ -55,6 +55,7 @@ def record(
     begin_after: Optional[str] = None,
     profile: Optional[str] = None,
     block: Optional[int] = None,
+    trace_version: Optional[int] = None,
     acknowledged: Sequence[str] = (),
     environment: Optional[Mapping[str, str]] = None,
 ) -> Recording:
@@ -80,6 +81,7 @@ def record(
     words += ['--begin-after', begin_after] if begin_after is not None else []
     words += ['--profile', profile] if profile is not None else []
     words += ['--block', str(block)] if block is not None else []
+    words += ['--trace-version', str(trace_version)] if trace_version is not None else []
     words += [word for name in acknowledged for word in ('--say-fd', name)]
     words += [] if isinstance(session, Sequence) else ['--say-fd', str(LINES)]
     words += [os.fspath(directory), os.fspath(trace), '--', *session_command(session)]

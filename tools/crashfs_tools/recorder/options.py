@@ -173,7 +173,8 @@ OPTIONS: Dict[str, Dict[str, Any]] = {
         choices=[AUTO, *VERSIONS],
         default=AUTO,
         help='the version of the trace. 4 has symbolic links, renamed directories and files of up '
-        'to 1 GiB (default: auto, which is 3 if that has all that happens, else 4)',
+        'to 1 GiB, and a check also says what ext4 and XFS may leave (default: auto, which is 3 if '
+        'that has all that happens, else 4)',
     ),
     # What compares the directory at the end.
     '--crashfs': dict(

@@ -75,6 +75,8 @@ class Group:
     is_covered: bool = False
     # For each profile the tried states that a crash may leave by its rules.
     states_by_profile: Dict[str, FrozenSet[TriedState]] = field(default_factory=dict)
+    # Whether the report says here how to learn which states `journal` allows.
+    has_version_hint: bool = False
     # The accepted failure that the group is; the same if its last day has passed.
     accepted_entry: Optional[AcceptedFailure] = None
     expired_entry: Optional[AcceptedFailure] = None

@@ -12,8 +12,9 @@ from crashfs_tools.checker.findings.accepted_failures import AcceptedFailure, Ac
 from crashfs_tools.checker.running.results import Head
 from crashfs_tools.checker.running.runner import BAD, NO_ANSWER, Outcome
 from crashfs_tools.checker.states.plan import State
+from crashfs_tools.common.trace import JOURNAL, ORDERED
 
-from .counts import StateCounts
+from .counts import StateCounts, counts_by_profile
 from .json_text import COMPACT, as_json, pack_text
 
 if TYPE_CHECKING:
@@ -92,8 +93,8 @@ class CheckReport:
 
     def groups(self) -> List[Group]:
         """Copies of the groups of all windows, the largest first. Groups with the same key become
-        one. The advice is made again, and accepted failures are marked. Each call makes new copies,
-        which may be slow."""
+        one. The advice is made again, accepted failures are marked, and one group gets the version
+        hint. Each call makes new copies, which may be slow."""
         merged = merged_groups(
             replace(group, states=list(group.states), advice=replace(group.advice))
             for groups in self.groups_of_windows
@@ -102,6 +103,7 @@ class CheckReport:
         set_all_advice(merged, self.head.lines)
         for group in merged:
             self.mark_accepted(group)
+        add_version_hint(merged)
         return merged
 
     def mark_accepted(self, group: Group) -> None:
@@ -178,6 +180,18 @@ class CheckReport:
         are in not_done don't matter."""
         is_whole = not self.counts.untried_count and not self.head.stopped
         return is_whole and not any(recovery.fault for recovery in self.recoveries)
+
+
+def add_version_hint(groups: List[Group]) -> None:
+    """Sets has_version_hint of the first group with states that `ordered` allows, if their trace is
+    of a version without `journal`, which allows fewer. Covered and accepted groups are skipped:
+    they aren't shown, or are known."""
+    for group in groups:
+        counts = counts_by_profile(group)
+        is_open = not group.is_covered and group.accepted_entry is None
+        if is_open and counts.get(ORDERED) and JOURNAL not in counts:
+            group.has_version_hint = True
+            return
 
 
 def packed_results(findings: Findings) -> bytes:

@@ -33,6 +33,8 @@ SETS_UNPROVED = 'unproved: the Python implementation found which states there ar
 HOW_TO_BUILD = ' (tools/build builds crashfs)'
 # How a profile is named if file systems were seen to keep to it (docs/DISKS.md).
 SHOWN_PROFILES = {'journal': 'journal (ext4, XFS)'}
+# How to learn which states `journal` allows, if the trace is of an older version.
+VERSION_HINT = 'for ext4 and XFS, record with --trace-version 4'
 
 
 @dataclass(frozen=True)
@@ -346,7 +348,8 @@ def second_crash_details(group: Group, second_crash: SecondCrash) -> List[str]:
 def profiles_text(group: Group, *, are_all: bool) -> str:
     """The profiles that allow states of an entry, with how many if a profile allows only some, and
     those that allow none; counts_by_profile() must not be empty. are_all says whether all sets that
-    leave the states were looked at; if not, the text says so."""
+    leave the states were looked at; if not, the text says so. VERSION_HINT is last, if the group
+    has it."""
     counts = {
         SHOWN_PROFILES.get(name, name): count for name, count in counts_by_profile(group).items()
     }
@@ -355,10 +358,11 @@ def profiles_text(group: Group, *, are_all: bool) -> str:
         f'{name}: {count:,}' if has_parts else name for name, count in counts.items() if count
     ]
     others = [name for name, count in counts.items() if not count]
-    if not others:
-        return f'under {joined_by("and", allowing)}'
-    by_which = '' if are_all else 'by the sets that were tried '
-    return f'under {joined_by("and", allowing)}; {by_which}not under {joined_by("or", others)}'
+    text = f'under {joined_by("and", allowing)}'
+    if others:
+        by_which = '' if are_all else 'by the sets that were tried '
+        text += f'; {by_which}not under {joined_by("or", others)}'
+    return f'{text} ({VERSION_HINT})' if group.has_version_hint else text
 
 
 def acceptance_lines(group: Group) -> List[str]:
