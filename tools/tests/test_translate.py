@@ -75,6 +75,11 @@ class Calls(unittest.TestCase):
         log = ['1 chown("f", 99999999999, 99999999999) = 0']
         self.assertEqual(operations_of(log, FILE), ['chown /f u99999999999 g99999999999'])
 
+    def test_only_lchown_changes_the_owner_of_a_symbolic_link_itself(self):
+        calls = ['1 lchown("l", 54321, -1) = 0', '1 chown("l", 54322, -1) = 0']
+        operations = operations_of(['1 symlink("f", "l") = 0', *calls], FILE)
+        self.assertEqual(operations[1:], ['chown /l u54321 u', 'chown /f u54322 u'])
+
     def test_an_empty_access_control_list_changes_no_mode(self):
         for call in ('setxattr("/d/f"', 'fsetxattr(3</d/f>'):
             log = [OPEN_F, f'1 {call}, "system.posix_acl_access", "\2\0\0\0", 4, 0) = 0']

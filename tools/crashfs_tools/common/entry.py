@@ -3,7 +3,7 @@
 from __future__ import annotations
 
 from dataclasses import dataclass
-from typing import Dict, Iterator, Optional, Union
+from typing import Dict, Iterable, Iterator, Optional, Union
 
 from . import limits
 from .sparse import SparseBytes
@@ -81,6 +81,13 @@ def parent_of(path: str) -> str:
     """The path of the directory in which the file or directory of a path is; `/` for the root
     itself."""
     return path.rpartition('/')[0] or '/'
+
+
+def paths_below(paths: Iterable[str], directory: str) -> Iterator[str]:
+    """Those of some paths that are below a directory, which isn't the root, at any depth. What the
+    paths come from must not be changed before the last one is taken."""
+    prefix = directory + '/'
+    return (path for path in paths if path.startswith(prefix))
 
 
 def ancestors_and_path(path: str) -> Iterator[str]:

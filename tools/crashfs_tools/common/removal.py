@@ -87,7 +87,8 @@ def make_trash(trash: str, path: str, dir_fd: Optional[int]) -> None:
 def make_room(path: str, dir_fd: Optional[int]) -> None:
     """Removes one file or empty directory that is in a directory, at any depth, but nothing that is
     mounted there. Follows only the first entry of each directory; nothing happens if the directory
-    itself is empty. OSError if the entry that it finds may not be removed."""
+    itself is empty. OSError if a directory can't be opened or read, or if the entry that it finds
+    can't be removed."""
     directory_fd = os.open(path, FOLDER, dir_fd=dir_fd)
     device = os.fstat(directory_fd).st_dev
     try:
@@ -164,8 +165,8 @@ class Removal:
 
     def empty_directory(self, name: str) -> None:
         """Removes the files of a directory in the trash, and moves its directories to the trash; a
-        directory that can't be moved stays. OSError if a file can't be removed: the entries after
-        it stay too."""
+        directory that can't be moved stays. OSError if the directory can't be opened or read, or if
+        a file can't be removed: the entries after that file stay too."""
         directory_fd = self.open_in_trash(name)
         try:
             allow_owner(directory_fd)

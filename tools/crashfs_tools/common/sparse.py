@@ -106,8 +106,8 @@ class SparseBytes:
             self.pages[number][begin_in_page : begin_in_page + len(piece)] = piece
 
     def clear(self, begin: int, end: int) -> None:
-        """Makes the bytes from offset `begin` to before `end` zeros, and drops pages that are
-        wholly in this range. The length stays."""
+        """Makes the bytes from offset `begin` to before `end` zeros, and drops the pages of which
+        all bytes are among these and before the length. The length stays."""
         end = min(end, self.length)
         first_number, end_number = begin // PAGE_BYTES, -(-end // PAGE_BYTES)
         numbers: Iterable[int] = range(first_number, end_number)
@@ -124,8 +124,7 @@ class SparseBytes:
 
     def data_ranges(self, begin: int, end: int) -> List[Tuple[int, int]]:
         """The parts of a range whose pages aren't all zeros, each as its two ends, ascending. A
-        part may begin where another one ends, since page_runs() ends each run at about
-        PART_BYTES."""
+        part may begin where another one ends, as runs of page_runs() do."""
         ranges = []
         for run_begin, run in self.page_runs():
             range_begin, range_end = max(begin, run_begin), min(end, run_begin + len(run))

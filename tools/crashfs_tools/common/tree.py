@@ -2,10 +2,10 @@
 
 from __future__ import annotations
 
-from typing import Dict, Iterator, List, Optional, Tuple, Union
+from typing import Dict, List, Optional, Tuple, Union
 
 from . import limits
-from .entry import DIRECTORY_KIND, SYMLINK_KIND, Entries, Entry, parent_of
+from .entry import DIRECTORY_KIND, SYMLINK_KIND, Entries, Entry, parent_of, paths_below
 from .sparse import LARGE_BYTES, SparseBytes
 from .trace import (
     BLOCKS,
@@ -209,14 +209,8 @@ class Tree:
         entry = self.entries.get(path)
         if entry is None or not entry.is_directory:
             return f'{path} is no directory of the trace'
-        is_empty = next(self.paths_below(path), None) is None
+        is_empty = next(paths_below(self.entries, path), None) is None
         return None if is_empty else f'{path} has entries'
-
-    def paths_below(self, directory: str) -> Iterator[str]:
-        """The paths of all that is below a directory, which isn't the root, at any depth. The tree
-        must not be changed before the last one is yielded."""
-        prefix = directory + '/'
-        return (path for path in self.entries if path.startswith(prefix))
 
     def size_fault(self, operation: Operation) -> Optional[str]:
         """Why a file can't have the size that a write or truncate gives it; None if it can, and for
@@ -265,7 +259,7 @@ class Tree:
         if parent_of(source) != parent_of(target):
             self.move_count += 1
             self.micro_operations_of_version_4 += self.profile == BLOCKS and not is_directory
-        inner_paths = self.paths_below(source) if is_directory else ()
+        inner_paths = paths_below(self.entries, source) if is_directory else ()
         for path in (source, *inner_paths):
             new_path = target + path[len(source) :]
             self.entries[new_path] = self.entries.pop(path)

@@ -25,7 +25,8 @@ def entries_by_replay(lines: Iterable[str]) -> Entries:
 
 def entries_by_program(program: Crashfs, trace_path: str) -> Entries:
     """The entries at a trace's end, without the root, by `crashfs tar`: they are those of the last
-    prefix. ProgramFault if the program refuses the trace or can't be started."""
+    prefix. ProgramFault if the program refuses the trace or can't be started; OSError as in
+    Crashfs.start()."""
     number = program.count_states(trace_path, with_holes=False) - 1
     return program.tree_of_state(trace_path, number)
 

@@ -6,6 +6,7 @@ from dataclasses import dataclass, field
 from typing import Dict, List, Optional, Set, Union
 
 from crashfs_tools.common import limits
+from crashfs_tools.common.entry import paths_below
 from crashfs_tools.common.sparse import SparseBytes
 from crashfs_tools.common.trace import StartSymlink
 
@@ -177,7 +178,7 @@ class LiveTree:
     def paths_below(self, path: str) -> List[str]:
         """All paths below a directory, which must not be the root, at any depth; empty for any
         other path."""
-        return [other for other in self.nodes if other.startswith(path + '/')]
+        return list(paths_below(self.nodes, path))
 
     def move_node(self, source: str, target: str) -> None:
         """Moves the node at a path, and all that is below it, to a free path. Their traced_paths

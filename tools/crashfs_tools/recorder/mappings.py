@@ -55,17 +55,19 @@ class Memory:
             parts.append(mapping.part_between(end, mapping.end))
         self.mappings = [part for part in parts if part.length > 0]
 
-    def move(self, old: int, old_length: int, new: int, new_length: int, *, keep_old: bool) -> None:
-        """Moves what is mapped at the address `old` to the address `new`, with another length, as
-        mremap does. What was mapped at the new addresses is unmapped. The old addresses stay mapped
-        if keep_old is set, or if old_length is 0. If several mappings are at the old addresses,
-        only the first of them in `mappings` is moved."""
-        moved = next(self.parts_in(old, old_length or 1), None)
+    def move(
+        self, old_address: int, old_length: int, address: int, length: int, *, keep_old: bool
+    ) -> None:
+        """Moves what is mapped at old_address to another address, with another length, as mremap
+        does. What was mapped at the new addresses is unmapped. The old addresses stay mapped if
+        keep_old is set, or if old_length is 0. If several mappings are at the old addresses, only
+        the first of them in `mappings` is moved."""
+        moved = next(self.parts_in(old_address, old_length or 1), None)
         if not keep_old and old_length:
-            self.unmap(old, old_length)
-        self.unmap(new, new_length)
+            self.unmap(old_address, old_length)
+        self.unmap(address, length)
         if moved is not None:
-            self.map(replace(moved, address=new, length=round_up_to_pages(new_length)))
+            self.map(replace(moved, address=address, length=round_up_to_pages(length)))
 
     def parts_in(self, address: int, length: int) -> Iterator[Mapping]:
         """Yields the parts of mappings that are in a range of addresses, in the order of

@@ -201,8 +201,8 @@ def connections_with_lines(calls: Iterable[Call]) -> FrozenSet[str]:
 
 def sent_bytes(call: Call) -> Optional[bytes]:
     """The bytes that a call of WRITES or SENDS has written or sent; empty if the call failed. None
-    if the log lacks some of them, also for a sendmmsg that failed. LogError if an argument isn't as
-    strace writes it."""
+    if strace doesn't show all bytes of the call, also if it failed: it cut them, or printed their
+    address; and for a sendmmsg that failed. LogError if an argument isn't as strace writes it."""
     word = call.argument(1)
     if call.name == 'sendmmsg':
         return arguments.parse_messages(word)

@@ -18,14 +18,20 @@ from crashfs_tools.recorder.strace_log import Call
 UNCHANGED = {'-1', '4294967295', '0xffffffff'}
 
 
+def first_argument_node(files: LiveFiles, process: Process, call: Call) -> Optional[Node]:
+    """The file or directory of a call's first argument: of a descriptor, if the call's name begins
+    with `f`, or at a path; a name that begins with `l`, as lchown, means a symbolic link itself.
+    None if it isn't followed, which may be reported as in LiveFiles.find_open_file()."""
+    if call.name.startswith('f'):
+        return node_of(files.find_open_file(process, call))
+    follow_last_link = not call.name.startswith('l')
+    return files.node_argument(process, call, 0, follow_last_link=follow_last_link)
+
+
 def on_chmod(files: LiveFiles, process: Process, call: Call) -> None:
-    """Sets the mode of the file at a path."""
-    set_mode(files, files.node_argument(process, call, 0), call.argument(1))
-
-
-def on_fchmod(files: LiveFiles, process: Process, call: Call) -> None:
-    """Sets the mode of an open file or directory."""
-    set_mode(files, node_of(files.find_open_file(process, call)), call.argument(1))
+    """Sets the mode of the file or directory of the first argument: a path, or, for fchmod, a
+    descriptor."""
+    set_mode(files, first_argument_node(files, process, call), call.argument(1))
 
 
 def on_fchmodat(files: LiveFiles, process: Process, call: Call) -> None:
@@ -51,16 +57,9 @@ def set_mode(files: LiveFiles, node: Optional[Node], word: str) -> None:
 
 
 def on_chown(files: LiveFiles, process: Process, call: Call) -> None:
-    """Sets the owner and group of the file at a path. For lchown, and lchown32, a symbolic link at
-    the path's end isn't followed."""
-    follow_last_link = not call.name.startswith('l')
-    node = files.node_argument(process, call, 0, follow_last_link=follow_last_link)
-    set_owner(files, node, call.argument(1), call.argument(2))
-
-
-def on_fchown(files: LiveFiles, process: Process, call: Call) -> None:
-    """Sets the owner and group of an open file or directory."""
-    node = node_of(files.find_open_file(process, call))
+    """Sets the owner and group of the file or directory of the first argument: a path, or, for
+    fchown, a descriptor. For lchown a symbolic link at the path's end isn't followed."""
+    node = first_argument_node(files, process, call)
     set_owner(files, node, call.argument(1), call.argument(2))
 
 
@@ -101,7 +100,7 @@ def on_attribute(files: LiveFiles, process: Process, call: Call) -> None:
     """Notes a change of the extended attributes of a file in the trace. If an access control list
     is set, its rights become the file's mode, and a list that has only a mode isn't noted; nor is
     an empty list, which leaves the mode as it is."""
-    node = node_with_attributes(files, process, call)
+    node = first_argument_node(files, process, call)
     path = path_in_trace(node)
     if path is None:
         return
@@ -121,28 +120,18 @@ def rights_of_list(call: Call) -> Optional[Dict[int, int]]:
     return acl.parse_rights(arguments.parse_bytes(call.argument(2)) or b'')
 
 
-def node_with_attributes(files: LiveFiles, process: Process, call: Call) -> Optional[Node]:
-    """The file or directory whose extended attributes a call changes: by a descriptor (fsetxattr,
-    fremovexattr), or by a path; lsetxattr and lremovexattr mean a symbolic link itself. None if it
-    isn't followed, which may be reported as in LiveFiles.find_open_file()."""
-    if call.name.startswith('f'):
-        return node_of(files.find_open_file(process, call))
-    follow_last_link = not call.name.startswith('l')
-    return files.node_argument(process, call, 0, follow_last_link=follow_last_link)
-
-
 HANDLERS = {
     'chmod': on_chmod,
-    'fchmod': on_fchmod,
+    'fchmod': on_chmod,
     'fchmodat': on_fchmodat,
     'fchmodat2': on_fchmodat,
     'chown': on_chown,
     'lchown': on_chown,
-    'fchown': on_fchown,
+    'fchown': on_chown,
     'fchownat': on_fchownat,
     'chown32': on_chown,
     'lchown32': on_chown,
-    'fchown32': on_fchown,
+    'fchown32': on_chown,
     **{
         f'{kind}{name}': on_attribute
         for kind in ('', 'l', 'f')

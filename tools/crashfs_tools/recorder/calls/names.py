@@ -140,9 +140,9 @@ def add_link(files: LiveFiles, node: Optional[Node], target: Optional[str]) -> N
 
 
 def name_temporary_file(files: LiveFiles, node: Node, path: str) -> None:
-    """Gives a file of O_TMPFILE its first name. The trace gets a file of this name, with all its
-    bytes; if these aren't followed any more, that is reported. If the file was synced before, the
-    trace gets a sync after the name, which is reported too."""
+    """Gives a file of O_TMPFILE its first name, as add_new_node() does. If the trace gets it, then
+    with all its bytes; if these aren't followed any more, that is reported. If the file was synced
+    before, that is reported in any case, and a trace that has the file gets the sync then."""
     files.add_new_node(path, node)
     is_traced = path in node.traced_paths
     if is_traced and node.data is None:

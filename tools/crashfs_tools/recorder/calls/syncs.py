@@ -87,9 +87,9 @@ def on_munmap(files: LiveFiles, process: Process, call: Call) -> None:
 def on_mremap(files: LiveFiles, process: Process, call: Call) -> None:
     """Moves a mapping, or gives it another length, as Memory.move() does. With MREMAP_DONTUNMAP the
     old addresses stay mapped."""
-    old, old_length, new_length = [parse_integer(call.argument(index)) for index in range(3)]
+    old_address, old_length, length = [parse_integer(call.argument(index)) for index in range(3)]
     keep_old = 'DONTUNMAP' in call.argument(3)
-    process.memory.move(old, old_length, call.result, new_length, keep_old=keep_old)
+    process.memory.move(old_address, old_length, call.result, length, keep_old=keep_old)
 
 
 def on_mprotect(files: LiveFiles, process: Process, call: Call) -> None:
