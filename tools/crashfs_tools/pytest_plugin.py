@@ -58,19 +58,14 @@ class CrashStates:
         **options: Any,
     ) -> Report:
         """Records the session, runs the recovery in its crash states, and returns the report. The
-        test fails with one failure for each entry that isn't accepted; also if a state has no
-        answer, if the trace isn't complete, or if record() or check() refuses something. Any other
-        exception, of these or of start, is passed on.
+        test fails with a failure for each entry that isn't accepted; also if a state has no answer,
+        if the trace isn't complete, or if record() or check() refuses something. Exceptions of
+        start, and others of these, are passed on.
 
         start is called with the directory before the session begins. ignore, mapped, block and
         trace_version are options of crashfs_tools.record, all others of crashfs_tools.check; accept
-        takes the place of --crash-accept. The store and the trace stay in the test's tmp_path: a
-        second call in the same test is a FileExistsError."""
-        store = self.folder / 'store'
-        store.mkdir()
-        if start is not None:
-            start(store)
-        trace = self.folder / 'session.trace'
+        takes the place of --crash-accept. A second call in the same test is a FileExistsError."""
+        store, trace = self.make_store(start), self.folder / 'session.trace'
         try:
             recording = record(
                 store,
@@ -89,6 +84,15 @@ class CrashStates:
             fail(str(refused))
         self.fail_if_bad(report, trace)
         return report
+
+    def make_store(self, start: Optional[Callable[[Path], object]]) -> Path:
+        """Makes the directory of the session in the test's tmp_path, where it stays as the trace
+        does, calls start with it, if there is one, and returns it. FileExistsError if it exists."""
+        store = self.folder / 'store'
+        store.mkdir()
+        if start is not None:
+            start(store)
+        return store
 
     def fail_if_bad(self, report: Report, trace: Path) -> None:
         """Fails the test with the first failure of the report; the texts of the others stay in the

@@ -68,16 +68,14 @@ def record(
     the start tree.
 
     The options are those of crashfs-record, and acknowledged is its --say-fd. environment is that
-    of the session and of crashfs-record; None is that of this process. It waits until the session
-    has ended, without a limit.
+    of both; None is that of this process. It waits for the session's end, without a limit.
 
     Refused is raised if no trace is written, so that an old one stays, or if a signal stops
     crashfs-record, which may have written it; the directory is as the session left it. Refused too
     as in session_command(), before anything runs. If the session fails, or the trace lacks
     something, the recording isn't complete (Recording)."""
     words = [word for glob in ignore for word in ('--ignore', glob)]
-    words += ['--mapped'] if mapped else []
-    words += ['--stacks'] if stacks else []
+    words += [word for word, is_given in (('--mapped', mapped), ('--stacks', stacks)) if is_given]
     words += ['--begin-after', begin_after] if begin_after is not None else []
     words += ['--profile', profile] if profile is not None else []
     words += ['--block', str(block)] if block is not None else []
