@@ -18,25 +18,40 @@ TOOLS = Path(__file__).resolve().parent.parent
 MODULE_SECONDS = 1800.0
 
 
+class PassCounter(unittest.TextTestResult):
+    """A result that also counts the tests that passed: no part of them failed or was skipped."""
+
+    passed = 0
+
+    def addSuccess(self, test: unittest.TestCase) -> None:
+        """Counts a test that passed."""
+        super().addSuccess(test)
+        self.passed += 1
+
+
 @dataclass
 class ModuleResult:
     """What came of the tests of a module. A module that can't be imported, or whose process ends
     without a result, has one failed test."""
 
     name: str
+    # Tests that were begun: skipped ones are among them, unless their class was skipped as a whole.
     run: int = 0
+    passed: int = 0
+    # Each failed subtest counts.
     failed: int = 0
-    # Why tests were skipped, a text for each.
+    # Why tests, subtests and classes were skipped, a text for each.
     skips: List[str] = field(default_factory=list)
     # What the tests, and unittest about them, printed.
     output: str = ''
 
 
-def result_of_tests(name: str, tests: unittest.TestResult) -> ModuleResult:
+def result_of_tests(name: str, tests: PassCounter) -> ModuleResult:
     """The result, without the output, of a module whose tests ran. An unexpected success counts as
     failed."""
     failed = len(tests.failures) + len(tests.errors) + len(tests.unexpectedSuccesses)
-    return ModuleResult(name, tests.testsRun, failed, [reason for _, reason in tests.skipped])
+    skips = [reason for _, reason in tests.skipped]
+    return ModuleResult(name, tests.testsRun, tests.passed, failed, skips)
 
 
 def run_here(name: str, result_path: Path) -> int:
@@ -47,7 +62,9 @@ def run_here(name: str, result_path: Path) -> int:
     path."""
     faulthandler.dump_traceback_later(MODULE_SECONDS, exit=True)
     tests = unittest.defaultTestLoader.loadTestsFromName(name)
-    result = result_of_tests(name, unittest.TextTestRunner().run(tests))
+    counted = unittest.TextTestRunner(resultclass=PassCounter).run(tests)
+    assert isinstance(counted, PassCounter)
+    result = result_of_tests(name, counted)
     result_path.write_text(json.dumps(asdict(result)), encoding='utf-8')
     faulthandler.cancel_dump_traceback_later()
     return 0

@@ -98,9 +98,10 @@ def count_skipped_for_program(reasons: Sequence[str]) -> int:
 
 
 def summary_line(results: Sequence[ModuleResult], *, needs_program: bool) -> str:
-    """How many tests ran, failed and were skipped, and why they were skipped, the commonest reason
-    first. With needs_program the line also counts those that were skipped for lack of `crashfs`, as
-    a fault."""
+    """What unittest counted: the tests that ran, skipped ones among them; the failures, one for
+    each failed subtest; and the skips, with their reasons, the commonest first. If needs_program is
+    set and tests were skipped for lack of `crashfs`, the end of the line counts these as a
+    fault."""
     skips = skip_reasons(results)
     run, failed = sum(result.run for result in results), sum(result.failed for result in results)
     line = f'{run} run, {failed} failed, {len(skips)} skipped'
@@ -114,12 +115,12 @@ def summary_line(results: Sequence[ModuleResult], *, needs_program: bool) -> str
 
 
 def has_passed(results: Sequence[ModuleResult], *, needs_program: bool) -> bool:
-    """Whether at least one test ran and none failed; with needs_program also whether none was
+    """Whether at least one test passed and none failed; with needs_program also whether none was
     skipped for lack of `crashfs`."""
     skips = skip_reasons(results)
     is_complete = not (needs_program and count_skipped_for_program(skips))
     has_failed = any(result.failed for result in results)
-    return is_complete and not has_failed and any(result.run for result in results)
+    return is_complete and not has_failed and any(result.passed for result in results)
 
 
 def main(words: Optional[List[str]] = None) -> int:

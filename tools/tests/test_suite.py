@@ -12,7 +12,7 @@ import unittest
 from typing import List
 from unittest import mock
 
-from gating.modules import ModuleResult, run_module
+from gating.modules import ModuleResult, PassCounter, result_of_tests, run_module
 from gating.suite import TOOLS, count_at_once, has_passed, run_modules, summary_line
 
 from .support import PATIENCE, InFolder
@@ -55,18 +55,55 @@ class SuiteTests(InFolder):
         self.assertEqual([count_at_once(count) for count in (1, 2, 4, 8)], [1, 1, 3, 6])
 
     def test_the_line_counts_all_modules(self) -> None:
-        results = [ModuleResult('a', 3, 1, ['x', 'no crashfs']), ModuleResult('b', 2, 0, ['x'])]
+        results = [
+            ModuleResult('a', run=3, failed=1, skips=['x', 'no crashfs']),
+            ModuleResult('b', run=2, passed=1, skips=['x']),
+        ]
         line = '5 run, 1 failed, 3 skipped (2: x; 1: no crashfs)'
         self.assertEqual(summary_line(results, needs_program=False), line)
         self.assertFalse(has_passed(results[1:] + results[:1], needs_program=False))
         self.assertTrue(has_passed(results[1:], needs_program=True))
-        self.assertFalse(has_passed([ModuleResult('c', 1, 0, ['no crashfs'])], needs_program=True))
+        without_program = ModuleResult('c', run=2, passed=1, skips=['no crashfs'])
+        self.assertFalse(has_passed([without_program], needs_program=True))
         self.assertFalse(has_passed([ModuleResult('none')], needs_program=False))
+
+    def test_a_run_in_which_every_test_was_skipped_has_not_passed(self) -> None:
+        results = [ModuleResult('a', run=3, skips=['x'] * 3), ModuleResult('b')]
+        self.assertFalse(has_passed(results, needs_program=False))
+        self.assertTrue(has_passed([*results, ModuleResult('c', 1, 1)], needs_program=False))
+
+    def test_skipped_tests_are_no_passed_ones_whatever_skips_them(self) -> None:
+        class Right(unittest.TestCase):
+            def test_it_passes(self) -> None:
+                self.assertTrue(self)
+
+            def test_its_subtests_are_skipped(self) -> None:
+                for number in range(3):
+                    with self.subTest(number):
+                        self.skipTest('part')
+
+            @unittest.skip('decorated')
+            def test_it_is_skipped(self) -> None:
+                self.fail()
+
+        class Skipped(Right):
+            @classmethod
+            def setUpClass(cls) -> None:
+                raise unittest.SkipTest('class')
+
+        load = unittest.defaultTestLoader.loadTestsFromTestCase
+        suite = unittest.TestSuite([load(Skipped), load(Right)])
+        runner = unittest.TextTestRunner(io.StringIO(), resultclass=PassCounter)
+        result = result_of_tests('m', runner.run(suite))
+        self.assertEqual((result.run, result.passed, result.failed), (3, 1, 0))
+        self.assertEqual(sorted(result.skips), ['class', 'decorated', 'part', 'part', 'part'])
+        self.assertTrue(has_passed([result], needs_program=False))
 
     def test_a_module_is_run_and_one_that_is_not_there_fails(self) -> None:
         result = run_module('tests.test_order')
         self.assertEqual((result.failed, result.skips), (0, []))
         self.assertGreater(result.run, 0)
+        self.assertEqual(result.passed, result.run)
         self.assertIn(f'Ran {result.run} test', result.output)
         self.assertEqual(run_module('tests.test_that_is_not_there').failed, 1)
 
