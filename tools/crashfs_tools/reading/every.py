@@ -34,19 +34,19 @@ def every_set(order: Order) -> Iterator[int]:
         waiting.append((place_set, order.future_without(future, lowest_bit)))
 
 
-def count_futures(order: Order) -> List[Dict[int, int]]:
+def set_counts_by_future(order: Order) -> List[Dict[int, int]]:
     """For each k, from 0 to the number of places, the futures of the allowed sets of places below
     k, each with how many sets have it. ReadingFault if there are more than MOST_FUTURES for one
     k."""
     levels = [{order.all_places: 1}]
     for place in range(order.count):
-        levels.append(count_next_futures(order, levels[-1], 1 << place))
+        levels.append(next_set_counts(order, levels[-1], 1 << place))
         if len(levels[-1]) > MOST_FUTURES:
             raise ReadingFault('too many sets to count')
     return levels
 
 
-def count_next_futures(order: Order, set_counts: Dict[int, int], bit: int) -> Dict[int, int]:
+def next_set_counts(order: Order, set_counts: Dict[int, int], bit: int) -> Dict[int, int]:
     """The futures of the allowed sets of places below k + 1, each with how many sets have it.
     set_counts must have the same for the places below k, and `bit` must be that of place k."""
     pairs = (
@@ -71,8 +71,8 @@ def next_futures(order: Order, future: int, bit: int) -> List[int]:
 
 def count_sets(order: Order) -> int:
     """How many sets an order allows, exactly, even if there are more than MOST_SETS. ReadingFault
-    as count_futures()."""
-    return sum(count_futures(order)[-1].values())
+    as set_counts_by_future()."""
+    return sum(set_counts_by_future(order)[-1].values())
 
 
 def drawn_sets(order: Order, count: int, seed: int) -> Iterator[int]:
@@ -89,10 +89,10 @@ def drawn_sets(order: Order, count: int, seed: int) -> Iterator[int]:
 
 
 def count_extensions(order: Order) -> List[Dict[int, int]]:
-    """For each k, from 0 to the number of places, and each future of count_futures() there, how
-    many allowed sets extend one set of places below k that has this future. ReadingFault as
-    count_futures()."""
-    futures = count_futures(order)
+    """For each k, from 0 to the number of places, and each future of set_counts_by_future() there,
+    how many allowed sets extend one set of places below k that has this future. ReadingFault as
+    set_counts_by_future()."""
+    futures = set_counts_by_future(order)
     levels: List[Dict[int, int]] = [{0: 1}]
     for place in reversed(range(order.count)):
         next_level = levels[-1]
