@@ -42,7 +42,7 @@ LOST = 'lost: a version'
 def new_campaign(words):
     """A campaign with the options of some words, whose RESULTS is made."""
     options = read_options(words)
-    return main.Campaign(options, main.open_book(options))
+    return main.Campaign(options, main.read_or_begin_book(options))
 
 
 class Stores(InFolder):

@@ -33,7 +33,8 @@ class Campaign:
     when the campaign last printed a line, or began."""
 
     def __init__(self, options: CampaignOptions, book: Book) -> None:
-        """A campaign that continues a book, which open_book() has opened. Nothing is made yet."""
+        """A campaign that continues a book of read_or_begin_book(), which has made RESULTS. Nothing
+        else is made yet."""
         self.options = options
         self.book = book
         self.results = Path(options.results)
@@ -137,9 +138,10 @@ class Campaign:
         entry.failure = cut_failure or entry.failure
 
 
-def open_book(options: CampaignOptions) -> Book:
-    """Makes the directory RESULTS if it isn't there, and returns the book that an earlier run left
-    in it, or a new one. Refused as in read_book(), or if RESULTS can't be made or read."""
+def read_or_begin_book(options: CampaignOptions) -> Book:
+    """The book that an earlier run left in the directory RESULTS, or a new one. Makes RESULTS, and
+    those above it, if it isn't there. Refused as in read_book(), if RESULTS can't be made, or if
+    its campaign.json can't be read."""
     results = Path(options.results)
     try:
         results.mkdir(parents=True, exist_ok=True)
@@ -158,7 +160,7 @@ def run_campaign(arguments: List[str]) -> int:
     what was saved stays."""
     try:
         options = read_options(arguments)
-        campaign = Campaign(options, open_book(options))
+        campaign = Campaign(options, read_or_begin_book(options))
         # The page may be in RESULTS, which is there now.
         if options.html is not None:
             folder_to_write(options.html)
