@@ -117,8 +117,8 @@ class DrawnSession:
         return operation
 
     def is_useful(self, operation: Operation) -> bool:
-        """Whether the tree allows an operation, and the operation is no rename between two names of
-        one file, which changes nothing."""
+        """Whether the tree allows an operation, and it isn't a rename that changes nothing: one
+        between two names of a file, or of anything to its own path."""
         if self.tree.fault(operation):
             return False
         if not isinstance(operation, Rename):
