@@ -48,6 +48,8 @@ class First(InCounted):
                 'lost (state 11, says 1): old: ./x',
                 'crashfs-check: is COMMAND stricter than the session, or does it look for files '
                 'elsewhere?',
+                'crashfs-check: or does the store itself lose something when it is opened again, '
+                'without a crash?',
                 'crashfs-check: did the directory have files of an earlier session when it was '
                 'recorded?',
                 'crashfs-check: inspect it with --state 11',
@@ -55,6 +57,7 @@ class First(InCounted):
         )
         self.assertEqual(self.ran(), [11])
         lines = self.refusal(self.counted('test $CRASHFS_STATE != 0'))
+        self.assertNotIn('opened again', '\n'.join(lines))
         self.assertIn(
             'in the start tree, where nothing is lost (state 0, says 0): status 1', lines[0]
         )

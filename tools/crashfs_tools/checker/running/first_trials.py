@@ -16,6 +16,7 @@ from .trials import Trials
 
 END_TREE, START_TREE = "the tree at the session's end", 'the start tree'
 LOSSLESS = 'where nothing is lost'
+REOPENED = 'or does the store itself lose something when it is opened again, without a crash?'
 
 
 @dataclass
@@ -39,7 +40,7 @@ class FirstTrials:
             state = self.end_plan.plan.listed[0]
             outcome = Trials(self.trials.workplace, self.end_plan).try_state(state)
             if outcome.result == BAD:
-                raise self.refusal(outcome, f'{END_TREE}, {LOSSLESS} (says {state.says})', [])
+                raise self.refusal(outcome, END_TREE, f'says {state.says}', [])
         self.try_prefix(start, START_TREE)
 
     def try_prefix(self, state: State, tree_name: str, next_numbers: Sequence[int] = ()) -> None:
@@ -48,9 +49,8 @@ class FirstTrials:
         number = self.results.tried_numbers[state.trial]
         outcome = self.outcome_of(number, next_numbers)
         if outcome.result == BAD:
-            place = f'{tree_name}, {LOSSLESS} (state {number}, says {state.says})'
             hints = [f'inspect it with --state {number}'] if self.is_command else []
-            raise self.refusal(outcome, place, hints)
+            raise self.refusal(outcome, tree_name, f'state {number}, says {state.says}', hints)
 
     def outcome_of(self, number: int, next_numbers: Sequence[int]) -> Outcome:
         """The outcome of the state of a number: that of the results, or else that of a run, which
@@ -69,19 +69,24 @@ class FirstTrials:
         """Whether a command is tried, not a function."""
         return self.trials.options.function is None
 
-    def refusal(self, outcome: Outcome, place: str, hints: List[str]) -> Refused:
-        """A new Refused for an outcome that is BAD: the first line of its text has the place and
-        the cause, then come those of hints_on_cause(), and `hints` last. It isn't raised yet."""
+    def refusal(
+        self, outcome: Outcome, tree_name: str, state_text: str, hints: List[str]
+    ) -> Refused:
+        """A new Refused for an outcome that is BAD: the first line of its text has the tree, the
+        state and the cause, then come those of hints_on_cause(), and `hints` last. It isn't raised
+        yet."""
         name = 'COMMAND' if self.is_command else 'the recovery'
-        first_line = f'{name} fails in {place}: {outcome.cause}'
-        return Refused('\n'.join([first_line, *self.hints_on_cause(outcome.cause), *hints]))
+        first_line = f'{name} fails in {tree_name}, {LOSSLESS} ({state_text}): {outcome.cause}'
+        own_hints = self.hints_on_cause(outcome.cause, tree_name)
+        return Refused('\n'.join([first_line, *own_hints, *hints]))
 
-    def hints_on_cause(self, cause: str) -> List[str]:
+    def hints_on_cause(self, cause: str, tree_name: str) -> List[str]:
         """One or more lines that ask what may be wrong with COMMAND, or with the recovery function,
-        if that fails with this cause. Errors as in hints_on_start_files()."""
+        or else with the store, if that fails with this cause in one of the two trees. Errors as in
+        hints_on_tree()."""
         if not self.is_command:
             question = 'does it expect more than the session did, or files of another place?'
-            return [question, *self.hints_on_start_files()]
+            return [question, *self.hints_on_tree(tree_name)]
         relative_words = relative_path_arguments(self.trials.options.command)
         if relative_words:
             return [
@@ -92,11 +97,13 @@ class FirstTrials:
         if 'not found' in cause or 'No such file' in cause or cause == 'status 127':
             return ['does COMMAND run something that is neither on PATH nor an absolute path?']
         question = 'is COMMAND stricter than the session, or does it look for files elsewhere?'
-        return [question, *self.hints_on_start_files()]
+        return [question, *self.hints_on_tree(tree_name)]
 
-    def hints_on_start_files(self) -> List[str]:
-        """A line that asks whether files of the start tree, which may be a mistake, are those of an
-        earlier session; no line if it has none. Errors as in PlanTrees.of_state()."""
-        if not self.trials.trees.of_state(self.trials.plan.first):
-            return []
-        return ['did the directory have files of an earlier session when it was recorded?']
+    def hints_on_tree(self, tree_name: str) -> List[str]:
+        """The question REOPENED, if COMMAND fails at the session's end. Then a line that asks
+        whether files of the start tree, which may be a mistake, are those of an earlier session; no
+        line if it has none. Errors as in PlanTrees.of_state()."""
+        hints = [REOPENED] if tree_name == END_TREE else []
+        if self.trials.trees.of_state(self.trials.plan.first):
+            hints.append('did the directory have files of an earlier session when it was recorded?')
+        return hints
