@@ -6,6 +6,7 @@ import platform
 import signal
 import time
 import unittest
+from unittest import mock
 
 from crashfs_tools.recorder import strace_run
 
@@ -16,6 +17,16 @@ from .test_record_command import InRecordings
 TGKILL = 234
 # A process of its own session that has nothing in its environment.
 UNMARKED = """setsid env -i sh -c 'echo $$ > ../pid; exec sleep 300'"""
+
+
+class Handlers(unittest.TestCase):
+    def test_signals_get_their_old_handlers_back_after_an_error(self):
+        run = strace_run.StraceRun([], mock.Mock(), mock.Mock(), mock.Mock())
+        old_handler = signal.getsignal(signal.SIGTERM)
+        with self.assertRaises(OSError), run.signals_handled():
+            self.assertEqual(signal.getsignal(signal.SIGTERM), run.handle_signal)
+            raise OSError
+        self.assertIs(signal.getsignal(signal.SIGTERM), old_handler)
 
 
 @needs_strace

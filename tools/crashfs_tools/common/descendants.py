@@ -25,21 +25,22 @@ def die_with_parent() -> None:
     """From here on this process is killed when the thread that started it ends; processes that it
     forks aren't. Nothing happens if the system can't do that, or if the thread has ended
     already."""
-    try:
-        import ctypes
-
-        ctypes.CDLL(None).prctl(PR_SET_PDEATHSIG, signal.SIGKILL, 0, 0, 0)
-    except (ImportError, OSError, AttributeError):
-        pass
+    set_process_option(PR_SET_PDEATHSIG, signal.SIGKILL)
 
 
 def become_reaper() -> bool:
     """From here on orphans of this process's descendants become its children. Returns whether the
     system allows that; if not, they become children of another process."""
+    return set_process_option(PR_SET_CHILD_SUBREAPER, 1)
+
+
+def set_process_option(option: int, value: int) -> bool:
+    """Gives an option of this process a value, by prctl(2). Returns whether that succeeded; False
+    also if this Python has no ctypes, or the system no prctl."""
     try:
         import ctypes
 
-        return bool(ctypes.CDLL(None).prctl(PR_SET_CHILD_SUBREAPER, 1, 0, 0, 0) == 0)
+        return bool(ctypes.CDLL(None).prctl(option, value, 0, 0, 0) == 0)
     except (ImportError, OSError, AttributeError):
         return False
 

@@ -62,8 +62,8 @@ class MountTable:
 
 
 def read_mount_points() -> Dict[int, str]:
-    """The mount points that the system has now, by the numbers of the mounts. OSError if the table
-    can't be read."""
+    """The mount points that this process sees now, by the numbers of the mounts, in the order of
+    the table. OSError if the table can't be read."""
     with open(TABLE, 'rb') as table:
         rows = [line.split(b' ') for line in table]
     return {int(row[0]): os.fsdecode(OCTAL.sub(byte_of_escape, row[4])) for row in rows}

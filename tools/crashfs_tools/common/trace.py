@@ -305,7 +305,7 @@ def json_start_line(entry: StartLine, version: int) -> str:
 def with_parts_if_shorter(entry: StartLine) -> StartLine:
     """The same entry of the start tree, or, if its bytes would take less room in parts, a copy that
     has them as SparseBytes. Files of less than LEAST_BYTES_IN_PARTS, and text that people can read,
-    are the same."""
+    stay as they are."""
     if not isinstance(entry, Start) or not isinstance(entry.data, bytes):
         return entry
     if len(entry.data) < LEAST_BYTES_IN_PARTS or readable_text(entry.data):

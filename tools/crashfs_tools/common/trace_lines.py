@@ -114,22 +114,23 @@ def details_text(fields: Dict[str, Any]) -> str:
     for the largest file of versions before 4; a symlink's target; a length; the rights that a chmod
     or chown sets. Empty for the others. KeyError if a key that it needs is missing; a right that is
     missing is left out."""
-    if fields['op'] == 'say':
+    word = fields['op']
+    if word == 'say':
         text: str = fields['text']
         return text if len(text) <= LARGEST_SAY else f'{text[:LARGEST_SAY]}..'
-    if fields['op'] == 'write':
+    if word == 'write':
         # In `bytes` a byte has two digits.
         size = len(fields['text'].encode()) if 'text' in fields else len(fields['bytes']) // 2
         return f"{size:,} bytes at {fields['offset']:,}"
-    if fields['op'] == 'symlink':
+    if word == 'symlink':
         return f"target {fields['target']}"
-    if fields['op'] == 'truncate':
+    if word == 'truncate':
         return f"{fields['length']:,} bytes"
-    if fields['op'] == 'fsync_range':
+    if word == 'fsync_range':
         if fields['offset'] == 0 and fields['length'] == limits.FILE_BYTES:
             return 'all bytes'
         return f"{fields['length']:,} bytes at {fields['offset']:,}"
-    if fields['op'] not in ('chmod', 'chown'):
+    if word not in ('chmod', 'chown'):
         return ''
     return ' '.join(fields[key] for key in ('mode', 'owner', 'group') if key in fields)
 

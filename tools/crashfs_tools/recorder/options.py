@@ -84,8 +84,8 @@ def check_pattern(text: str) -> str:
 
 
 def parse_say_fd(word: str) -> str:
-    """A value of --say-fd as descriptors are compared with it: SOCKETS, or the digits of a number
-    without zeros before them. ArgumentTypeError for any other text, and for a number above
+    """A value of --say-fd in the form of acknowledging_descriptors: SOCKETS, or the digits of a
+    number without zeros before them. ArgumentTypeError for any other text, and for a number above
     LARGEST_DESCRIPTOR."""
     if word == SOCKETS:
         return word

@@ -158,8 +158,9 @@ class LogReader:
 
     def add_call(self, match: re.Match[str], begin: int, end: int) -> None:
         """Adds a whole call, by the match of LINE, and the numbers of its first and last line. Adds
-        its thread, and the one that a fork made, to `threads`; the next frames are the call's.
-        LogError if an argument isn't as strace writes it."""
+        its thread, and the one that a fork made, to `threads`; the thread of the first call becomes
+        the log's first_thread. The next frames are the call's. LogError if an argument isn't as
+        strace writes it."""
         thread, name, text, result, tail = match.groups()
         self.threads.add(int(thread))
         if self.log.first_thread is None:

@@ -9,8 +9,8 @@ import signal
 import subprocess
 import sys
 import time
-from contextlib import nullcontext
-from typing import ContextManager, List, Optional, Sequence
+from contextlib import contextmanager, nullcontext
+from typing import ContextManager, Iterator, List, Optional, Sequence
 
 from crashfs_tools.common.command import Refused
 from crashfs_tools.common.guard import Guard
@@ -114,30 +114,44 @@ class StraceRun:
         before stream.finish(), which returns the log. Signals get their old handlers back. OSError
         if strace can't be started, the log's pipe can't be opened, or standard output can't be
         written: strace and COMMAND may still run then."""
-        old_handlers = {
-            number: signal.signal(number, self.handle_signal) for number in stop_signals()
-        }
-        try:
-            environment = self.guard.environment
-            if self.options.stacks:
-                environment = stacks.environment_with_hook(environment)
-            strace = subprocess.Popen(
-                self.command_line,
-                cwd=self.options.directory,
-                stdout=subprocess.PIPE,
-                env=environment,
-                pass_fds=inherited_descriptors(self.options.acknowledging_descriptors),
-            )
-            self.strace_process = strace.pid
+        with self.signals_handled():
+            strace = self.start_strace()
             assert strace.stdout is not None
-            self.output_pipe = f'pipe:[{os.fstat(strace.stdout.fileno()).st_ino}]'
             self.stream.start()
             with self.progress_lines():
                 self.copy_output(strace, strace.stdout.fileno())
                 return self.wait_for_status(strace)
+
+    @contextmanager
+    def signals_handled(self) -> Iterator[None]:
+        """Within this, handle_signal() is the handler of each of stop_signals(); at the end they
+        get their old handlers back. ValueError outside the main thread."""
+        old_handlers = {
+            number: signal.signal(number, self.handle_signal) for number in stop_signals()
+        }
+        try:
+            yield
         finally:
             for number, handler in old_handlers.items():
                 signal.signal(number, handler)
+
+    def start_strace(self) -> subprocess.Popen[bytes]:
+        """Starts strace with COMMAND in the recorded directory, with a pipe as its standard output,
+        and sets strace_process and output_pipe. OSError if it can't be started."""
+        environment = self.guard.environment
+        if self.options.stacks:
+            environment = stacks.environment_with_hook(environment)
+        strace = subprocess.Popen(
+            self.command_line,
+            cwd=self.options.directory,
+            stdout=subprocess.PIPE,
+            env=environment,
+            pass_fds=inherited_descriptors(self.options.acknowledging_descriptors),
+        )
+        self.strace_process = strace.pid
+        assert strace.stdout is not None
+        self.output_pipe = f'pipe:[{os.fstat(strace.stdout.fileno()).st_ino}]'
+        return strace
 
     def progress_lines(self) -> ContextManager[object]:
         """A context in which lines on the progress are printed if standard error is a terminal, and

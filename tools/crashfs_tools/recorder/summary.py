@@ -79,9 +79,9 @@ def lines_on_missing_notes(trace: Trace) -> List[str]:
 
 
 def relative_path_hints(options: RecordOptions) -> List[str]:
-    """A line for each relative path in COMMAND's arguments at which there is a file below this
-    process's working directory, but none below the recorded directory, where COMMAND runs: that is
-    a likely cause of its failure."""
+    """A line for each relative path in COMMAND's arguments at which there is a file or directory
+    seen from this process's working directory, but none seen from the recorded directory, where
+    COMMAND runs: that is a likely cause of its failure."""
     return [
         f'{word} is a relative path, but COMMAND runs in {options.directory}: use '
         f'{os.path.abspath(word)}'

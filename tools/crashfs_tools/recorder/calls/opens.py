@@ -155,8 +155,9 @@ def duplicate_descriptor(
     files: LiveFiles, process: Process, call: Call, *, is_closed_by_exec: bool
 ) -> None:
     """Makes the call's result a descriptor of the same open file or stream as its first argument.
-    If --say-fd names one of the two numbers, the stream acknowledges something. If the first
-    argument isn't followed, neither is the result. Nothing if the two numbers are equal."""
+    If --say-fd names one of the two numbers, the stream acknowledges something; a first argument
+    that it names is followed from now on. If the first argument isn't followed, neither is the
+    result. Nothing if the two numbers are equal."""
     old, streams = call.descriptor(), files.recording.streams
     if old.number == call.result:
         return
