@@ -77,7 +77,8 @@ def states(
     Nothing is read, and nothing raised, before the first state is asked for: then Refused for a
     trace that can't be read or has a fault, for a `crashfs` that isn't found, for an unknown
     profile, or for every with families, prefixes or quick. ProgramFault or PlanError if `crashfs`
-    fails. Temporary files stay until the last state is passed, or the iterator is closed."""
+    fails, OSError if a temporary file can't be made. Temporary files stay until the last state is
+    passed, or the iterator is closed."""
     options = Options(os.fspath(trace), every=every, families=families, prefixes=prefixes)
     options.quick, options.profile = quick, profile
     options.crashfs, options.unproved = path_text(crashfs), unproved

@@ -136,18 +136,19 @@ def loss_advice(
 ) -> Advice:
     """The advice for states that have the line `kept` and lack the earlier line `lost`: a sync
     between the two. Its syncs are as few as serve all `pairs`, which should have these two lines;
-    the remedy names the sync between them, and counts the others. `lines` has the trace's lines by
-    number. If no sync makes the lost line durable, there is no remedy and no sync."""
+    the remedy names the sync between them, with a line there that it must come before, and counts
+    the others. `lines` has the trace's lines by number. If no sync makes the lost line durable,
+    there is no remedy and no sync."""
     path = lost.path_to_fsync
     sentence = f'line {lost.number} ({lost.text}) was not durable when {kept_text(kept)}'
     if path is None:
         return Advice([sentence])
     syncs = sync_points(pairs, lines)
-    end = first_path_change(path, range(lost.number + 1, kept.number), lines)
-    end_text = f', before line {end.number} ({end.text})' if end else ''
+    change = first_path_change(path, range(lost.number + 1, kept.number), lines)
+    change_text = f', before line {change.number} ({change.text})' if change else ''
     other_count = len(syncs) - 1
     others_text = f' (and at {count_text(other_count, "more place")})' if other_count > 0 else ''
-    remedy = f'{sync_text(path, lost, lines)} between them{end_text}{others_text}'
+    remedy = f'{sync_text(path, lost, lines)} between them{change_text}{others_text}'
     return Advice([f'{sentence}:'], remedy, syncs)
 
 

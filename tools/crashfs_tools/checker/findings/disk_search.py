@@ -161,8 +161,8 @@ class DiskSearch:
             name: len({tried.tree.digest for tried in failing if name in tried.tree.crashes})
             for name in sightings.names
         }
-        untried = [(tried.tree, tried.outcome) for tried in failing if not tried.is_of_state]
-        sightings.further_failures = explain_failures(self.trace_bytes, untried)
+        further = [(tried.tree, tried.outcome) for tried in failing if not tried.is_of_state]
+        sightings.further_failures = explain_failures(self.trace_bytes, further)
 
     def state_numbers_by_tree(self) -> Dict[TreeAndCount, List[int]]:
         """The ascending numbers of all listed states, tried or not, by the tree and the number of
@@ -218,16 +218,16 @@ def trees_after_crashes(disks: Dict[str, List[Disk]]) -> List[DiskTree]:
 
 
 def explain_failures(
-    trace_bytes: bytes, untried: List[Tuple[DiskTree, Outcome]]
+    trace_bytes: bytes, failing_trees: List[Tuple[DiskTree, Outcome]]
 ) -> List[DiskFailure]:
-    """The failures in trees that no tried state has. Searches the crash states for the trees, so
-    each failure says why no tried state has its tree. Failures with the same tree, cause and reason
-    are one, with all numbers of lines, the outcome of the first of these, and the first crash of
-    each file system. ReadingFault as search_trees()."""
-    wanted = {tree.tree_and_count for tree, _ in untried}
+    """The failures in trees that no tried state has, which are given with their outcomes. Searches
+    the crash states for the trees, so each failure says why no tried state has its tree. Failures
+    with the same tree, cause and reason are one, with all numbers of lines, the outcome of the
+    first of these, and the first crash of each file system. ReadingFault as search_trees()."""
+    wanted = {tree.tree_and_count for tree, _ in failing_trees}
     result = search_trees(trace_bytes, wanted) if wanted else SearchResult(set(), 0, True)
     failures: Dict[Tuple[str, str, str], DiskFailure] = {}
-    for tree, outcome in untried:
+    for tree, outcome in failing_trees:
         explanation = result.explanation(tree.tree_and_count)
         key = (tree.digest, outcome.cause, explanation.reason)
         failure = failures.setdefault(key, DiskFailure(outcome, [], {}, tree.entries, explanation))

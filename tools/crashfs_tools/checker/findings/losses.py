@@ -177,8 +177,8 @@ def end_search(search: Search) -> Loss:
 def loss_search(plan: Plan, state: State) -> Search:
     """A search for the smallest loss of a failing state, which must lack something. The search
     yields sets, and must be sent whether each fails alike. First it puts back lines that the state
-    lacks, then it makes the state shorter. At its end, also if EndSearch is thrown into it, it
-    returns the smallest loss that it has found."""
+    lacks, half of them at a time, then smaller parts; then it makes the state shorter. At its end,
+    also if EndSearch is thrown into it, it returns the smallest loss that it has found."""
     kept_set = plan.kept[state.number]
     try:
         part_count = 2

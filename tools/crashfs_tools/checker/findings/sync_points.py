@@ -44,8 +44,8 @@ def sync_interval(lost: int, kept: int, lines: Dict[int, TraceLine]) -> Optional
     path = lines[lost].path_to_fsync if lost in lines else None
     if path is None:
         return None
-    end = first_path_change(path, range(lost + 1, kept), lines)
-    return Interval(end.number if end else kept, lost, path)
+    change = first_path_change(path, range(lost + 1, kept), lines)
+    return Interval(change.number if change else kept, lost, path)
 
 
 def first_path_change(

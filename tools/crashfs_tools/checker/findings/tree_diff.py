@@ -61,14 +61,12 @@ def difference_lines(failing: Entries, good: Entries) -> Iterator[str]:
     of paths. A line names only the first difference, in this order: that one state lacks the path,
     then the kind, the bytes and the rights."""
     for path in sorted(failing.keys() | good.keys()):
-        failing_entry, good_entry = failing.get(path), good.get(path)
-        if failing_entry is not None and good_entry is not None:
-            if failing_entry != good_entry:
-                yield f'{path} {difference_text(failing_entry, good_entry)}'
-        elif failing_entry is not None:
-            yield f'{path} ({size_text(failing_entry)}) is only in the failing state'
-        elif good_entry is not None:
-            yield f'{path} ({size_text(good_entry)}) is only in the good state'
+        if path not in good:
+            yield f'{path} ({size_text(failing[path])}) is only in the failing state'
+        elif path not in failing:
+            yield f'{path} ({size_text(good[path])}) is only in the good state'
+        elif failing[path] != good[path]:
+            yield f'{path} {difference_text(failing[path], good[path])}'
 
 
 def difference_text(failing: Entry, good: Entry) -> str:
