@@ -4,6 +4,7 @@ import os
 import subprocess
 import sys
 import threading
+import time
 import unittest
 from unittest import mock
 
@@ -75,6 +76,14 @@ class Runs(InRuns):
         ]:
             with self.subTest(script):
                 self.assertEqual(self.run_once(script)[:2], outcome)
+
+    def test_too_much_counts_also_if_the_command_has_exited(self):
+        with mock.patch('crashfs_tools.checker.running.output.MOST_BYTES', 4):
+            # The command ends while the lines are sent, before anything of it is read.
+            for line, outcome in (('end', (BAD, 'end')), ('ends', (NO_ANSWER, FLOOD))):
+                script = f'sleep 0.1; echo {line}; exit 1'
+                found = self.run_once(script, when_slow=lambda: time.sleep(0.7))
+                self.assertEqual(found[:2], outcome)
 
     def test_without_descriptors_of_processes_it_is_the_same(self):
         with mock.patch('os.pidfd_open', side_effect=OSError):

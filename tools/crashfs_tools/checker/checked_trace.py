@@ -91,7 +91,7 @@ class CheckedTrace:
         plan, that of each window, whose files are removed when the next plan is asked for. Each
         call plans again, and sets `windows` for a trace in windows. Refused for a trace with a
         fault, and for one that is too long with --serve or --disks; PlanError or ProgramFault if
-        the program fails otherwise."""
+        the program fails otherwise; OSError if a file can't be read, written or removed."""
         if self.options.window is None:
             try:
                 yield self.planner.plan(self.path)

@@ -27,8 +27,8 @@ OTHER_PLAN = (
 
 
 def merged_report(options: Options) -> CheckReport:
-    """The report of the files of --merge, of which there must be one. If TRACE is given, its states
-    are made again to show how files differ; otherwise no program runs. Refused as read_shard(),
+    """The report of the files of --merge, at least one. If TRACE is given, its states are made
+    again to show how files differ; otherwise no program runs. Refused as read_shard(),
     merge_shards() and report_of_results(), if the files are of another trace, or if the program
     isn't found or can't make the states. OSError if TRACE can't be read."""
     results = merge_shards([read_shard(path) for path in options.merge or []])

@@ -269,13 +269,11 @@ class Checker:
                 ready = process_wait.wait(min(due_seconds - passed_seconds, POLL_SECONDS))
                 if self.life in ready:
                     raise CheckEnded
-                has_ended = process_wait.has_ended(ready)
-                if has_ended:
+                if process_wait.has_ended(ready):
                     output.read_tail()
+                    return End.FLOODED if output.is_flood else End.EXITED
                 if output.is_flood:
                     return End.FLOODED
-                if has_ended:
-                    return End.EXITED
         finally:
             process_wait.close()
 

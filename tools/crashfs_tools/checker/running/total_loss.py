@@ -25,8 +25,8 @@ def total_loss_question(trials: Trials) -> str:
 
 
 def passes_in_start_tree(trials: Trials, line_count: int) -> bool:
-    """Whether COMMAND passes in the start tree with the first so many acknowledged lines: a crash
-    need not leave that. The plan of the trials must begin with the start tree. Exceptions as in
+    """Whether COMMAND passes in the start tree with the first line_count acknowledged lines, even
+    if no crash leaves that. The plan of the trials must begin with the start tree. Exceptions as in
     Trials.try_state()."""
     start = trials.plan.listed[0]._replace(says=line_count)
     plan = trials.plan.with_states([start], None, SetProfiles())

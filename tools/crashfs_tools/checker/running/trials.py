@@ -232,7 +232,7 @@ class Trials:
         can't be ended, LeftRunning is raised, after all outcomes, and at once in each later
         call."""
 
-        def keep_outcome(number: int, outcome: Outcome) -> None:
+        def cache_outcome(number: int, outcome: Outcome) -> None:
             """Adds an outcome to the cache, if there is one, and passes it to on_outcome."""
             if self.workplace.cache is not None:
                 self.workplace.cache.add(self.state_keys.key(number, attempt), outcome)
@@ -241,7 +241,7 @@ class Trials:
         refuse_left_processes(self.workplace.left_processes)
         options = self.options
         workers = StateWorkers(
-            self.new_checker(), layout, options.jobs, keep_outcome, fail_fast=options.fail_fast
+            self.new_checker(), layout, options.jobs, cache_outcome, fail_fast=options.fail_fast
         )
         try:
             workers.run({number: self.plan.state(number).says for number in wanted})

@@ -309,10 +309,10 @@ def make_parts(plan: Plan, options_of_parts: List[List[str]], pick_counts: List[
     many picks each part has; it may be empty if there is one part. The first part has all states
     but the picks of the others. Each further part has only picks: in the program its prefixes come
     before them."""
-    end = plan.first + len(plan.listed)
-    further_parts = range(1, len(options_of_parts))
-    first_numbers = [plan.first, *(end - sum(pick_counts[part:]) for part in further_parts)]
-    ends = [*first_numbers[1:], end]
+    first_end = plan.first + len(plan.listed) - sum(pick_counts[1:])
     first_pick = len(plan.operations) + 1
-    first_in_program = [0, *(first_pick for _ in further_parts)]
-    return list(map(Part, options_of_parts, first_numbers, ends, first_in_program))
+    parts = [Part(options_of_parts[0], plan.first, first_end, first_in_program=0)]
+    for options, pick_count in zip(options_of_parts[1:], pick_counts[1:]):
+        begin = parts[-1].end
+        parts.append(Part(options, begin, begin + pick_count, first_in_program=first_pick))
+    return parts
