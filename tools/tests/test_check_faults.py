@@ -32,11 +32,11 @@ import sys
 from unittest import mock
 sys.path.insert(0, {tools!r})
 from crashfs_tools.checker import checking, main
-from crashfs_tools.checker.findings import reruns
+from crashfs_tools.checker.findings import details
 from crashfs_tools.common.command import Refused
 from crashfs_tools.common.signals import TimeUp
 checking.Check.report_losses = mock.Mock(side_effect=TimeUp)
-reruns.rerun_examples = mock.Mock(side_effect=Refused('a process was killed'))
+details.rerun_examples = mock.Mock(side_effect=Refused('a process was killed'))
 sys.exit(main.main(sys.argv[1:]))
 """
 
