@@ -5,6 +5,8 @@ from __future__ import annotations
 from pathlib import Path
 from typing import Dict, List, Set
 
+from crashfs_tools.common.command import Refused
+
 TOP = Path(__file__).resolve().parents[2]
 PROGRAM = 'crashfs'
 
@@ -12,20 +14,25 @@ PROGRAM = 'crashfs'
 def uses_by_crate(crates_text: str) -> Dict[str, List[str]]:
     """What each crate uses, by the text of crates.txt: crates of this repository and of the kit.
     Comments, from `#` on, lines without a colon, and further words before a colon are left out. Of
-    two lines for a crate the last one counts. IndexError for a line with only blanks before its
-    colon, or nothing."""
+    two lines for a crate the last one counts. Refused if a line has nothing but blanks before its
+    colon."""
     uses: Dict[str, List[str]] = {}
-    for line in crates_text.splitlines():
+    for number, line in enumerate(crates_text.splitlines(), start=1):
         first_words, colon, used_crates = line.partition('#')[0].partition(':')
+        if colon and not first_words.strip():
+            raise Refused(f'crates.txt: line {number} has no crate before its colon')
         if colon:
             uses[first_words.split()[0]] = used_crates.split()
     return uses
 
 
 def read_uses() -> Dict[str, List[str]]:
-    """What each crate uses, by crates.txt as it is now; errors as uses_by_crate(), and OSError if
-    the file can't be read."""
-    return uses_by_crate((TOP / 'crates.txt').read_text('utf-8'))
+    """What each crate uses, by crates.txt as it is now. Refused as in uses_by_crate(), and if the
+    file isn't UTF-8; OSError if it can't be read."""
+    try:
+        return uses_by_crate((TOP / 'crates.txt').read_text('utf-8'))
+    except UnicodeDecodeError as error:
+        raise Refused('crates.txt: it is not UTF-8') from error
 
 
 def crates_below(uses: Dict[str, List[str]], name: str) -> Set[str]:
@@ -43,10 +50,15 @@ def crates_below(uses: Dict[str, List[str]], name: str) -> Set[str]:
 def library_uses() -> Dict[str, List[str]]:
     """What each library of the program uses, directly: crates of this repository. The libraries are
     the crates of this repository that the program uses, directly or not, in no particular order.
-    Empty if crates.txt has no line for the program; errors as read_uses()."""
+    Empty if crates.txt has no line for the program. Refused as in read_uses(), and if one of the
+    libraries uses itself, directly or not; OSError if crates.txt can't be read."""
     uses = read_uses()
     own_uses = {
         name: [crate for crate in used_crates if crate in uses]
         for name, used_crates in uses.items()
     }
-    return {name: own_uses[name] for name in crates_below(own_uses, PROGRAM)}
+    libraries = crates_below(own_uses, PROGRAM)
+    in_cycle = [name for name in sorted(libraries) if name in crates_below(own_uses, name)]
+    if in_cycle:
+        raise Refused(f'crates.txt: crates that use themselves: {", ".join(in_cycle)}')
+    return {name: own_uses[name] for name in libraries}

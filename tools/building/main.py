@@ -11,6 +11,8 @@ import threading
 import time
 from pathlib import Path
 
+from crashfs_tools.common.command import Refused
+
 from .crates import TOP, library_uses
 from .order import Work, chain_lengths
 from .proving import (
@@ -43,9 +45,9 @@ NO_RT = (
 
 def main() -> int:
     """Runs tools/build with its command line, and returns the status: 1 if there is no `rt`, a
-    crate isn't proved, or the program isn't built. An error of the system, as a full disk, is a
-    line with status 1. A wrong word and --help end the program (SystemExit). --processors below 1
-    counts as 1, and may be above what the machine has."""
+    crate isn't proved, or the program isn't built. A wrong crates.txt and an error of the system,
+    as a full disk, are a line with status 1. A wrong word and --help end the program (SystemExit).
+    --processors below 1 counts as 1, and may be above what the machine has."""
     parser = argparse.ArgumentParser(
         description=DESCRIPTION, formatter_class=argparse.RawDescriptionHelpFormatter
     )
@@ -63,6 +65,9 @@ def main() -> int:
         return 1
     try:
         return build_all(max(1, options.processors))
+    except Refused as refused:
+        print(f'tools/build: {refused}', file=sys.stderr)
+        return 1
     except OSError as error:
         print(f'tools/build: {error_text(error)}', file=sys.stderr)
         return 1
@@ -72,8 +77,9 @@ def build_all(processors: int) -> int:
     """Proves the libraries on this number of processors, then builds the program. Returns the
     status: 0 if all is proved and built. After a crate that isn't proved no other is begun, but
     running checks continue to their end. Proved libraries are copied to the repository itself in
-    either case. OSError if crates.txt or a text can't be read, or a copy of the repository or of a
-    library can't be made."""
+    either case. Refused as in library_uses(). OSError if crates.txt, a text of a crate, or the
+    stamp of a library can't be read, if a copy of the repository or of a library can't be made, or
+    as build_program()."""
     uses, start_time = library_uses(), time.monotonic()
     work = Work(uses, chain_lengths(uses), processors, read_stamps(TOP, uses))
     with tempfile.TemporaryDirectory(prefix='crashfs-build-') as folder:

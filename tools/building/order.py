@@ -32,7 +32,8 @@ def count_crate_lines(name: str) -> int:
 def chain_lengths(uses: Dict[str, List[str]]) -> Dict[str, int]:
     """For each crate, how many lines the texts of the longest chain of crates have that begins with
     it, and in which each crate uses the one before. Used crates that are no keys of `uses` are
-    ignored. RecursionError if there is a cycle, OSError as count_crate_lines()."""
+    ignored. RecursionError if there is a cycle, which library_uses() refuses; OSError as
+    count_crate_lines()."""
     users = {name: [user for user in uses if name in uses[user]] for name in uses}
 
     @lru_cache(maxsize=None)

@@ -128,7 +128,8 @@ def copy_proved_libraries(work: Work) -> None:
 def build_program(start_time: float) -> int:
     """Builds the program in the repository itself, and runs it with --help. A library that isn't
     there is proved first, on one processor. Returns the status: 0, or 1 if the program isn't built
-    or --help fails, after printing what `rt` printed. OSError if there is no `rt`."""
+    or --help fails, after printing what `rt` printed. OSError if there is no `rt`, or as
+    report_failure()."""
     words = ['rt', 'run', '--jobs', '1', '--', '--help']
     check = run_check(words, TOP / 'crates' / PROGRAM)
     if check.status:

@@ -53,7 +53,7 @@ class Citation:
 
 
 def crate_names() -> List[str]:
-    """The crates of crates.txt, in its order. OSError if it can't be read."""
+    """The crates of crates.txt, in its order; errors as read_uses()."""
     return list(read_uses())
 
 

@@ -13,6 +13,7 @@ from typing import List, Optional
 
 from building.crates import read_uses
 from crashfs_tools import VERSION
+from crashfs_tools.common.command import Refused
 from gating.verdict import counts_of_passed_gate
 
 from .archives import write_package, write_tarball
@@ -83,8 +84,8 @@ def link_program(object_file: Path) -> bytes:
 def write_release(provenance: Provenance, object_file: Path, folder: Path) -> None:
     """Links an object file, and writes the five files of a release into a folder, which is made if
     it isn't there. Files of these names are replaced, SHA256SUMS last. Errors as link_program() and
-    release_items() before anything is written. After another OSError or a CalledProcessError some
-    of the files may be there."""
+    release_items() before anything is written. After another OSError, a CalledProcessError, or a
+    Refused of read_uses() some of the files may be there."""
     program = link_program(object_file)
     items = release_items(program, built_module(provenance).encode())
     folder.mkdir(parents=True, exist_ok=True)
@@ -137,7 +138,7 @@ def main(words: Optional[List[str]] = None) -> int:
         if options.objects is None:
             subprocess.run([TOP / 'tools' / 'build'], check=True)
         write_release(provenance, options.objects or OBJECT_FILE, options.into)
-    except (LinkFault, ValueError, OSError, subprocess.CalledProcessError) as fault:
+    except (LinkFault, Refused, ValueError, OSError, subprocess.CalledProcessError) as fault:
         print(f'release: {fault}', file=sys.stderr)
         return 1
     return 0

@@ -14,7 +14,7 @@ from pathlib import Path
 from typing import Dict, List, Optional, Tuple
 from unittest import mock
 
-from building import main, order, proving
+from building import crates, main, order, proving
 from building.checks import Check
 from building.crates import library_uses
 from building.order import MANY_BELOW, Work, count_crate_lines
@@ -363,6 +363,22 @@ class Reports(unittest.TestCase):
             self.assertEqual(main.main(), 1)
         text = 'tools/build: OSError: [Errno 28] No space left on device: \'/copy\'\n'
         self.assertEqual(err.getvalue(), text)
+
+    def test_a_wrong_list_of_crates_is_one_line_with_a_status(self) -> None:
+        itself = 'crates that use themselves:'
+        for text, line in (
+            (b'low: kit\n : low\n', 'line 2 has no crate before its colon'),
+            (b'\xff: low\n', 'it is not UTF-8'),
+            (b'crashfs: top\ntop: mid\nmid: low\nlow: mid\n', f'{itself} low, mid'),
+            (b'crashfs: low\nlow: crashfs kit\n', f'{itself} crashfs, low'),
+        ):
+            with self.subTest(line), tempfile.TemporaryDirectory() as room:
+                (Path(room) / 'crates.txt').write_bytes(text)
+                with mock.patch.object(crates, 'TOP', Path(room)), mock.patch.object(
+                    main.shutil, 'which', return_value='rt'
+                ), mock.patch('sys.argv', ['build']), redirect_stderr(io.StringIO()) as err:
+                    self.assertEqual(main.main(), 1)
+                self.assertEqual(err.getvalue(), f'tools/build: crates.txt: {line}\n')
 
 
 if __name__ == '__main__':
