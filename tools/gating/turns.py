@@ -31,7 +31,7 @@ def count_edits(crate: Path) -> int:
 
 def edits_cost(crate: Path) -> int:
     """How long the edits of a crate take, as a number of lines that are proved in that time: all of
-    the crate once more, and LINES_PER_EDIT for each edit."""
+    the crate once more, and LINES_PER_EDIT for each edit. OSError if a file can't be read."""
     lines = sum(path.read_bytes().count(b'\n') for path in (crate / 'src').rglob('*.rt'))
     return lines + LINES_PER_EDIT * count_edits(crate)
 
@@ -55,8 +55,8 @@ def group_in_turn(commit: str) -> int:
 def move_others_aside(commit: str, folder: Path, crates: Path = CRATES) -> str:
     """Moves the edits of the crates whose turn it isn't into `folder`, which is made if it isn't
     there, those of each crate into a new folder of its name. Returns a line that counts the edits
-    and crates that stay. ValueError as group_in_turn(); OSError if something can't be moved: then
-    the edits of some crates are moved."""
+    and crates that stay. ValueError as group_in_turn(), OSError as edits_cost(): then nothing is
+    moved. OSError if something can't be moved: then the edits of some crates are moved."""
     costs = {path.parent.name: edits_cost(path.parent) for path in crates.glob(f'*/{EDITS}')}
     edit_count = sum(count_edits(crates / name) for name in costs)
     names_in_turn = group_crates(costs)[group_in_turn(commit)]
