@@ -72,7 +72,8 @@ def run_here(name: str, result_path: Path) -> int:
 
 def run_module(name: str) -> ModuleResult:
     """Runs a module in a new process, which run_here() ends after a time, and returns its result.
-    Processes that the tests leave behind are not waited for."""
+    Processes that the tests leave behind are not waited for. OSError if the process can't be
+    started, or if no temporary folder can be made."""
     with tempfile.TemporaryDirectory() as folder:
         path, output_path = Path(folder) / 'result', Path(folder) / 'output'
         words = ['--module', name, '--result', str(path)]

@@ -18,8 +18,10 @@ SKIPPED = re.compile(r'^(.*): the tests that need it are skipped$', re.M)
 def outcome_of_tools(printed: str, status: int) -> Outcome:
     """The outcome of the tools' tests, from what unittest printed and its status. At least one test
     counts as failed if the status isn't 0, or if no line counts the tests. An unexpected success
-    counts as failed, an expected failure as passed; for skipped tests not_run has a line too. The
-    outcome's output is what was printed if a test failed, else empty."""
+    counts as failed, an expected failure as passed; for skipped tests not_run has a line too. Each
+    failed or skipped subtest, and a class that is skipped as a whole, counts like a test, so that
+    fewer tests may count as passed than did pass. The outcome's output is what was printed if a
+    test failed, else empty."""
     count_line = RAN.search(printed)
     last_line = printed.rstrip().rpartition('\n')[2]
     counts = {word: int(count) for word, count in COUNTS.findall(last_line)}
