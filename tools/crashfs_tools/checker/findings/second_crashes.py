@@ -11,9 +11,10 @@ from .groups import Group
 @dataclass
 class Recovery:
     """The recovery of a state, given by its number: how many different states of a second crash
-    were tried, how many of them fail or gave no answer, and their groups. crash_places says where
-    the second crash was, by the number of a group's example. fault says why the recovery wasn't
-    tried, or is empty; unproved says whether the second reading computed the states."""
+    were tried, how many of them fail or gave no answer, and their groups. If the first state failed
+    itself, states with its cause count as tried, not as failing. crash_places says where the second
+    crash was, by the number of a group's example. fault says why the recovery wasn't tried, or is
+    empty; unproved says whether the second reading computed the states."""
 
     state: int
     tried_count: int = 0

@@ -263,7 +263,8 @@ class ReportText:
 
     def details(self, group: Group) -> List[str]:
         """The lines below an entry's cause, not folded: the notes of its two lines, why the entry
-        is accepted, the advice, which syncs aren't enough, what must be or is lost too, which
+        is accepted, the advice, which syncs aren't enough, what must be lost too, how many of its
+        states lack one of the two lines and have the other, what its example also lacks, which
         profiles allow its states, and on which disks these were seen."""
         lines = [f'line {line.number}: {line.note}' for line in lines_of_pair(group) if line.note]
         lines += [*acceptance_lines(group), *group.advice.lines()]
@@ -382,5 +383,5 @@ def accepted_text(entry: AcceptedFailure) -> str:
 
 def cut_text(text: str, width: int = COLUMNS) -> str:
     """Cuts a text to at most `width` characters, which must be at least 2: a longer text ends in
-    two points."""
+    two dots."""
     return text if len(text) <= width else text[: width - 2] + '..'
