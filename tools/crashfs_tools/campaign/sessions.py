@@ -126,7 +126,8 @@ def end_tool(child: subprocess.Popen[str]) -> None:
 
 def read_report(report: Path) -> Dict[str, Any]:
     """The JSON of a report of crashfs-check. OSError if it can't be read, or if its version isn't
-    one of REPORTS; ValueError if it is no JSON, AttributeError if that is no object."""
+    one of REPORTS; ValueError if it is no JSON, RecursionError if it is nested too deeply, and
+    AttributeError if it is no object."""
     fields: Dict[str, Any] = json.loads(report.read_text('utf-8', 'surrogateescape'))
     if fields.get('crashfs-check') not in REPORTS:
         raise OSError(f'{report} is a report of another version')

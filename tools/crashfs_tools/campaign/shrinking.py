@@ -14,8 +14,8 @@ from .sessions import Failure, Sessions
 
 def acknowledged_places(lines: List[str]) -> List[int]:
     """The places, from 0, of the acknowledged lines among the lines of a trace. Only lines that
-    contain `"say"` are parsed: TraceError if one of these isn't JSON, AttributeError if it isn't an
-    object."""
+    contain `"say"` are parsed: TraceError if one of these isn't JSON or is nested too deeply,
+    AttributeError if it isn't an object."""
     return [
         place
         for place, line in enumerate(lines)
