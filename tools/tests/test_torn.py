@@ -2,7 +2,7 @@
 
 import unittest
 
-from crashfs_tools.checker.findings.advice import torn_advice
+from crashfs_tools.checker.findings.advice import FailingCounts, torn_advice
 from crashfs_tools.checker.findings.torn import kept_part_text
 from crashfs_tools.checker.report.text import ReportText
 from crashfs_tools.checker.states.read_plan import read_plan
@@ -134,6 +134,25 @@ class OneOfTwoLines(unittest.TestCase):
         self.assertEqual(
             lines, ['1 of these states has the first of the two lines and lacks the second']
         )
+
+
+class EarlyLine(unittest.TestCase):
+    def test_a_line_that_may_acknowledge_nothing_is_asked_about(self):
+        text = THIRD + line('say', text='ready') + line('creat', '/f')
+        (group,) = report_of(
+            text, lambda files, says: 'half' if says and not files else ''
+        ).groups()
+        print_it = 'If line 2 acknowledges nothing, print it on standard error'
+        for counts, remedy in [
+            (None, f'does line 2 acknowledge something that is not stored yet? {print_it}'),
+            (
+                FailingCounts(3, 2),
+                'no sync helps: do line 3 before line 2, with a sync between them '
+                f'(tried: then 2 states fail, 3 before). {print_it}',
+            ),
+        ]:
+            group.swap_counts = counts
+            self.assertEqual(group.best_no_loss_advice().remedy, remedy)
 
 
 if __name__ == '__main__':

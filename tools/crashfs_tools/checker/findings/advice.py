@@ -185,7 +185,8 @@ def no_loss_advice(kept: Optional[TraceLine], lost: Optional[TraceLine]) -> Advi
     """The advice for a failure that needs no loss, if no better remedy is known. States fail from
     the line `kept` on (None: from the beginning) until the line `lost` repairs them (None: to the
     end, and there is no remedy). If `lost` is an acknowledged line, the remedy is a question about
-    COMMAND, else to make the lines one change. There are no syncs."""
+    COMMAND; if `kept` is one, a question about that; else to make the lines one change. There are
+    no syncs."""
     begin = f'line {kept.number} ({kept.text})' if kept else 'the beginning'
     if lost is None:
         return Advice([f'from {begin} on it fails, though nothing is lost'])
@@ -198,7 +199,15 @@ def no_loss_advice(kept: Optional[TraceLine], lost: Optional[TraceLine]) -> Advi
             'a crash between them leaves a change that is not acknowledged yet: does COMMAND '
             'accept it?',
         )
+    if kept is not None and kept.word == 'say':
+        question = f'does line {kept.number} acknowledge something that is not stored yet?'
+        return Advice([sentence], f'{question} {if_no_acknowledgement(kept)}')
     return Advice([sentence], ONE_CHANGE)
+
+
+def if_no_acknowledgement(line: TraceLine) -> str:
+    """What to do about an acknowledged line that acknowledges nothing, as a banner."""
+    return f'If line {line.number} acknowledges nothing, print it on standard error'
 
 
 def overwriting_text(kept: TraceLine, lost: TraceLine) -> str:

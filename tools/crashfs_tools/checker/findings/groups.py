@@ -17,6 +17,7 @@ from .advice import (
     Advice,
     AllSyncs,
     FailingCounts,
+    if_no_acknowledgement,
     loss_advice,
     overwriting_text,
     no_loss_advice,
@@ -177,6 +178,8 @@ class Group:
             if self.swap_counts is not None and self.swap_counts.is_lower:
                 swap = swap_text(self.kept_line, self.lost_line)
                 advice.remedy = f'{swap} (tried: then {self.swap_counts.text})'
+                if self.kept_line.word == 'say':
+                    advice.remedy += f'. {if_no_acknowledgement(self.kept_line)}'
             elif self.is_overwriting:
                 advice.remedy = overwriting_text(self.kept_line, self.lost_line)
         return advice
