@@ -109,6 +109,10 @@ NEVER_MATCH = {
     '[[:word:]]': 'is no class of letters',
     '[[::]]': 'is no class of letters',
     'a\\': 'ends in a backslash',
+    '': 'has an empty name',
+    '/': 'has an empty name',
+    '!//': 'has an empty name',
+    'a//b': 'has an empty name',
 }
 
 

@@ -198,7 +198,7 @@ class Needs(unittest.TestCase):
         for line in (f'symlink("a", "{name}") = 0', f'rename("s", "{name}") = 0'):
             recording = recording_of(['1 ' + line], IN_DIRECTORY)
             self.assertTrue(list(recording.troubles.values()), line)
-            found = recording.trace.version, recording.tree.version, recording.newest_version_reason
+            found = recording.trace.version, recording.tree.version, recording.version_reason
             self.assertEqual(found, (3, 3, ''), line)
         self.assertFalse(recording.add_operation(Truncate('/none', 1 << 25)))
         self.assertEqual(recording.trace.version, 3)
@@ -206,12 +206,12 @@ class Needs(unittest.TestCase):
         self.assertTrue(recording.add_operation(Truncate('/s/f', 1 << 25)))
         self.assertFalse(recording.add_operation(Truncate('/none', 1 << 25)))
         self.assertEqual(recording.trace.version, 4)
-        self.assertIn('/s/f has more than', recording.newest_version_reason)
+        self.assertIn('/s/f has more than', recording.version_reason)
 
     def test_the_first_thing_that_needs_version_4_is_named(self):
         lines = ['1 symlink("a", "l") = 0', '1 rename("s", "t") = 0']
         recording = recording_of(lines, IN_DIRECTORY)
-        self.assertEqual(recording.newest_version_reason, '/l is a symbolic link')
+        self.assertEqual(recording.version_reason, '/l is a symbolic link')
         self.assertEqual((recording.trace.version, recording.tree.version), (4, 4))
 
 

@@ -142,14 +142,21 @@ class Tree:
     def creation_fault(self, path: str) -> Optional[str]:
         """Why nothing can be made at a path: the parent is no directory, something is there, there
         are too many records, or path_fault() has a reason. None if something can be made."""
-        parent = self.entries.get(parent_of(path))
-        if parent is None or not parent.is_directory:
-            return f'{parent_of(path)} is no directory of the trace'
+        fault = self.parent_fault(path)
+        if fault is not None:
+            return fault
         if path in self.entries:
             return f'{path} is there already'
         if self.records >= limits.RECORDS:
             return f'more than {limits.RECORDS} files and directories'
         return path_fault(path)
+
+    def parent_fault(self, path: str) -> Optional[str]:
+        """Why nothing can be at a path: its parent is no directory of the trace. None if it is
+        one."""
+        parent = self.entries.get(parent_of(path))
+        is_directory = parent is not None and parent.is_directory
+        return None if is_directory else f'{parent_of(path)} is no directory of the trace'
 
     def entry_fault(self, path: str, *refused_kinds: str) -> Optional[str]:
         """Why an operation on what is at a path is impossible: nothing is there, or an entry of one
@@ -160,13 +167,14 @@ class Tree:
         return f'{path} is {entry.kind}' if entry.kind in refused_kinds else None
 
     def rename_fault(self, operation: Rename) -> Optional[str]:
-        """Why a rename is impossible, by its paths, what is there, and the count of records. None
-        if it is possible, also if it does nothing."""
+        """Why a rename is impossible in the tree's version: by what is at its paths, by
+        path_fault() of the target, or since no record is left. None if it is possible, also if it
+        does nothing."""
         source, target = operation.source, operation.target
         source_entry, target_entry = self.entries.get(source), self.entries.get(target)
-        parent = self.entries.get(parent_of(target))
-        if parent is None or not parent.is_directory:
-            return f'{parent_of(target)} is no directory of the trace'
+        fault = self.parent_fault(target)
+        if fault is not None:
+            return fault
         if source_entry is None:
             return f'{source} is not there'
         if source_entry.is_directory:

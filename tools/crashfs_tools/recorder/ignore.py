@@ -24,11 +24,15 @@ class Rule:
 
     @staticmethod
     def parse(pattern: str) -> Rule:
-        """The rule of a pattern; ValueError for one that never matches in git, such as `[a`. A
-        pattern without a slash, or with one only at its end, matches at any depth; any other
-        matches whole paths. Blanks, and a `#` at the beginning, are ordinary characters."""
+        """The rule of a pattern. ValueError for one that has an empty name, such as `a//b`, or a
+        set without an end, an unknown class, or a backslash at its end. A pattern without a slash,
+        or with one only at its end, matches at any depth; any other matches whole paths. Blanks,
+        and a `#` at the beginning, are ordinary characters."""
         is_negated = pattern.startswith('!')
         body = pattern[1:] if is_negated else pattern
+        # A slash in a set ends no name.
+        if not body.strip('/') or '//' in body.strip('/') and '[' not in body:
+            raise ValueError(f'`{pattern}` has an empty name')
         is_of_directories = body.endswith('/')
         body = body.rstrip('/')
         is_anchored = '/' in body
@@ -135,19 +139,21 @@ def translate_item(pattern: str, item: re.Match[str]) -> str:
 
 class IgnoreRules:
     """All patterns of --ignore. The last one that matches a path decides, and what is below an
-    ignored directory is ignored, too. `answers` has what was returned for each path. The root is
-    never ignored, as its syncs are needed."""
+    ignored directory is ignored, too. `answers` has what was returned for a path, and for those
+    above it; nothing is kept if there are no patterns. The root is never ignored, as its syncs are
+    needed."""
 
     def __init__(self, patterns: List[str], top: str) -> None:
-        """Parses the patterns; ValueError for one that never matches in git. `top` is the directory
-        on the disk, to see which paths are files; it need not be there."""
+        """Parses the patterns; ValueError as Rule.parse(). `top` is the directory on the disk, to
+        see which paths are files; it need not be there."""
         self.rules = [Rule.parse(pattern) for pattern in patterns]
         self.top = top
         self.answers: Dict[str, bool] = {}
 
     def __call__(self, path: str) -> bool:
-        """Whether a path, which begins with `/`, or a directory above it is ignored. The first
-        answer for a path is kept, even if the file becomes a directory later."""
+        """Whether a path, which begins with `/`, or a directory above it is ignored. Patterns of
+        directories look at the disk when the path is first asked for, and match a path at which
+        nothing is. That answer is kept, even if something else is there later."""
         if not self.rules or path in self.answers:
             return self.answers.get(path, False)
         is_ignored = False

@@ -28,8 +28,8 @@ DESCRIPTOR_MAKERS = frozenset(
     ('open', 'openat', 'openat2', 'creat', 'dup', 'dup2', 'dup3', 'fcntl', 'fcntl64')
 )
 MAPPING_CALLS = ('mmap', 'mmap2')
-# Those of DESCRIPTOR_CALLS whose other arguments are bytes and numbers.
-WRITING_CALLS = frozenset(('write', 'pwrite64', 'writev', 'pwritev', 'pwritev2'))
+# Those of DESCRIPTOR_CALLS that write bytes, which are their second argument.
+WRITES = ('write', 'pwrite64', 'writev', 'pwritev', 'pwritev2')
 # The process, the call, its first descriptor, and what strace shows for that.
 HEAD = re.compile(r'\d+\s+(\w+)\((?:(0x[0-9a-f]+|\d+)(?:<([^>]*)>|[, )]))?')
 # What is shown of a path begins with its slash; pipes and sockets have a word.
@@ -53,10 +53,12 @@ class LogFilter:
         self.has_mapping = False
 
     def is_needless(self, line: str) -> bool:
-        """Whether a line needs no reading: it has a call, or the beginning of one, on a descriptor
-        that isn't needed, or on memory while no file of the directory is mapped, and it shows
-        neither the directory's path nor a pipe or a socket. The bytes that a call writes aren't
-        searched for that path."""
+        """Whether a line needs no reading; it may have only the beginning of a call. A call of
+        DESCRIPTOR_CALLS is needless if its descriptor isn't needed, if strace shows a path or
+        nothing for the descriptor, and if the line doesn't show the directory's path; in what
+        WRITES write, that path isn't looked for. A call of MEMORY_CALLS is needless if no
+        file of the directory is mapped yet, and the line doesn't show the directory's path. No
+        other line is."""
         match = HEAD.match(line)
         if match is None:
             return False
@@ -65,7 +67,7 @@ class LogFilter:
             return not self.has_mapping and self.shown_top not in line
         if name not in DESCRIPTOR_CALLS or number is None:
             return False
-        text_to_search = shown_text or '' if name in WRITING_CALLS else line
+        text_to_search = shown_text or '' if name in WRITES else line
         return (
             parse_integer(number) not in self.needed_descriptors
             and (shown_text is None or shown_text.startswith(SLASH))

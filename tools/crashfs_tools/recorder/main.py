@@ -226,8 +226,8 @@ def remarks_on_trace(options: RecordOptions, recording: Recording) -> List[str]:
     """Lines that don't change the status: on a late start, on the reason for the newest version,
     and on operations for which --stacks found no function. Empty if none of these is there."""
     remarks = [LATE_START] if recording.has_late_start else []
-    if recording.newest_version_reason:
-        remarks.append(NEW_VERSION % recording.newest_version_reason)
+    if recording.version_reason:
+        remarks.append(NEW_VERSION % recording.version_reason)
     if options.stacks:
         remarks += summary.lines_on_missing_notes(recording.trace)
     return remarks

@@ -75,7 +75,7 @@ class RecordOptions:
 
 
 def check_pattern(text: str) -> str:
-    """A pattern of --ignore, unchanged; ArgumentTypeError for one that never matches in git."""
+    """A pattern of --ignore, unchanged; ArgumentTypeError as Rule.parse() raises ValueError."""
     try:
         Rule.parse(text)
     except ValueError as error:
@@ -85,14 +85,14 @@ def check_pattern(text: str) -> str:
 
 def parse_say_fd(word: str) -> str:
     """A value of --say-fd in the form of acknowledging_descriptors: SOCKETS, or the digits of a
-    number without zeros before them. ArgumentTypeError for any other text, and for a number above
+    number without leading zeros. ArgumentTypeError for any other text, and for a number above
     LARGEST_DESCRIPTOR."""
     if word == SOCKETS:
         return word
-    number = parse_number(word)
-    if number is None:
+    if not word.isdecimal():
         raise argparse.ArgumentTypeError(f'{word} is neither a number nor `{SOCKETS}`')
-    if number > LARGEST_DESCRIPTOR:
+    number = parse_number(word)
+    if number is None or number > LARGEST_DESCRIPTOR:
         raise argparse.ArgumentTypeError(f'no descriptor has a number above {LARGEST_DESCRIPTOR}')
     return f'{number}'
 

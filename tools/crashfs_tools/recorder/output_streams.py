@@ -11,7 +11,8 @@ from enum import Enum
 from typing import Dict, FrozenSet, Iterable, Iterator, List, Optional, Sequence, Set
 
 from . import arguments
-from .strace_log import WRITES, Call
+from .log_filter import WRITES
+from .strace_log import Call
 
 OUTPUT, ERRORS = 'standard output', 'standard error'
 # What --say-fd takes for every connection that COMMAND accepts.
@@ -193,10 +194,17 @@ def connections_with_lines(calls: Iterable[Call]) -> FrozenSet[str]:
             accepted_connections.add(call.result_descriptor.text)
         elif call.name in WRITES or call.name in SENDS:
             text = call.descriptor().text
-            if text in accepted_connections and text not in line_connections:
-                if b'\n' in (sent_bytes(call) or b''):
-                    line_connections.add(text)
+            if text is None or text not in accepted_connections or text in line_connections:
+                continue
+            if has_line_feed(call):
+                line_connections.add(text)
     return frozenset(line_connections)
+
+
+def has_line_feed(call: Call) -> bool:
+    """Whether the bytes of a call of WRITES or SENDS have a line feed; False if the log lacks some
+    of them. LogError as in sent_bytes()."""
+    return b'\n' in (sent_bytes(call) or b'')
 
 
 def sent_bytes(call: Call) -> Optional[bytes]:

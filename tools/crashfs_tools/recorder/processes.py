@@ -123,8 +123,8 @@ class Process:
         return removed_path(shown.path) if shown.is_deleted else shown.path
 
     def forked_child(self, fork: Call) -> Process:
-        """The process or thread that a call of FORKS by this process makes. The call's flags say
-        what both share; the rest is copied as it is now."""
+        """The process or thread that a call of FORKS by this process makes. A vfork shares the
+        memory; of other calls the flags say what both share. The rest is copied as it is now."""
         flags = ' '.join(fork.arguments)
         has_shared_memory = 'CLONE_VM' in flags or fork.name == 'vfork'
         return Process(

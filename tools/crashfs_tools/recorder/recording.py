@@ -107,7 +107,7 @@ class Recording:
 
     current_call is the call that is translated now; None before the first and after the last. What
     is at one of differing_paths at the end may differ from the trace, as at the troubles' paths.
-    change_count is how many operations but acknowledgements were added. newest_version_reason says
+    change_count is how many operations but acknowledgements were added. version_reason says
     why the trace has the newest version, and is empty if it has another. on_acknowledged is called
     after each acknowledgement. has_late_start means that --begin-after began the trace again."""
 
@@ -132,7 +132,7 @@ class Recording:
         version = self.settings.version or WRITTEN_VERSION
         self.trace = Trace(header, version=version, profile=profile, block=block)
         self.tree = Tree(header.owner, header.group, header.mode, block, version, profile)
-        self.newest_version_reason = f'--trace-version {NEWEST}' if version >= NEWEST else ''
+        self.version_reason = f'--trace-version {NEWEST}' if version >= NEWEST else ''
         for trouble in self.troubles.values():
             trouble.lines.clear()
         if profile == JOURNAL:
@@ -192,10 +192,10 @@ class Recording:
         return self.trace.version >= NEWEST
 
     def set_version(self, version: int, reason: str) -> None:
-        """Gives the trace and its tree a version, and sets newest_version_reason, which must be
+        """Gives the trace and its tree a version, and sets version_reason, which must be
         empty if the version isn't the newest."""
         self.trace.version = self.tree.version = version
-        self.newest_version_reason = reason
+        self.version_reason = reason
 
     def reason_for_newest_version(self, operation: Operation) -> str:
         """Why only the newest version may have an operation. Empty if older ones may have it too,
@@ -215,7 +215,7 @@ class Recording:
         trace gets the newest version if the operation needs that; a Symlink must not be added if
         may_have_newest_version is False. If `crashfs` would refuse the operation, it is reported
         and not added, and False is returned."""
-        old_version, old_reason = self.trace.version, self.newest_version_reason
+        old_version, old_reason = self.trace.version, self.version_reason
         reason = self.reason_for_newest_version(operation)
         if reason:
             self.use_newest_version(reason)

@@ -8,7 +8,7 @@ from typing import Dict, Iterable, List, Optional, Set
 
 from . import arguments
 from .arguments import Descriptor, LogError
-from .log_filter import LogFilter
+from .log_filter import WRITES, LogFilter
 
 LINE = re.compile(r'^(\d+)\s+(\w+)\((.*)\)\s+= (0x[0-9a-f]+|-?\d+|\?)(.*)$', re.S)
 BEGUN = re.compile(r'^(\d+)\s+(\w+)\(')
@@ -23,8 +23,6 @@ SHOWN_RESULT = re.compile(r'^<([^>]*)>(\(deleted\))?')
 # What strace -k has before each frame, after the call's line.
 FRAME = ' > '
 
-# Calls with bytes, which are their second argument.
-WRITES = ('write', 'pwrite64', 'writev', 'pwritev', 'pwritev2')
 FORKS = ('clone', 'clone3', 'fork', 'vfork')
 
 # Names for what is no call, but is in the list of calls.
@@ -173,7 +171,7 @@ class LogReader:
         self.call_with_frames = Call(
             thread=int(thread),
             name=name,
-            arguments=split_and_pack(name, text),
+            arguments=packed_arguments(name, text),
             result=number,
             result_descriptor=Descriptor(number, shown_text, is_deleted=bool(shown and shown[2])),
             begin=begin,
@@ -206,9 +204,10 @@ class LogReader:
         self.log.calls.append(event)
 
 
-def split_and_pack(name: str, text: str) -> List[str]:
-    """The arguments of a call with this name, from the text between its brackets. If it is one of
-    WRITES, the second argument is packed, as bytes that are written are most of a log."""
+def packed_arguments(name: str, text: str) -> List[str]:
+    """The arguments of a call with this name, from the text between its brackets. The second
+    argument of a call of WRITES is packed by pack_word(), since most of a log is bytes that are
+    written."""
     words = arguments.split_arguments(text)
     if name in WRITES and len(words) > 1:
         words[1] = arguments.pack_word(words[1])

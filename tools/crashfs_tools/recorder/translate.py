@@ -15,10 +15,11 @@ from .calls import processes as process_calls
 from .calls import renames, syncs
 from .live_files import LiveFiles
 from .live_tree import Node
+from .log_filter import WRITES
 from .mapped_files import FileCopies, FileCopy
 from .output_streams import SOCKETS, connections_with_lines
 from .processes import Descriptors, PathContext, Process, node_of
-from .strace_log import EXIT, FORKS, SUPERSEDE, UNFINISHED, WRITES, Call, Log
+from .strace_log import EXIT, FORKS, SUPERSEDE, UNFINISHED, Call, Log
 
 Handler = Callable[[LiveFiles, Process, Call], None]
 
@@ -74,8 +75,9 @@ class Translator:
         """Translates the whole log, and then adds what comes after the last call, when current_call
         is None: lines of output without a line feed, the stores that the last copy shows, and
         reports on names and mapped files that the trace lacks. LogError if an argument isn't as
-        strace writes it, with the number of its call's last line, or without a number if the calls
-        can't be put in order: then the recording has what the calls before did."""
+        strace writes it, with the number of its call's last line: then the recording has what the
+        calls before did. The LogError has no number if it comes before the first call, as the lines
+        of connections are looked for, or as the calls are put in order."""
         try:
             self.translate_calls()
         except LogError as error:
