@@ -31,7 +31,7 @@ RECORD: List[Tuple[str, int, str]] = [
     ('--block 5 d o -- true', 2, 'error: argument --block: invalid choice: 5 '),
     ('--profile x d o -- true', 2, "error: argument --profile: invalid choice: 'x' "),
     ('--say-fd x d o -- true', 2, 'error: argument --say-fd: x is neither a number nor `socket`'),
-    (f'--say-fd {"1" * 4_400} d o -- true', 2, '--say-fd: no descriptor has a number above'),
+    (f'--say-fd {"1" * 4_400} d o -- true', 2, 'error: argument --say-fd: no descriptor has'),
     ('--say-fd \u00b2 d o -- true', 2, 'error: argument --say-fd: \u00b2 is neither a number nor'),
     ('--say-fd 2147483648 d o -- true', 2, 'error: argument --say-fd: no descriptor has a number'),
     (
