@@ -4,6 +4,7 @@ from __future__ import annotations
 
 import faulthandler
 import json
+import signal
 import subprocess
 import sys
 import tempfile
@@ -56,36 +57,45 @@ def result_of_tests(name: str, tests: PassCounter) -> ModuleResult:
 
 def run_here(name: str, result_path: Path) -> int:
     """Runs a module in this process and writes its result, without the output, to a file, as JSON.
-    Returns 0, also if a test fails or the module can't be imported. After MODULE_SECONDS the
-    process ends with status 1 and without a result, and prints on standard error what each of its
-    threads was doing. OSError if the file can't be written. The folder tools/ must be on Python's
-    path."""
-    faulthandler.dump_traceback_later(MODULE_SECONDS, exit=True)
+    Returns 0, also if a test fails or the module can't be imported. At SIGABRT the process ends
+    without a result, and prints on standard error what each of its threads was doing. OSError if
+    the file can't be written. The folder tools/ must be on Python's path."""
+    # No timer of faulthandler: a process that a test forks could not start one of its own.
+    faulthandler.enable()
     tests = unittest.defaultTestLoader.loadTestsFromName(name)
     counted = unittest.TextTestRunner(resultclass=PassCounter).run(tests)
     assert isinstance(counted, PassCounter)
     result = result_of_tests(name, counted)
     result_path.write_text(json.dumps(asdict(result)), encoding='utf-8')
-    faulthandler.cancel_dump_traceback_later()
     return 0
 
 
+def wait_or_abort(child: subprocess.Popen[bytes]) -> None:
+    """Waits for the end of a process, for which it sends SIGABRT after MODULE_SECONDS."""
+    try:
+        child.wait(MODULE_SECONDS)
+    except subprocess.TimeoutExpired:
+        child.send_signal(signal.SIGABRT)
+        child.wait()
+
+
 def run_module(name: str) -> ModuleResult:
-    """Runs a module in a new process, which run_here() ends after a time, and returns its result.
-    Processes that the tests leave behind are not waited for. OSError if the process can't be
-    started, or if no temporary folder can be made."""
+    """Runs a module in a new process, which is aborted after MODULE_SECONDS, and returns its
+    result. Processes that the tests leave behind are not waited for. OSError if the process can't
+    be started, or if no temporary folder can be made."""
     with tempfile.TemporaryDirectory() as folder:
         path, output_path = Path(folder) / 'result', Path(folder) / 'output'
         words = ['--module', name, '--result', str(path)]
         # A file: a pipe would end only with the last process that has it.
         with output_path.open('wb') as output:
-            subprocess.run(
+            child = subprocess.Popen(
                 [sys.executable, '-m', 'gating.suite', *words],
                 cwd=TOOLS,
                 stdin=subprocess.DEVNULL,
                 stdout=output,
                 stderr=output,
             )
+            wait_or_abort(child)
         try:
             result = ModuleResult(**json.loads(path.read_text('utf-8')))
         except (OSError, ValueError):

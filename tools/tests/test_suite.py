@@ -5,15 +5,13 @@ from __future__ import annotations
 import io
 import os
 import signal
-import subprocess
-import sys
 import time
 import unittest
 from typing import List
 from unittest import mock
 
 from gating.modules import ModuleResult, PassCounter, result_of_tests, run_module
-from gating.suite import TOOLS, count_at_once, has_passed, run_modules, summary_line
+from gating.suite import count_at_once, has_passed, run_modules, summary_line
 
 from .support import PATIENCE, InFolder
 
@@ -124,19 +122,15 @@ class SuiteTests(InFolder):
 
     def test_a_module_that_does_not_end_says_what_it_was_doing(self) -> None:
         self.write('endless.py', ENDLESS)
-        code = (
-            'from pathlib import Path; from gating import modules; modules.MODULE_SECONDS = 1.0; '
-            'modules.run_here("endless", Path("result"))'
-        )
-        ended = subprocess.run(
-            [sys.executable, '-c', code],
-            cwd=self.folder,
-            env={**os.environ, 'PYTHONPATH': f'{TOOLS}:{self.folder}'},
-            stderr=subprocess.PIPE,
-            text=True,
-        )
-        self.assertEqual((ended.returncode, os.path.exists(self.path('result'))), (1, False))
-        self.assertIn('in test_it_waits', ended.stderr)
+        with mock.patch.dict(os.environ, PYTHONPATH=self.folder):
+            with mock.patch('gating.modules.MODULE_SECONDS', 10.0):
+                result = run_module('endless')
+        self.assertEqual((result.run, result.failed), (0, 1))
+        self.assertIn('in test_it_waits', result.output)
+
+    def test_a_test_that_forks_has_a_time_limit_of_its_own(self) -> None:
+        result = run_module('tests.test_several')
+        self.assertEqual((result.run, result.failed), (2, 0))
 
 
 if __name__ == '__main__':
