@@ -4,7 +4,7 @@ from __future__ import annotations
 
 import unittest
 from collections import Counter
-from contextlib import nullcontext
+from contextlib import ExitStack
 from types import SimpleNamespace
 from typing import Any, List, Set
 
@@ -174,7 +174,9 @@ class Paces(unittest.TestCase):
             progress.begin_part(MEASURED_STATES + left_count, most_seconds=0.0)
             for _ in range(MEASURED_STATES - 1):
                 progress.add_outcome(GOOD_OUTCOME)
-            with self.assertRaises(TooSlow) if left_count else nullcontext():
+            with ExitStack() as stack:
+                if left_count:
+                    stack.enter_context(self.assertRaises(TooSlow))
                 progress.add_outcome(Outcome(BAD, 'lost'))
             self.assertEqual(progress.failed_count, 1)
 
