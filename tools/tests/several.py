@@ -3,7 +3,6 @@ its directory, its umask or a function that it replaces, no test beside it sees.
 
 from __future__ import annotations
 
-import faulthandler
 import os
 import traceback
 import unittest
@@ -14,8 +13,6 @@ from typing import Any, Callable, Dict, Iterator, List, Sequence, Tuple
 # Two for each processor, since half of their time is waiting.
 PROCESSES = 2 * len(os.sched_getaffinity(0))
 DIGITS = 6
-# How long a test may take: longer than the PATIENCE of `support` with one command.
-TEST_SECONDS = 900.0
 
 Step = Tuple[str, Tuple[Any, ...]]
 
@@ -126,12 +123,9 @@ def outcomes(tests: Sequence[unittest.TestCase]) -> Iterator[Tuple[int, List[Ste
 
 
 def work(tests: Sequence[unittest.TestCase], numbers: int, telling: connection.Connection) -> None:
-    """The new process: it runs the next test that no other has taken, until there is none. If a
-    test takes longer than TEST_SECONDS, the process prints what it was doing, and ends."""
+    """The new process: it runs the next test that no other has taken, until there is none."""
     while word := os.read(numbers, DIGITS):
-        faulthandler.dump_traceback_later(TEST_SECONDS, exit=True)
         telling.send((int(word), Steps(tests[int(word)]).steps))
-        faulthandler.cancel_dump_traceback_later()
 
 
 def tests_of(suite: Any) -> Iterator[unittest.TestCase]:

@@ -49,12 +49,7 @@ def samples(folder):
         def test_e_ends_its_process(self):
             os.kill(os.getpid(), signal.SIGKILL)
 
-        def test_f_does_not_end(self):
-            # What it was doing is printed there.
-            os.dup2(os.open(os.path.join(folder, 'printed'), os.O_WRONLY | os.O_CREAT), 2)
-            time.sleep(PATIENCE)
-
-        def test_g_passes(self):
+        def test_f_passes(self):
             self.assertTrue(True)
 
     return unittest.defaultTestLoader.loadTestsFromTestCase(Samples)
@@ -72,13 +67,13 @@ class Several(InFolder):
         came of them."""
         told, result = [], unittest.TestResult()
         result.startTest = lambda test: told.append(letter(test))
-        with mock.patch.multiple(several, PROCESSES=processes, TEST_SECONDS=1.0):
+        with mock.patch.object(several, 'PROCESSES', processes):
             several.SeveralAtOnce(samples(self.folder)).run(result)
         return ''.join(told), result
 
     def test_what_came_of_each_is_reported_in_their_order(self):
-        told, result = self.run_all(4)
-        self.assertEqual(told, 'abcdefg')
+        told, result = self.run_all(3)
+        self.assertEqual(told, 'abcdef')
         self.assertEqual(
             [
                 (letter(test), test.shortDescription(), last_line(text))
@@ -88,18 +83,16 @@ class Several(InFolder):
                 ('c', 'What it says.', 'AssertionError: no'),
                 ('c', 'What it says.', 'OSError: odd'),
                 ('e', None, several.__name__ + '.Broken: the process of the test ended'),
-                ('f', None, several.__name__ + '.Broken: the process of the test ended'),
             ],
         )
         self.assertIn('(part=1)', str(result.failures[0][0]))
-        self.assertIn('in test_f_does_not_end', self.read('printed'))
         self.assertEqual([reason for _, reason in result.skipped], ['so'])
 
     def test_a_test_that_no_process_is_left_for_is_an_error(self):
         self.write('seen', '')
         told, result = self.run_all(1)
-        self.assertEqual(told, 'abcdefg')
-        self.assertEqual([letter(test) for test, _ in result.errors], ['c', 'e', 'f', 'g'])
+        self.assertEqual(told, 'abcdef')
+        self.assertEqual([letter(test) for test, _ in result.errors], ['c', 'e', 'f'])
 
 
 def letter(test):

@@ -128,10 +128,6 @@ class SuiteTests(InFolder):
         self.assertEqual((result.run, result.failed), (0, 1))
         self.assertIn('in test_it_waits', result.output)
 
-    def test_a_test_that_forks_has_a_time_limit_of_its_own(self) -> None:
-        result = run_module('tests.test_several')
-        self.assertEqual((result.run, result.failed), (2, 0))
-
 
 if __name__ == '__main__':
     unittest.main()
