@@ -52,7 +52,7 @@ class Lines(unittest.TestCase):
         change, rest = '1 mkdir("a", 0777) = 0', '1 write(1<pipe:[7]>, "\n", 1) = 1'
         part = '1 write(1<pipe:[7]>, "one", 3) = 3'
         recording = output_of([nothing, change, part, nothing, change.replace('a', 'b'), rest])
-        self.assertEqual(recording.streams.standard_streams[1].most_gaps, 1)
+        self.assertEqual(recording.streams.inherited_streams[1].most_gaps, 1)
 
     def test_a_stream_that_exec_closes_is_none_any_more(self):
         log = [
@@ -77,7 +77,7 @@ class Lines(unittest.TestCase):
     def test_standard_error_is_counted_and_not_acknowledged(self):
         recording = output_of(['1 write(2</dev/tty>, "one\ntw", 6) = 6'])
         self.assertEqual(recording.trace.operations, [])
-        self.assertEqual(recording.streams.standard_streams[2].text_count, 2)
+        self.assertEqual(recording.streams.inherited_streams[2].text_count, 2)
         self.assertEqual(
             lines_of(
                 ['1 write(2</dev/tty>, "one\n", 4) = 4', '1 write(1<pipe:[7]>, "no\n", 3) = 3'],

@@ -98,7 +98,7 @@ class LiveFiles:
         """COMMAND's first process as it starts: in the directory, with the umask of the start
         conditions, and with the output streams that it inherits. Other descriptors that are open at
         its start aren't known. It isn't added to `processes`."""
-        streams = self.recording.streams.inherited_streams()
+        streams = self.recording.streams.inherited_streams
         files = {number: OpenFile(None, stream=stream) for number, stream in streams.items()}
         return Process(Descriptors(files), PathContext(self.conditions.top, self.conditions.umask))
 
@@ -235,7 +235,7 @@ class LiveFiles:
         file = process.descriptors.files.get(descriptor.number)
         if file is None:
             return streams.find_stream(descriptor.number, descriptor.text)
-        if file.stream is streams.standard_streams[1]:
+        if file.stream is streams.inherited_streams[1]:
             streams.add_text_of_output(descriptor.text)
         return file.stream
 

@@ -15,6 +15,7 @@ from .log_filter import WRITES
 from .strace_log import Call
 
 OUTPUT, ERRORS = 'standard output', 'standard error'
+STANDARD_STREAM_NAMES = {1: OUTPUT, 2: ERRORS}
 # What --say-fd takes for every connection that COMMAND accepts.
 SOCKETS = 'socket'
 # Without --say-fd standard output acknowledges something.
@@ -99,16 +100,17 @@ def line_of_write(data: bytes) -> bytes:
     return text.replace('\n', '\\n').replace('\r', '\\r').encode()
 
 
-def numbered_descriptors(words: Iterable[str]) -> List[int]:
-    """The descriptors among values of --say-fd; the value SOCKETS is left out."""
-    return [int(word) for word in words if word.isdecimal()]
+def nonstandard_descriptors(words: Iterable[str]) -> List[int]:
+    """The numbers above 2 among values of --say-fd: neither standard descriptors nor SOCKETS."""
+    return [int(word) for word in words if word.isdecimal() and int(word) > 2]
 
 
 @dataclass
 class OutputStreams:
-    """All streams of a session. streams_by_text has them by the text that strace shows for a
-    descriptor, as `pipe:[7]`, so that all descriptors of one pipe are of one stream. Streams that
-    inherited_streams() makes are there by the descriptor's number.
+    """All streams of a session. inherited_streams has, by their descriptors, those that COMMAND may
+    start with: standard output and error, and those above 2 that --say-fd names. streams_by_text
+    has streams by the text that strace shows for a descriptor, as `pipe:[7]`, so that all
+    descriptors of one pipe are of one stream; a device's text has the descriptor's number before.
 
     acknowledging_descriptors has the values of --say-fd: numbers, or SOCKETS. say_each is what
     counts as an acknowledgement; None means lines, but writes for a connection that isn't among
@@ -119,41 +121,33 @@ class OutputStreams:
     say_each: Optional[SayEach] = None
     line_connections: FrozenSet[str] = frozenset()
     streams_by_text: Dict[str, OutputStream] = field(default_factory=dict)
-    standard_streams: Dict[int, OutputStream] = field(init=False)
+    inherited_streams: Dict[int, OutputStream] = field(init=False)
 
     def __post_init__(self) -> None:
-        """Makes standard output and standard error, whether or not they acknowledge something."""
-        self.standard_streams = {1: self.new_stream(OUTPUT, 1), 2: self.new_stream(ERRORS, 2)}
+        """Makes inherited_streams. Standard output and error are among them even if they
+        acknowledge nothing."""
+        numbers = [1, 2, *nonstandard_descriptors(self.acknowledging_descriptors)]
+        self.inherited_streams = {number: self.new_stream(number) for number in numbers}
 
-    def new_stream(self, name: str, number: int) -> OutputStream:
+    def new_stream(self, number: int) -> OutputStream:
         """A new stream of the descriptor with this number, which isn't added. It acknowledges
         something if --say-fd names the descriptor: by lines, unless --say-each says otherwise."""
-        is_acknowledged = str(number) in self.acknowledging_descriptors
-        say_each = self.say_each or SayEach.LINE
-        return OutputStream(name, is_acknowledged=is_acknowledged, say_each=say_each)
+        return OutputStream(
+            STANDARD_STREAM_NAMES.get(number, f'descriptor {number}'),
+            is_acknowledged=str(number) in self.acknowledging_descriptors,
+            say_each=self.say_each or SayEach.LINE,
+        )
 
-    def is_named_by_option(self, number: int) -> bool:
-        """Whether --say-fd names the descriptor with this number, and it is above 2: the standard
-        streams are there without being named."""
-        return number > 2 and str(number) in self.acknowledging_descriptors
-
-    def inherited_streams(self) -> Dict[int, OutputStream]:
-        """The streams that COMMAND may start with, by their descriptors: standard output and error,
-        and those above 2 that --say-fd names. The first call makes the latter, and later calls
-        return the same streams."""
-        streams = dict(self.standard_streams)
-        for number in numbered_descriptors(self.acknowledging_descriptors):
-            if number > 2:
-                stream = self.new_stream(f'descriptor {number}', number)
-                streams[number] = self.streams_by_text.setdefault(f'{number}', stream)
-        return streams
+    def is_named_nonstandard(self, number: int) -> bool:
+        """Whether --say-fd names the descriptor with this number, and it is above 2."""
+        return number in nonstandard_descriptors(self.acknowledging_descriptors)
 
     def add_text_of_output(self, text: Optional[str]) -> None:
         """Adds what strace shows for a descriptor of COMMAND's standard output, so that the stream
         is found by this text. Nothing unless it is the text of a pipe, since others may write to a
         file or a terminal too; nor if another stream has this text already."""
         if text is not None and text.startswith('pipe:'):
-            self.streams_by_text.setdefault(text, self.standard_streams[1])
+            self.streams_by_text.setdefault(text, self.inherited_streams[1])
 
     def add_connection(self, text: Optional[str]) -> None:
         """Adds the stream of a connection that COMMAND accepted, if --say-fd asks for connections.
@@ -167,20 +161,20 @@ class OutputStreams:
 
     def find_stream(self, number: int, text: Optional[str]) -> Optional[OutputStream]:
         """The stream of a descriptor, by its number and the text that strace shows for it, None if
-        nothing. A stream that isn't known is made if is_named_by_option(). None for any other, and
-        if strace shows nothing. Two descriptors of a device may be two streams."""
+        nothing. A stream that isn't known is made if is_named_nonstandard(); None for any other,
+        and if strace shows nothing. Two descriptors of a device may be two streams."""
         if text is None:
             return None
         known_stream = self.streams_by_text.get(text)
-        if known_stream is not None or not self.is_named_by_option(number):
+        if known_stream is not None or not self.is_named_nonstandard(number):
             return known_stream
         key = f'{number}<{text}>' if text.startswith('/dev/') else text
-        return self.streams_by_text.setdefault(key, self.new_stream(f'descriptor {number}', number))
+        return self.streams_by_text.setdefault(key, self.new_stream(number))
 
     def all_streams(self) -> Iterator[OutputStream]:
-        """Yields each stream once, even if it is there by several texts: first standard output and
-        error, then the others as they came."""
-        yield from dict.fromkeys([*self.standard_streams.values(), *self.streams_by_text.values()])
+        """Yields each stream once, even if it is there by several texts: first those that
+        COMMAND may start with, then the others as they came."""
+        yield from dict.fromkeys([*self.inherited_streams.values(), *self.streams_by_text.values()])
 
 
 def connections_with_lines(calls: Iterable[Call]) -> FrozenSet[str]:

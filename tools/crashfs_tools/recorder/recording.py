@@ -29,7 +29,7 @@ from crashfs_tools.common.trace import (
 from crashfs_tools.common.tree import Tree, least_file_size
 
 from .directory import NEWEST, PERMISSIONS
-from .output_streams import OutputStream, OutputStreams, SayEach
+from .output_streams import DEFAULT_DESCRIPTORS, OutputStream, OutputStreams, SayEach
 from .strace_log import Call
 
 
@@ -39,7 +39,7 @@ class TraceSettings:
     `profile` says which directory operations the file system keeps in order, and `block` how many
     bytes the disk writes whole. The version None means the oldest one that has all that happens."""
 
-    acknowledging_descriptors: Sequence[str] = ('1',)
+    acknowledging_descriptors: Sequence[str] = DEFAULT_DESCRIPTORS
     say_each: Optional[SayEach] = None
     profile: str = BLOCKS
     block: int = BLOCK_SIZES[-1]

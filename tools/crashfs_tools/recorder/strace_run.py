@@ -21,7 +21,7 @@ from . import stacks
 from .log_stream import LogStream
 from .mapped_files import STOPPING_CALLS
 from .options import NAME, RecordOptions
-from .output_streams import numbered_descriptors
+from .output_streams import SOCKETS, nonstandard_descriptors
 from .progress import CallProgress
 from .strace_log import FORKS
 from .translate import HANDLERS, SOCKET_HANDLERS
@@ -58,8 +58,9 @@ def strace_command(strace_path: str, log_path: str, options: RecordOptions) -> L
     under it. Only the calls that the options need are traced. With --mapped SIGSTOP stops COMMAND
     at each of STOPPING_CALLS; with --stacks the log has stacks, unless COMMAND is a Python
     program."""
-    is_standard_only = set(options.acknowledging_descriptors) <= {'1', '2'}
-    socket_calls = [] if is_standard_only else SOCKET_HANDLERS
+    descriptors = options.acknowledging_descriptors
+    may_be_sockets = SOCKETS in descriptors or bool(nonstandard_descriptors(descriptors))
+    socket_calls = SOCKET_HANDLERS if may_be_sockets else ()
     marking_calls = stacks.MARKING_CALLS if options.stacks else ()
     traced = dict.fromkeys([*FORKS, *HANDLERS, *socket_calls, *marking_calls])
     calls = ','.join(f'?{name}' for name in traced)
@@ -227,10 +228,10 @@ class StraceRun:
 
 
 def inherited_descriptors(acknowledging_descriptors: Sequence[str]) -> List[int]:
-    """The numbers above 2 among the values of --say-fd whose descriptors COMMAND inherits from the
-    recorder: those with which the recorder was started, but none that it has opened itself."""
-    numbers = numbered_descriptors(acknowledging_descriptors)
-    return [number for number in numbers if number > 2 and is_inherited(number)]
+    """The nonstandard_descriptors() that COMMAND inherits from the recorder: those with which the
+    recorder was started, but none that it has opened itself."""
+    numbers = nonstandard_descriptors(acknowledging_descriptors)
+    return [number for number in numbers if is_inherited(number)]
 
 
 def is_inherited(number: int) -> bool:

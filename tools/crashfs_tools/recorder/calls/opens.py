@@ -162,10 +162,10 @@ def duplicate_descriptor(
     if old.number == call.result:
         return
     file = process.open_file(old)
-    if file is None and streams.is_named_by_option(old.number):
+    if file is None and streams.is_named_nonstandard(old.number):
         file = OpenFile(None, stream=streams.find_stream(old.number, old.text))
         process.descriptors.files[old.number] = file
-    if file is not None and file.stream is not None and streams.is_named_by_option(call.result):
+    if file is not None and file.stream is not None and streams.is_named_nonstandard(call.result):
         file.stream.is_acknowledged = True
     process.descriptors.set_file(call.result, file, is_closed_by_exec=is_closed_by_exec)
 
