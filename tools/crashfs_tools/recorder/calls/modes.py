@@ -15,7 +15,8 @@ from crashfs_tools.recorder.processes import Process, node_of
 from crashfs_tools.recorder.live_files import LiveFiles
 from crashfs_tools.recorder.strace_log import Call
 
-UNCHANGED = {'-1', '4294967295', '0xffffffff'}
+# The numbers of an owner or group that mean the old one: -1, and -1 of 32 bits without a sign.
+UNCHANGED = (-1, 2**32 - 1)
 
 
 def first_argument_node(files: LiveFiles, process: Process, call: Call) -> Optional[Node]:
@@ -31,36 +32,37 @@ def first_argument_node(files: LiveFiles, process: Process, call: Call) -> Optio
 def on_chmod(files: LiveFiles, process: Process, call: Call) -> None:
     """Sets the mode of the file or directory of the first argument: a path, or, for fchmod, a
     descriptor."""
-    set_mode(files, first_argument_node(files, process, call), call.argument(1))
+    node = first_argument_node(files, process, call)
+    set_mode(files, node, parse_digits(call.argument(1), 8))
 
 
 def on_fchmodat(files: LiveFiles, process: Process, call: Call) -> None:
     """Sets the mode of the file at a path that is relative to a directory."""
-    set_mode(files, files.node_argument_at(process, call, 0), call.argument(2))
+    node = files.node_argument_at(process, call, 0)
+    set_mode(files, node, parse_digits(call.argument(2), 8))
 
 
-def set_mode(files: LiveFiles, node: Optional[Node], word: str) -> None:
-    """Gives a file or directory the mode in an argument (`word`). If it has another mode in the
-    trace, a chmod is added, and has_new_rights of the node is set. Bits beyond 777 are only noted.
-    Nothing if the node is None, as it isn't followed."""
-    # Some programs also pass the bits of the file's kind, which the kernel ignores.
-    mode = parse_digits(word, 8) & 0o7777
+def set_mode(files: LiveFiles, node: Optional[Node], mode: int) -> None:
+    """Gives a file or directory a mode. If it has another one in the trace, a chmod is added, and
+    has_new_rights of the node is set. Bits beyond 777 are only noted. Nothing if the node is None,
+    as it isn't followed."""
     if node is None:
         return
     node.mode = mode & PERMISSIONS
     path = path_in_trace(node)
     if path is None:
         return
-    files.recording.note_extra_bits(path, mode)
-    if mode & PERMISSIONS != files.recording.tree.entries[path].mode:
-        node.has_new_rights = files.recording.add_operation(Chmod(path, mode & PERMISSIONS))
+    # Some programs also pass the bits of the file's kind, which the kernel ignores.
+    files.recording.note_extra_bits(path, mode & 0o7777)
+    if node.mode != files.recording.tree.entries[path].mode:
+        node.has_new_rights = files.recording.add_operation(Chmod(path, node.mode))
 
 
 def on_chown(files: LiveFiles, process: Process, call: Call) -> None:
     """Sets the owner and group of the file or directory of the first argument: a path, or, for
     fchown, a descriptor. For lchown a symbolic link at the path's end isn't followed."""
     node = first_argument_node(files, process, call)
-    set_owner(files, node, call.argument(1), call.argument(2))
+    set_owner(files, node, parse_integer(call.argument(1)), parse_integer(call.argument(2)))
 
 
 def on_fchownat(files: LiveFiles, process: Process, call: Call) -> None:
@@ -69,23 +71,23 @@ def on_fchownat(files: LiveFiles, process: Process, call: Call) -> None:
     descriptor's own file."""
     follow_last_link = 'AT_SYMLINK_NOFOLLOW' not in call.argument(4)
     node = files.node_argument_at(process, call, 0, follow_last_link=follow_last_link)
-    set_owner(files, node, call.argument(2), call.argument(3))
+    set_owner(files, node, parse_integer(call.argument(2)), parse_integer(call.argument(3)))
 
 
-def set_owner(files: LiveFiles, node: Optional[Node], owner_number: str, group_number: str) -> None:
+def set_owner(files: LiveFiles, node: Optional[Node], owner_number: int, group_number: int) -> None:
     """Gives a file or directory in the trace the owner and group with these numbers, by their names
-    on this system. The number -1 keeps the old owner, or the old group. If one of them is new, a
-    chown is added, and has_new_rights of the node is set. Nothing if the node is None, or the trace
-    doesn't have it."""
+    on this system. A number of UNCHANGED keeps the old owner, or the old group. If one of them is
+    new, a chown is added, and has_new_rights of the node is set. Nothing if the node is None, or
+    the trace doesn't have it."""
     path = path_in_trace(node)
     if node is None or path is None:
         return
     entry = files.recording.tree.entries[path]
     owner, group = entry.owner, entry.group
     if owner_number not in UNCHANGED:
-        owner = user_name(parse_integer(owner_number))
+        owner = user_name(owner_number)
     if group_number not in UNCHANGED:
-        group = group_name(parse_integer(group_number))
+        group = group_name(group_number)
     if (owner, group) != (entry.owner, entry.group):
         node.has_new_rights = files.recording.add_operation(Chown(path, owner, group))
 
@@ -106,7 +108,7 @@ def on_attribute(files: LiveFiles, process: Process, call: Call) -> None:
         return
     rights = rights_of_list(call)
     if rights:
-        set_mode(files, node, f'{acl.mode_of_rights(rights):o}')
+        set_mode(files, node, acl.mode_of_rights(rights))
     if rights is None or not acl.has_only_mode(rights):
         files.recording.report_note('its extended attributes change, which no trace has', path)
 
