@@ -94,6 +94,22 @@ class Stores(unittest.TestCase):
         )
         self.assertEqual(list(recording.troubles.values()), [])
 
+    def test_what_the_last_copy_shows_is_after_the_last_call(self):
+        recording = after_copies([FileCopy(8, 0, True, {0: b'parent\0\0'})])
+        self.assertEqual(
+            [short(one) for one in recording.trace.operations],
+            ['fsyncrange /f 0 4096', 'write /f 0 parent'],
+        )
+        self.assertEqual(list(recording.troubles.values()), [])
+
+    def test_a_mapped_file_that_could_not_be_opened_is_reported_after_all_calls(self):
+        copies = FileCopies(unopened_paths=['/m'])
+        troubles = recording_of(LOG, START, copies=copies).troubles.values()
+        self.assertEqual(
+            [str(trouble) for trouble in troubles],
+            ['/m: mapped, and it could not be opened to be followed'],
+        )
+
 
 if __name__ == '__main__':
     unittest.main()

@@ -5,6 +5,8 @@ from unittest import mock
 
 from crashfs_tools.common.trace import Start
 from crashfs_tools.recorder.live_files import StartConditions
+from crashfs_tools.recorder.strace_log import read_log
+from crashfs_tools.recorder.translate import forks_by_result
 
 from . import support
 from .support import needs_version_3, operations_of, recording_of, short
@@ -87,6 +89,11 @@ class Calls(unittest.TestCase):
                 recording = recording_of(log, FILE)
                 self.assertEqual(recording.trace.operations, [])
                 self.assertEqual(list(recording.troubles.values()), [])
+
+    def test_only_a_fork_that_succeeded_makes_a_process(self):
+        lines = ['fork() = 2', 'write(1</d/f>, "ab", 2) = 2', 'fork() = -1 EAGAIN', 'vfork() = 2']
+        calls = read_log([f'1 {line}' for line in lines]).calls
+        self.assertEqual(forks_by_result(calls), {2: [calls[0], calls[3]]})
 
 
 class WorkingDirectories(unittest.TestCase):

@@ -1,10 +1,10 @@
-"""Finds stores through mappings, by copies of the mapped files, and the calls before which they
-were stored."""
+"""Adds stores through mappings, as copies of the mapped files show them, and finds the calls before
+which they were made."""
 
 from __future__ import annotations
 
 import bisect
-from typing import Dict, Iterator, List, Optional, Tuple
+from typing import Callable, Dict, Iterable, Iterator, List, Optional, Tuple
 
 from crashfs_tools.common.file_bytes import Bytes
 from crashfs_tools.common.sparse import PAGE_BYTES, SparseBytes, pages_to_compare
@@ -18,6 +18,55 @@ NOT_ALONE = (
     'stored through its mapping while other threads or processes ran: which of their '
     'calls it came before is not sure'
 )
+
+
+class MappedStores:
+    """Adds the stores that copies of mapped files show. A mapped file has a number, that of
+    FileCopies. By it, `nodes` has the files whose mmap is translated, and early_bytes what copies
+    show of other files. Copies may be added in another order than they were made: copy_indexes has
+    that order, by their ids, and newest_indexes the index of the newest copy that was added of each
+    file."""
+
+    def __init__(self, files: LiveFiles, copies: List[FileCopy]) -> None:
+        """Adds nothing yet. `copies` are all copies, in the order in which they were made."""
+        self.files = files
+        self.copy_indexes = {id(copy): index for index, copy in enumerate(copies)}
+        self.nodes: Dict[int, Node] = {}
+        self.early_bytes: Dict[int, Bytes] = {}
+        self.newest_indexes: Dict[int, int] = {}
+
+    def add_node(self, number: int, node: Optional[Node]) -> None:
+        """Adds the file with this number, whose mmap is translated, and the stores that were found
+        before that. Nothing if the file isn't followed (None)."""
+        if node is not None:
+            self.nodes[number] = node
+            if number in self.early_bytes:
+                data = self.early_bytes.pop(number)
+                add_stores(self.files, node, data, has_one_writer=False)
+
+    def add_copies(
+        self, copies: Iterable[FileCopy], is_chosen: Callable[[Node], bool] = lambda node: True
+    ) -> None:
+        """Adds the stores that these copies show to the files for which is_chosen() is True: to all
+        if it isn't given."""
+        for copy in copies:
+            self.add_copy(copy, is_chosen)
+
+    def add_copy(self, copy: FileCopy, is_chosen: Callable[[Node], bool]) -> None:
+        """Adds the stores that a copy shows to the files for which is_chosen() is True, except to
+        those of which a copy that was made later is added already. The bytes of a file whose mmap
+        isn't translated yet are kept until then."""
+        index = self.copy_indexes[id(copy)]
+        for number, data in copy.bytes_by_number.items():
+            if index < self.newest_indexes.get(number, 0):
+                continue
+            self.newest_indexes[number] = index
+            node = self.nodes.get(number)
+            if node is None:
+                self.early_bytes[number] = data
+            elif is_chosen(node):
+                has_one_writer = copy.has_one_writer(number)
+                add_stores(self.files, node, data, has_one_writer=has_one_writer)
 
 
 def copies_by_call(

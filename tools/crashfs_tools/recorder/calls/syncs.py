@@ -4,9 +4,12 @@ LogError if an argument isn't as strace writes it."""
 
 from __future__ import annotations
 
+from typing import Optional
+
 from crashfs_tools.common.limits import round_up_to_pages
 from crashfs_tools.common.trace import Sync
 from crashfs_tools.recorder.arguments import parse_integer
+from crashfs_tools.recorder.live_tree import Node
 from crashfs_tools.recorder.mappings import Mapping
 from crashfs_tools.recorder.processes import Process, node_of
 from crashfs_tools.recorder.live_files import LiveFiles
@@ -70,13 +73,18 @@ def on_mmap(files: LiveFiles, process: Process, call: Call) -> None:
     reported, unless copies show what is stored through it."""
     length = round_up_to_pages(parse_integer(call.argument(1)))
     process.memory.unmap(call.result, length)
-    node = node_of(process.open_file(call.descriptor(4)))
+    node = node_to_map(process, call)
     if node is None or 'MAP_SHARED' not in call.argument(3):
         return
     offset = parse_integer(call.argument(5, '0'))
     process.memory.map(Mapping(call.result, length, node, offset))
     if 'PROT_WRITE' in call.argument(2):
         report_mapped(files, process, call.result, length)
+
+
+def node_to_map(process: Process, call: Call) -> Optional[Node]:
+    """The file that an mmap maps; None if it isn't followed, and for memory without a file."""
+    return node_of(process.open_file(call.descriptor(4)))
 
 
 def on_munmap(files: LiveFiles, process: Process, call: Call) -> None:
