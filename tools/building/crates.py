@@ -13,26 +13,36 @@ PROGRAM = 'crashfs'
 
 def uses_by_crate(crates_text: str) -> Dict[str, List[str]]:
     """What each crate uses, by the text of crates.txt: crates of this repository and of the kit.
-    Comments, from `#` on, lines without a colon, and further words before a colon are left out. Of
-    two lines for a crate the last one counts. Refused if a line has nothing but blanks before its
-    colon."""
+    Comments, from `#` on, and further words before a colon are left out; of two lines for a crate
+    the last one counts. Refused if a line that isn't blank has no colon, or no crate before it."""
     uses: Dict[str, List[str]] = {}
     for number, line in enumerate(crates_text.splitlines(), start=1):
-        first_words, colon, used_crates = line.partition('#')[0].partition(':')
-        if colon and not first_words.strip():
+        crate_line = line.partition('#')[0].strip()
+        if not crate_line:
+            continue
+        first_words, colon, used_crates = crate_line.partition(':')
+        if not colon:
+            raise Refused(f'crates.txt: line {number} has no colon')
+        if not first_words:
             raise Refused(f'crates.txt: line {number} has no crate before its colon')
-        if colon:
-            uses[first_words.split()[0]] = used_crates.split()
+        uses[first_words.split()[0]] = used_crates.split()
     return uses
 
 
-def read_uses() -> Dict[str, List[str]]:
-    """What each crate uses, by crates.txt as it is now. Refused as in uses_by_crate(), and if the
-    file isn't UTF-8; OSError if it can't be read."""
+def read_uses(top: Path) -> Dict[str, List[str]]:
+    """What each crate uses, by crates.txt of the repository at `top` as it is now. Refused as in
+    uses_by_crate(), if the file can't be read or isn't UTF-8, and if a crate that has a line has no
+    folder in crates/."""
     try:
-        return uses_by_crate((TOP / 'crates.txt').read_text('utf-8'))
+        uses = uses_by_crate((top / 'crates.txt').read_text('utf-8'))
+    except OSError as error:
+        raise Refused(f'crates.txt: {error.strerror}') from error
     except UnicodeDecodeError as error:
         raise Refused('crates.txt: it is not UTF-8') from error
+    missing_crates = [name for name in uses if not (top / 'crates' / name).is_dir()]
+    if missing_crates:
+        raise Refused(f'crates.txt: crates that are not there: {", ".join(missing_crates)}')
+    return uses
 
 
 def crates_below(uses: Dict[str, List[str]], name: str) -> Set[str]:
@@ -51,8 +61,8 @@ def library_uses() -> Dict[str, List[str]]:
     """What each library of the program uses, directly: crates of this repository. The libraries are
     the crates of this repository that the program uses, directly or not, in no particular order.
     Empty if crates.txt has no line for the program. Refused as in read_uses(), and if one of the
-    libraries uses itself, directly or not; OSError if crates.txt can't be read."""
-    uses = read_uses()
+    libraries uses itself, directly or not."""
+    uses = read_uses(TOP)
     own_uses = {
         name: [crate for crate in used_crates if crate in uses]
         for name, used_crates in uses.items()

@@ -77,9 +77,9 @@ def build_all(processors: int) -> int:
     """Proves the libraries on this number of processors, then builds the program. Returns the
     status: 0 if all is proved and built. After a crate that isn't proved no other is begun, but
     running checks continue to their end. Proved libraries are copied to the repository itself in
-    either case. Refused as in library_uses(). OSError if crates.txt, a text of a crate, or the
-    stamp of a library can't be read, if a copy of the repository or of a library can't be made, or
-    as build_program()."""
+    either case. Refused as in library_uses(). OSError if a text of a crate or the stamp of a
+    library can't be read, if a copy of the repository or of a library can't be made, or as
+    build_program()."""
     uses, start_time = library_uses(), time.monotonic()
     work = Work(uses, chain_lengths(uses), processors, read_stamps(TOP, uses))
     with tempfile.TemporaryDirectory(prefix='crashfs-build-') as folder:

@@ -3,8 +3,11 @@
 from __future__ import annotations
 
 import argparse
+import sys
 from pathlib import Path
-from typing import Dict, List, Optional
+from typing import Callable, Dict, List, Optional
+
+from crashfs_tools.common.command import Refused
 
 from .completions import completion_files
 from .made_files import outdated_lines, print_outdated_lines, write_outdated_files
@@ -17,7 +20,8 @@ tables of docs/RESULTS.md, from docs/results.json. With --print it writes nothin
 tests with what each shows, and the must-fail edits (tests), or the words of specs/ with what each
 says and the contracts that cite it (words).
 
-Exit status 0, or 1 with --check if a file is missing, or not as the sources make it."""
+Exit status 0, or 1 with --check if a file is missing, or not as the sources make it, and with
+--print if crates.txt is wrong."""
 
 
 def current_texts() -> Dict[Path, str]:
@@ -33,11 +37,22 @@ def outdated_source_lines() -> List[str]:
     return outdated_lines(current_texts(), 'the sources', 'inventories')
 
 
+def print_list(list_text: Callable[[], str]) -> int:
+    """Prints the list that a function of PRINTED_LISTS returns. Returns the status: 1 if crates.txt
+    is wrong, which is a line on standard error. Other errors as the function raises them."""
+    try:
+        print(list_text())
+    except Refused as refused:
+        print(f'inventories: {refused}', file=sys.stderr)
+        return 1
+    return 0
+
+
 def main(words: Optional[List[str]] = None) -> int:
     """Runs `inventories` with these words, or with those of its command line if they are None.
-    Returns the status: 1 only if --check finds an outdated file. With --print, --check is ignored.
-    A wrong word and --help end the program (SystemExit). Errors as current_texts() before anything
-    is written, and as write_outdated_files(); with --print as the function of the list."""
+    Returns the status: 1 only if --check finds an outdated file; with --print, by which --check is
+    ignored, that of print_list(). A wrong word and --help end the program (SystemExit). Errors as
+    current_texts() before anything is written, and as write_outdated_files() or print_list()."""
     parser = argparse.ArgumentParser(
         prog='inventories', description=ABOUT, formatter_class=argparse.RawDescriptionHelpFormatter
     )
@@ -47,8 +62,7 @@ def main(words: Optional[List[str]] = None) -> int:
     )
     options = parser.parse_args(words)
     if options.print:
-        print(PRINTED_LISTS[options.print]())
-        return 0
+        return print_list(PRINTED_LISTS[options.print])
     if options.check:
         return print_outdated_lines(outdated_source_lines())
     write_outdated_files(current_texts())

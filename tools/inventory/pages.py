@@ -67,7 +67,7 @@ def lines_of_cases() -> List[str]:
 
 def lines_of_edits() -> List[str]:
     """The lines that list the must-fail edits: a heading, and a table with a row for each crate
-    that has edits. OSError as crate_names()."""
+    that has edits. Refused as in crate_names()."""
     edits_by_crate = {crate: edits_of(crate) for crate in crate_names()}
     rows = (
         (crate, ', '.join(f'`{name}`' for name in edits))
@@ -80,8 +80,9 @@ def lines_of_edits() -> List[str]:
 
 def tests_list() -> str:
     """The list of all tests and of must-fail edits, as Markdown: the tests of the crates first,
-    then the cases, the tests of the tools, and the edits. StopIteration as tests_in(), SyntaxError
-    as tests_of_tools(), OSError if a source can't be read."""
+    then the cases, the tests of the tools, and the edits. Refused as in crate_names(),
+    StopIteration as tests_in(), SyntaxError as tests_of_tools(), OSError if a source can't be
+    read."""
     lines = [line for crate in crate_names() for line in lines_of_crate_tests(crate)]
     lines += [*lines_of_cases(), *lines_of_tool_tests(), *lines_of_edits()]
     return '\n'.join(lines).strip()
@@ -114,7 +115,7 @@ def lines_of_words(crate: str, calls_by_word: Dict[str, List[str]]) -> List[str]
 
 def words_list() -> str:
     """The list of the words of `specs/` of all crates, as Markdown, by crate: lines_of_words() with
-    citations(). OSError if a source can't be read."""
+    citations(). Refused as in crate_names(), OSError if a source can't be read."""
     calls_by_crate = citations()
     lines = [
         line

@@ -53,8 +53,8 @@ class Citation:
 
 
 def crate_names() -> List[str]:
-    """The crates of crates.txt, in its order; errors as read_uses()."""
-    return list(read_uses())
+    """The crates of crates.txt, in its order. Refused as in read_uses()."""
+    return list(read_uses(TOP))
 
 
 def crate_files(crate: str, folder: str, suffix: str) -> List[Path]:

@@ -5,6 +5,8 @@ from __future__ import annotations
 import argparse
 from typing import Callable, Dict, List, Optional
 
+from crashfs_tools.common.command import Refused
+
 from .crates_page import architecture_faults
 from .layout import layout_faults
 from .pages import inventory_faults
@@ -55,11 +57,20 @@ def summary_line(faults_by_linter: Dict[str, Faults]) -> str:
     return f'{line} (not installed: {", ".join(skipped_names)})' if skipped_names else line
 
 
+def faults_of_linter(linter: Callable[[], Faults]) -> Faults:
+    """What a linter finds. If it raises Refused, as for a wrong crates.txt, that is its one
+    fault."""
+    try:
+        return linter()
+    except Refused as refused:
+        return [str(refused)]
+
+
 def run_linters(linters: Dict[str, Callable[[], Faults]]) -> int:
     """Runs linters, by their names, prints what they find, and returns the status: 1 if a linter
     found a fault. A linter that isn't installed doesn't change the status. Nothing is printed
-    before all have run: if a linter raises an exception, nothing is."""
-    faults_by_linter = {name: linter() for name, linter in linters.items()}
+    before all have run: if a linter raises any exception but Refused, nothing is."""
+    faults_by_linter = {name: faults_of_linter(linter) for name, linter in linters.items()}
     lines = [
         f'{name}: {fault}' for name, faults in faults_by_linter.items() for fault in faults or []
     ]

@@ -25,7 +25,7 @@ def undescribed_test_faults() -> List[str]:
 
 def stray_edit_faults() -> List[str]:
     """A sentence for each must-fail edit in a folder of crates/ that crates.txt doesn't name: the
-    gate would never try it. OSError if there is no crates.txt."""
+    gate would never try it. Refused as in crate_names()."""
     listed_edits = {(crate, name) for crate in crate_names() for name in edits_of(crate)}
     return [
         f'{path_from_top(path)}: crates.txt has no such crate'

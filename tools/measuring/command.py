@@ -17,6 +17,8 @@ import sys
 from pathlib import Path
 from typing import Callable, List, NamedTuple, Optional
 
+from crashfs_tools.common.command import Refused
+
 from . import disks, stores
 from .memory import add_memory_rows
 from .programs import Programs, Tally
@@ -90,9 +92,10 @@ def measure_benchmark(programs: Programs, name: str, tally: Tally) -> None:
 
 def main(arguments: Optional[List[str]] = None) -> int:
     """Runs `measure` with these words, or with those of its command line if they are None. Returns
-    the status: 1 if a row is past its bound or a program failed; 2 if a name is unknown, and
-    nothing is measured then; after `disks` or `stores` what their main() returns. Errors as
-    Programs.benchmark_names() and measure_benchmark(), or as that main()."""
+    the status: 1 if a row is past its bound, a program failed, or crates.txt is wrong; 2 if a name
+    is unknown. After a wrong crates.txt or name, which is a line, nothing is measured. After
+    `disks` or `stores` what their main() returns. Errors as measure_benchmark(), or as that
+    main()."""
     words = sys.argv[1:] if arguments is None else arguments
     if words[:1] == ['disks']:
         return disks.main(words[1:])
@@ -100,7 +103,11 @@ def main(arguments: Optional[List[str]] = None) -> int:
         return stores.main(words[1:])
     options = parse_words(words)
     programs = Programs(options.top)
-    known_names = [*programs.benchmark_names(), 'memory', 'states', 'sets']
+    try:
+        known_names = [*programs.benchmark_names(), 'memory', 'states', 'sets']
+    except Refused as refused:
+        print(f'measure: {refused}', file=sys.stderr)
+        return 1
     unknown = [name for name in options.names if name not in known_names]
     if unknown:
         print(f'measure: {unknown[0]} is none of {", ".join(known_names)}', file=sys.stderr)

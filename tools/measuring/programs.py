@@ -10,7 +10,7 @@ from dataclasses import dataclass, field
 from pathlib import Path
 from typing import List, Optional, Sequence
 
-from building.crates import uses_by_crate
+from building.crates import read_uses
 
 VERDICT = re.compile(r', (within|past) \(at (?:most|least) ')
 
@@ -29,9 +29,8 @@ class Programs:
 
     def benchmark_names(self) -> List[str]:
         """The names of the benchmark programs, built or not, in the order of crates.txt: those of
-        crates that end in `_bench` and are no library. OSError if there is no crates.txt; errors as
-        uses_by_crate()."""
-        crates = uses_by_crate((self.top / 'crates.txt').read_text('utf-8'))
+        crates that end in `_bench` and are no library. Refused as in read_uses()."""
+        crates = read_uses(self.top)
         return [name for name in crates if name.endswith('_bench') and self.is_program(name)]
 
     def is_program(self, name: str) -> bool:

@@ -94,7 +94,7 @@ def write_release(provenance: Provenance, object_file: Path, folder: Path) -> No
     write_tarball(tarball, items, provenance.seconds)
     write_package(package, provenance.version, items, provenance.seconds)
     spdx = folder / f'crashfs-{provenance.version}.spdx.json'
-    spdx.write_text(spdx_document(provenance, read_uses()))
+    spdx.write_text(spdx_document(provenance, read_uses(TOP)))
     attestation = folder / 'ATTESTATION'
     attestation.write_text(attestation_text(provenance, object_file.read_bytes(), program))
     (folder / 'SHA256SUMS').write_text(checksum_lines([tarball, package, spdx, attestation]))

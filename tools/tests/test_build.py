@@ -368,12 +368,16 @@ class Reports(unittest.TestCase):
         itself = 'crates that use themselves:'
         for text, line in (
             (b'low: kit\n : low\n', 'line 2 has no crate before its colon'),
+            (b'low: kit\n\n# mid: low\nmid\n', 'line 4 has no colon'),
             (b'\xff: low\n', 'it is not UTF-8'),
+            (b'low: kit\nno:\nsuch: low\n', 'crates that are not there: no, such'),
             (b'crashfs: top\ntop: mid\nmid: low\nlow: mid\n', f'{itself} low, mid'),
             (b'crashfs: low\nlow: crashfs kit\n', f'{itself} crashfs, low'),
         ):
             with self.subTest(line), tempfile.TemporaryDirectory() as room:
                 (Path(room) / 'crates.txt').write_bytes(text)
+                for name in ('low', 'mid', 'top', 'crashfs'):
+                    (Path(room) / 'crates' / name).mkdir(parents=True)
                 with mock.patch.object(crates, 'TOP', Path(room)), mock.patch.object(
                     main.shutil, 'which', return_value='rt'
                 ), mock.patch('sys.argv', ['build']), redirect_stderr(io.StringIO()) as err:

@@ -1,10 +1,15 @@
 """The parts of pages that are made from the sources."""
 
+import io
 import os
 import pathlib
 import tempfile
 import unittest
+from contextlib import redirect_stderr, redirect_stdout
+from unittest import mock
 
+from inventory import sources
+from inventory.command import main
 from inventory.made_files import outdated_files, outdated_lines, write_outdated_files
 from inventory.markdown import table_cell, table_lines
 from inventory.pages import BEGIN, END, calls_text, page_with_part
@@ -139,6 +144,19 @@ class Inventories(unittest.TestCase):
             outdated_lines({page: 'text', TOP / 'README.md': readme}, 'the as', 'b'),
             ['docs/absent.txt is missing, or not as the as make it: run tools/b'],
         )
+
+    def test_a_wrong_list_of_crates_is_one_line_with_a_status(self):
+        folder = tempfile.TemporaryDirectory()
+        self.addCleanup(folder.cleanup)
+        path = pathlib.Path(folder.name)
+        (path / 'crates.txt').write_text('low:\nlow\n')
+        for name in ('tests', 'words'):
+            with mock.patch.object(sources, 'TOP', path), redirect_stdout(
+                io.StringIO()
+            ) as out, redirect_stderr(io.StringIO()) as err:
+                self.assertEqual(main(['--print', name]), 1)
+            self.assertEqual(out.getvalue(), '')
+            self.assertEqual(err.getvalue(), 'inventories: crates.txt: line 2 has no colon\n')
 
 
 if __name__ == '__main__':

@@ -9,6 +9,7 @@ from pathlib import Path
 from typing import Tuple
 from unittest import mock
 
+from crashfs_tools.common.command import Refused
 from inventory.pages import BEGIN, END
 from linting import python, words
 from linting.command import LINTERS, Faults, run_linters
@@ -189,6 +190,17 @@ class Command(unittest.TestCase):
         )
         self.assertEqual(
             self.linted(b=None), (0, 'lint: 0 passed, 0 failed, 1 skipped (not installed: b)\n')
+        )
+
+    def test_a_wrong_list_of_crates_is_a_fault_and_the_other_linters_are_run(self) -> None:
+        def refuse() -> Faults:
+            raise Refused('crates.txt: line 2 has no colon')
+
+        with contextlib.redirect_stdout(io.StringIO()) as printed:
+            self.assertEqual(run_linters({'a': refuse, 'b': lambda: []}), 1)
+        self.assertEqual(
+            printed.getvalue(),
+            'a: crates.txt: line 2 has no colon\nlint: 1 passed, 1 failed (a), 0 skipped\n',
         )
 
     def test_each_linter_is_run(self) -> None:

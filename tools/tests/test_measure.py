@@ -105,6 +105,18 @@ class Measure(WithPrograms):
         )
         self.assertEqual((told.returncode, told.stderr), (1, ''))
 
+    def test_a_wrong_list_of_crates_is_one_line_with_a_status(self) -> None:
+        for text, line in (
+            ('first_bench: cs_bench\ncs_bench\n', 'line 2 has no colon'),
+            ('no_bench: cs_bench\n', 'crates that are not there: no_bench'),
+        ):
+            self.write('crates.txt', text)
+            told = self.measure()
+            self.assertEqual((told.returncode, told.stdout), (1, ''))
+            self.assertEqual(told.stderr, f'measure: crates.txt: {line}\n')
+        os.remove(self.path('crates.txt'))
+        self.assertEqual(self.measure().stderr, 'measure: crates.txt: No such file or directory\n')
+
     def test_a_program_that_fails_is_named(self) -> None:
         self.printing('second_bench', ROWS.splitlines()[0] + '\n', status=3)
         told = self.measure('second_bench')

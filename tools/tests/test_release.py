@@ -154,7 +154,7 @@ class Installed(InFolder):
 
 class Linked(unittest.TestCase):
     def test_the_list_has_each_library_of_the_program_and_no_other(self) -> None:
-        found = packages_of(spdx_document(MADE, read_uses()))
+        found = packages_of(spdx_document(MADE, read_uses(TOP)))
         own = set(library_uses()) - {'crashfs'}
         of_kit = {'rattle-standard-library', 'glibc', 'libgcc'}
         self.assertTrue(own < set(found))
