@@ -13,6 +13,7 @@ from crashfs_tools.reading.micro import (
     LinkEntry,
     MicroOperation,
     MoveEntry,
+    RenameHalf,
     SetRights,
     WriteBlock,
 )
@@ -211,7 +212,8 @@ class PlainRules:
     def are_halves(self, i: int, j: int) -> bool:
         """P13."""
         first, second = self.operations[i], self.operations[j]
-        return j == i + 1 and (first.rename_half, second.rename_half) == (1, 2)
+        halves = first.rename_half, second.rename_half
+        return j == i + 1 and halves == (RenameHalf.FIRST, RenameHalf.SECOND)
 
 
 def chains(reading: Reading, profile: str) -> Iterator[int]:

@@ -42,7 +42,7 @@ def wanted_trials(text: str) -> Set[Tuple[object, int]]:
     """The trees of all sets that have all acknowledged lines before their members, with how many
     lines are acknowledged."""
     reading = parse_trace(text.encode())
-    order = Order(reading).with_earlier_lines(reading)
+    order = Order(reading).with_earlier_lines()
     trees = StatePlan(reading).trees
     return {(trees.digest(one), trees.count_says(one)) for one in every_set(order)}
 

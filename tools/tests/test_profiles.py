@@ -41,7 +41,7 @@ def allowed_trees(text: str) -> Dict[TreeAndCount, Set[str]]:
     for name in profile_names(reading):
         order = order_under(reading, name)
         if reading.version < 3:
-            order = order.with_earlier_lines(reading)
+            order = order.with_earlier_lines()
         for one in every_set(order):
             found.setdefault((trees.digest(one), trees.count_says(one)), set()).add(name)
     return found

@@ -19,6 +19,7 @@ from crashfs_tools.reading.micro import (
     LinkEntry,
     MicroOperation,
     MoveEntry,
+    RenameHalf,
     SetRights,
     WriteBlock,
 )
@@ -84,7 +85,9 @@ class Rules(unittest.TestCase):
                 self.assertEqual((one & ~two, two & ~three), (0, 0))
             for count in range(journal.count + 1):
                 prefix = (1 << count) - 1
-                is_half = count > 0 and reading.operations[count - 1].rename_half == 1
+                is_half = (
+                    count > 0 and reading.operations[count - 1].rename_half is RenameHalf.FIRST
+                )
                 self.assertTrue(blocks.is_allowed(prefix))
                 self.assertEqual(journal.is_allowed(prefix), not is_half)
                 half_renames += is_half
@@ -128,7 +131,11 @@ class ByHand:
             self.rights[operation.node] = operation.rights
         elif isinstance(operation, LinkEntry):
             there = self.entries.get(operation.entries[0])
-            assert there is None or operation.rename_half == 1 and there.kind != DIRECTORY
+            assert (
+                there is None
+                or operation.rename_half is RenameHalf.FIRST
+                and there.kind != DIRECTORY
+            )
             self.entries[operation.entries[0]] = operation.node
         elif isinstance(operation, DeleteEntry):
             assert self.entries.pop(operation.entries[0]) == operation.node

@@ -2,12 +2,21 @@
 
 from __future__ import annotations
 
+from enum import Enum
 from typing import Any, Dict, Optional, Tuple
 
 from .names import DIRECTORY, Entry, Inode
 
 # Owner, group and mode, the mode as three octal digits.
 Rights = Tuple[str, str, str]
+
+
+class RenameHalf(Enum):
+    """Which half of a rename into another directory a micro-operation is: the first one makes the
+    new entry, the second one removes the old entry."""
+
+    FIRST = 1
+    SECOND = 2
 
 
 class MicroOperation:
@@ -27,13 +36,13 @@ class MicroOperation:
     removed_directory: Optional[int] = None
     # Whether it moves a directory.
     is_directory_move = False
-    # Of a rename into another directory: 1 for its first half, 2 for its second one.
-    rename_half = 0
+    # Which half of a rename it is, if it is one.
+    rename_half: Optional[RenameHalf] = None
     # The number of the file whose size, bytes or rights it changes.
     file_number: Optional[int] = None
     # The number of the directory whose rights it changes.
     directory_number: Optional[int] = None
-    # A path that this file or directory had then.
+    # A path that this file or directory had then, or empty.
     path = ''
     # The number of its line in the trace, 0 until Reading.read_line() sets it.
     line_number = 0
@@ -86,12 +95,14 @@ class CreateEntry(MicroOperation):
 
 
 class DeleteEntry(MicroOperation):
-    """An entry of a directory is removed; `node` is what it held. rename_half is 2 if this is the
-    second half of a rename, else 0."""
+    """An entry of a directory is removed; `node` is what the entry held. rename_half is SECOND if
+    this is the second half of a rename, else None."""
 
     kind = 'delete_dir_entry'
 
-    def __init__(self, path: str, entry: Entry, node: Inode, *, rename_half: int = 0) -> None:
+    def __init__(
+        self, path: str, entry: Entry, node: Inode, *, rename_half: Optional[RenameHalf] = None
+    ) -> None:
         self.paths, self.entries, self.handled_inodes = (path,), (entry,), (node,)
         self.node = node
         self.rename_half = rename_half
@@ -142,8 +153,9 @@ class MoveEntry(MicroOperation):
 
 
 class LinkEntry(MicroOperation):
-    """A file or symbolic link (`node`) gets one more entry. rename_half is 1 if this is the first
-    half of a rename, else 0. Only such a half may replace something, which is `replaced`."""
+    """A file or symbolic link (`node`) gets one more entry. rename_half is FIRST if this is the
+    first half of a rename, else None. Only such a half may replace something, which is `replaced`.
+    """
 
     kind = 'link_dir_entry'
 
@@ -153,7 +165,7 @@ class LinkEntry(MicroOperation):
         entry: Entry,
         node: Inode,
         *,
-        rename_half: int = 0,
+        rename_half: Optional[RenameHalf] = None,
         replaced: Optional[Inode] = None,
     ) -> None:
         self.paths, self.entries = (path,), (entry,)

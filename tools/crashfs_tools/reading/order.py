@@ -1,4 +1,5 @@
-"""The order of micro-operations: which of them each one needs, under the rules of each profile."""
+"""The order of micro-operations: which of them each one needs, under the rules of each profile. The
+rules are P1 to P13 of docs/MODEL.md."""
 
 from __future__ import annotations
 
@@ -15,6 +16,7 @@ from .micro import (
     CreateEntry,
     LinkEntry,
     MicroOperation,
+    RenameHalf,
     SetFileRights,
     WriteBlock,
 )
@@ -90,6 +92,7 @@ class Order:
     def __init__(self, reading: Reading, profile: str = '') -> None:
         """Computes what each place needs."""
         profile = profile or reading.profile
+        self.operations = reading.operations
         self.count = len(reading.operations)
         # The set of all places.
         self.all_places = (1 << self.count) - 1
@@ -107,7 +110,7 @@ class Order:
         self.units = {
             place: 0b11 << place
             for place, operation in enumerate(reading.operations)
-            if operation.rename_half == 1 and profile != 'blocks'
+            if operation.rename_half is RenameHalf.FIRST and profile != 'blocks'
         }
 
     def pending_set(self, count: int) -> int:
@@ -145,13 +148,13 @@ class Order:
         new_order.needed_by = inverse_sets(new_order.needs)
         return new_order
 
-    def with_earlier_lines(self, reading: Reading) -> Order:
+    def with_earlier_lines(self) -> Order:
         """The order that allows a set exactly if this one does and the set has all acknowledged
         lines that come before one of its members. From version 3 on it allows what this one does.
-        `reading` must be that of this order."""
+        """
         line_order = copy(self)
         earlier_lines, line_order.needs = 0, []
-        for place, operation in enumerate(reading.operations):
+        for place, operation in enumerate(self.operations):
             line_order.needs.append(earlier_lines)
             if isinstance(operation, Acknowledgement):
                 earlier_lines |= 1 << place
@@ -180,7 +183,7 @@ def compute_needs(reading: Reading, profile: str, durable_sets: List[int]) -> Li
         required = required_marks(operation, reading.version, profile)
         direct_needs = union_of(providers.get(mark, 0) for mark in required)
         direct_needs |= durable_sets[place]  # P5, P11
-        if operation.rename_half == 2:
+        if operation.rename_half is RenameHalf.SECOND:
             direct_needs |= 1 << (place - 1)  # P13
         needs.append(direct_needs | union_of(needs[needed] for needed in places_of(direct_needs)))
         provided = provided_marks(operation)

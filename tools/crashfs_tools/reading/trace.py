@@ -15,6 +15,7 @@ from .micro import (
     LinkEntry,
     MicroOperation,
     MoveEntry,
+    RenameHalf,
     Rights,
     SetDirectoryRights,
     SetFileRights,
@@ -122,7 +123,7 @@ class Reading:
         self.rights[node] = line.rights
         return node
 
-    # Each of these adds what a `start` line of its kind has.
+    # Start lines: each of these adds what a `start` line of its kind has.
 
     def start_dir(self, line: Line) -> None:
         """Adds a directory, with its rights, also to the start tree."""
@@ -132,10 +133,11 @@ class Reading:
 
     def start_file(self, line: Line) -> None:
         """Adds a file, with its rights and bytes, also to the start tree."""
-        data = Data.from_parts(self.block_size, line.length, line.parts)
+        data = Data.from_parts(self.block_size, line.file_length, line.file_parts)
         self.add_start_entry(line, self.make_file(line, FILE, line.rights, data))
 
     def start_symlink(self, line: Line) -> None:
+        """Adds a symbolic link, with its target, also to the start tree."""
         self.add_start_entry(line, self.make_symlink(line))
 
     def start_link(self, line: Line) -> None:
@@ -152,12 +154,15 @@ class Reading:
     # Operations on entries: each of these adds what an `op` line of its kind does.
 
     def op_creat(self, line: Line) -> None:
+        """Adds an empty file, and the micro-operation that makes it."""
         self.add_creation(line, self.make_file(line, FILE, line.rights, Data(self.block_size)))
 
     def op_mkdir(self, line: Line) -> None:
+        """Adds a directory, and the micro-operation that makes it."""
         self.add_creation(line, self.make_directory(line))
 
     def op_symlink(self, line: Line) -> None:
+        """Adds a symbolic link, and the micro-operation that makes it."""
         self.add_creation(line, self.make_symlink(line))
 
     def add_creation(self, line: Line, node: Inode) -> None:
@@ -192,9 +197,11 @@ class Reading:
             move = MoveEntry(paths, entries, node, replaced, has_node_field=self.version >= 4)
             self.operations.append(move)
         else:
-            first_half = LinkEntry(new_path, target, node, rename_half=1, replaced=replaced)
-            self.operations.append(first_half)
-            self.operations.append(DeleteEntry(old_path, source, node, rename_half=2))
+            first, second = RenameHalf.FIRST, RenameHalf.SECOND
+            self.operations += [
+                LinkEntry(new_path, target, node, rename_half=first, replaced=replaced),
+                DeleteEntry(old_path, source, node, rename_half=second),
+            ]
 
     def op_link(self, line: Line) -> None:
         """Adds one more entry of a file, and the micro-operation that makes this entry."""
@@ -267,6 +274,7 @@ class Reading:
             self.add_change(SetFileRights(node.number, rights))
 
     def op_say(self, line: Line) -> None:
+        """Adds an acknowledged line."""
         self.operations.append(Acknowledgement())
 
     # Sync points: each of these adds that of an `op` line of its kind.
@@ -278,6 +286,7 @@ class Reading:
         self.syncs.append(sync_type(len(self.operations), node.number))
 
     def op_fdatasync(self, line: Line) -> None:
+        """Adds the sync point of a file's data."""
         file_number = self.names.require_inode(line.fields['path']).number
         self.syncs.append(DataSync(len(self.operations), file_number))
 
@@ -288,6 +297,7 @@ class Reading:
         self.syncs.append(RangeSync(len(self.operations), file_number, offset, length))
 
     def op_sync(self, line: Line) -> None:
+        """Adds a sync point of everything."""
         self.syncs.append(SyncPoint(len(self.operations)))
 
 

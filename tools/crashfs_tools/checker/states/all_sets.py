@@ -283,7 +283,7 @@ class ReadingSets:
             is_own = name == self.reading.profile
             order = self.trace_order if is_own else order_under(self.reading, name)
             is_old = self.reading.version < ACKNOWLEDGED_FIRST
-            self.orders[name] = order.with_earlier_lines(self.reading) if is_old else order
+            self.orders[name] = order.with_earlier_lines() if is_old else order
         return self.orders[name]
 
     def count_sets(self) -> Optional[int]:
