@@ -21,6 +21,7 @@ def read_object(text: str) -> Dict[str, Any]:
     value = load_json(text)
     if not isinstance(value, dict):
         raise syntax_fault('no JSON object')
+    # Only a text with more brackets can have more levels, and only an escape gives half of a pair.
     if text.count('[') + text.count('{') > DEPTH and has_more_levels(value, DEPTH):
         raise syntax_fault(f'values nested deeper than {DEPTH} levels')
     if '\\u' in text:
@@ -41,8 +42,9 @@ def load_json(text: str) -> Any:
 
 
 def parse_integer(text: str) -> float:
-    """The number that an integer's text means. With a minus sign, or with more than DIGITS digits,
-    it is a float, which no key of a trace accepts. ValueError if the float is infinite."""
+    """The number that an integer's text means. A number with a minus sign, or with more than DIGITS
+    digits, becomes a float, which no key of a trace accepts. ValueError if the float is infinite.
+    """
     return int(text) if text[0] != '-' and len(text) <= DIGITS else parse_float(text)
 
 

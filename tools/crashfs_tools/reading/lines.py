@@ -56,7 +56,7 @@ HEXADECIMAL = '0123456789abcdefABCDEF'
 Fields = Dict[str, Any]
 
 
-@dataclass
+@dataclass(frozen=True)
 class Line:
     """A line of a trace, well formed once LineReader.read_line() has returned it: its number in the
     trace, the key that says what it is (`trace`, `start` or `op`), its word, which is the value of
@@ -78,7 +78,7 @@ class Line:
         return self.fields['owner'], self.fields['group'], self.fields['mode']
 
     @property
-    def parts(self) -> List[Tuple[int, bytes]]:
+    def file_parts(self) -> List[Tuple[int, bytes]]:
         """The parts of a start file, each after its offset. A file that isn't in parts has one
         part, with all its bytes, which may be none."""
         if 'parts' not in self.fields:
@@ -86,7 +86,7 @@ class Line:
         return [(part['at'], bytes_of(part)) for part in self.fields['parts']]
 
     @property
-    def length(self) -> int:
+    def file_length(self) -> int:
         """The length of a start file: its `length` if it is in parts, else how many bytes it
         has."""
         if 'parts' in self.fields:
@@ -118,44 +118,49 @@ class LineReader:
         keys = [key for key in ('trace', 'start', 'op') if key in fields]
         if len(keys) != 1:
             raise syntax_fault('it needs one of the keys trace, start and op')
-        line = Line(number, keys[0], '', fields)
-        if (line.key == 'trace') != (self.version == 0):
+        is_header = keys == ['trace']
+        if is_header != (self.version == 0):
             raise syntax_fault('the first line, and no other, is the header')
-        if line.key == 'trace':
-            self.check_header(line)
+        if is_header:
+            line = self.read_header(number, fields)
         else:
-            self.check_word(line)
+            line = self.read_start_or_operation(number, keys[0], fields)
         check_paths(line)
         check_owners(line)
         return line
 
-    def check_header(self, line: Line) -> None:
-        """Sets `version` to that of a header. LineFault if the version is unknown, or has no such
-        profile; and as check_fields()."""
-        version = line.fields['trace']
+    def read_header(self, number: int, fields: Fields) -> Line:
+        """The header, from its number and its keys with their values. Sets `version` to that of the
+        header. LineFault if the version is unknown, or has no such profile; and as check_fields().
+        """
+        version = fields['trace']
         if not is_trace_number(version) or version not in HEADERS:
             raise syntax_fault(f'version {version} is not known ({", ".join(map(str, HEADERS))})')
         self.version = version
+        line = Line(number, 'trace', '', fields)
         self.check_fields(line, (*HEADERS[version], *RIGHTS))
-        profile = line.fields.get('profile', 'blocks')
+        profile = fields.get('profile', 'blocks')
         if PROFILES_SINCE.get(profile, 1) > version:
             raise syntax_fault(f'profile "{profile}" is not known in version {version}')
+        return line
 
-    def check_word(self, line: Line) -> None:
-        """Sets the word of a start line or an operation, and has_operation for an operation.
-        LineFault for a start line after an operation, for a word that is no text or that the
-        version lacks (UnknownOp); and as check_fields()."""
-        if line.key == 'start' and self.has_operation:
+    def read_start_or_operation(self, number: int, key: str, fields: Fields) -> Line:
+        """A start line or an operation, as the key `start` or `op` says, from its number and its
+        keys with their values. Sets has_operation for an operation. LineFault for a start line
+        after an operation, for a word that is no text or that the version lacks (UnknownOp); and as
+        check_fields()."""
+        if key == 'start' and self.has_operation:
             raise syntax_fault('a start line after an operation')
-        self.has_operation = line.key == 'op'
-        word = line.fields[line.key]
+        self.has_operation = key == 'op'
+        word = fields[key]
         if not isinstance(word, str):
-            raise syntax_fault(f'{line.key} is no text')
-        first_version, keys = KINDS[line.key].get(word, (self.version + 1, ()))
+            raise syntax_fault(f'{key} is no text')
+        first_version, keys = KINDS[key].get(word, (self.version + 1, ()))
         if first_version > self.version:
-            raise LineFault('UnknownOp', f'unknown {line.key} "{word}" in version {self.version}')
-        line.word = word
+            raise LineFault('UnknownOp', f'unknown {key} "{word}" in version {self.version}')
+        line = Line(number, key, word, fields)
         self.check_fields(line, keys)
+        return line
 
     def check_fields(self, line: Line, keys: Tuple[str, ...]) -> None:
         """LineFault if a line lacks one of expected_keys(), has another key, or has a value that
@@ -218,7 +223,7 @@ def check_parts(line: Line) -> None:
     then as check_part_order()."""
     for part in line.fields['parts']:
         check_part(part)
-    check_part_order(line.parts, line.length)
+    check_part_order(line.file_parts, line.file_length)
 
 
 def check_part(part: Fields) -> None:

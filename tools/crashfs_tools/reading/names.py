@@ -142,13 +142,12 @@ class NameTree:
     def move(self, old_path: str, new_path: str) -> None:
         """Moves what is at a path to another path, which must not be one of the same file. What is
         there is replaced; a directory there must be empty. In the order of a file's paths by age,
-        the new path takes the old one's place. In version 4 a move into another directory counts as
-        a record."""
+        the new path takes the old one's place."""
+        if self.is_counted_move(old_path, new_path):
+            self.records += 1
         source, target = self.entry_at(old_path), self.entry_at(new_path)
         if self.inode_at(new_path) is not None:
             self.remove_path(new_path)
-        if self.version >= 4 and source[0] != target[0]:
-            self.records += 1
         node = self.children[source[0]].pop(source[1])
         self.children[target[0]][target[1]] = node
         if node.kind == DIRECTORY:
@@ -246,7 +245,7 @@ class NameTree:
         be checked before."""
         if any(path.count('/') > PATH_NAMES for path in line.paths()):
             raise LineFault('TooLarge', f'a path of more than {PATH_NAMES} names')
-        if self.records >= RECORDS and (line.word in RECORD_WORDS or self.is_counted_rename(line)):
+        if self.records >= RECORDS and self.adds_record(line):
             raise LineFault('TooLarge', f'more than {RECORDS} files and directories')
         if line.word == 'say' and len(line.fields['text'].encode('utf-8')) > SAY_BYTES:
             raise LineFault('TooLarge', f'a say of more than {SAY_BYTES} bytes')
@@ -254,14 +253,18 @@ class NameTree:
         if end_offset(line) > most_bytes:
             raise LineFault('TooLarge', f'a file of more than {most_bytes} bytes')
 
-    def is_counted_rename(self, line: Line) -> bool:
-        """Whether a line is a rename that counts as a record: in version 4, into another directory,
-        and not between two paths of one file, which does nothing."""
-        if self.version < 4 or line.word != 'rename':
-            return False
-        old_path, new_path = line.fields['from'], line.fields['to']
+    def adds_record(self, line: Line) -> bool:
+        """Whether a line makes one more record."""
+        if line.word == 'rename':
+            return self.is_counted_move(line.fields['from'], line.fields['to'])
+        return line.word in RECORD_WORDS
+
+    def is_counted_move(self, old_path: str, new_path: str) -> bool:
+        """Whether a rename makes one more record: in version 4, if it moves something into another
+        directory. Between two paths of one file it moves nothing."""
         is_same_directory = parent_path(old_path) == parent_path(new_path)
-        return not is_same_directory and self.inode_at(old_path) != self.inode_at(new_path)
+        is_same_file = self.inode_at(old_path) == self.inode_at(new_path)
+        return self.version >= 4 and not is_same_directory and not is_same_file
 
 
 def end_offset(line: Line) -> int:
@@ -270,7 +273,7 @@ def end_offset(line: Line) -> int:
     if line.word == 'truncate':
         return int(line.fields['length'])
     if line.word == 'file':
-        return line.length
+        return line.file_length
     if line.word != 'write':
         return 0
     size = len(bytes_of(line.fields))
