@@ -10,7 +10,7 @@ from __future__ import annotations
 
 from functools import lru_cache, reduce
 from itertools import chain
-from typing import Dict, FrozenSet, Iterator, List, NamedTuple, Optional, Set, Tuple, Union
+from typing import Dict, FrozenSet, Hashable, Iterator, List, NamedTuple, Optional, Set, Tuple
 
 from .contents import Contents, IdTable
 from .micro import Acknowledgement, ChangeSize, LinkEntry, MicroOperation, Rights
@@ -20,15 +20,27 @@ from .place_sets import places_of, sets_by_key
 from .trees import change_entries, change_rights, reachable_paths
 from .trace import Reading
 
-# What a set changes of the start tree: what an entry holds then, or None if nothing, and the rights
-# of a directory, by its number.
-NameChanges = Dict[Union[Entry, int], Union[Inode, Rights, None]]
 # Each changed file, by its number, with the id of its content.
 FileContents = Tuple[Tuple[int, int], ...]
 # What is at a path: its kind, and the id of its content or a directory's rights.
 ShownItem = Tuple[object, ...]
 # Each path at which a state differs from the start tree, with what is there, or None if nothing is.
 TreeChanges = FrozenSet[Tuple[str, Optional[ShownItem]]]
+
+
+class NameChanges(NamedTuple):
+    """What a set changes of the start tree, the contents of files apart: what each changed entry
+    holds then, or None if nothing, and the changed rights of directories, by their numbers."""
+
+    nodes: Dict[Entry, Optional[Inode]]
+    rights: Dict[int, Rights]
+
+    def key(self) -> Hashable:
+        """What is equal exactly for equal changes, and can be hashed."""
+        return frozenset(self.nodes.items()), frozenset(self.rights.items())
+
+
+NO_CHANGES = NameChanges({}, {})
 
 
 class SetResult(NamedTuple):
@@ -72,9 +84,7 @@ class SetClasses:
             for place, operation in enumerate(reading.operations)
             if isinstance(operation, LinkEntry)
         )
-        self.name_changes: IdTable[NameChanges] = IdTable(
-            lambda changes: frozenset(changes.items())
-        )
+        self.name_changes: IdTable[NameChanges] = IdTable(NameChanges.key)
         # These are computed once for equal arguments.
         self.changes_id_after = lru_cache(None)(self.compute_changes_id_after)
         self.entries_of = lru_cache(None)(self.compute_entries_of)
@@ -94,7 +104,8 @@ class SetClasses:
         """The first allowed set of each class, in the order of every_set(), with what the set
         leaves. Sets of different classes may still leave equal trees."""
         followed: Set[Tuple[int, SetResult]] = set()
-        waiting = [(0, self.order.all_places, SetResult(self.name_changes.id_of({}), (), 0))]
+        empty_result = SetResult(self.name_changes.id_of(NO_CHANGES), (), 0)
+        waiting = [(0, self.order.all_places, empty_result)]
         while waiting:
             place_set, future, result = waiting.pop()
             result = self.shown_result(result, future)
@@ -146,14 +157,15 @@ class SetClasses:
     def compute_changes_id_after(self, changes_id: int, place: int) -> int:
         """The id of the name changes after the micro-operation at `place`, if those before it have
         the id changes_id. The micro-operation must change entries or a directory's rights. KeyError
-        as update_entries()."""
+        as update_nodes()."""
         operation = self.reading.operations[place]
-        changes = dict(self.name_changes.values[changes_id])
-        self.update_entries(changes, operation)
-        self.update_directory_rights(changes, operation)
+        changes_before = self.name_changes.values[changes_id]
+        changes = NameChanges(dict(changes_before.nodes), dict(changes_before.rights))
+        self.update_nodes(changes, operation)
+        self.update_rights(changes, operation)
         return self.name_changes.id_of(changes)
 
-    def update_entries(self, changes: NameChanges, operation: MicroOperation) -> None:
+    def update_nodes(self, changes: NameChanges, operation: MicroOperation) -> None:
         """Updates `changes` by what a micro-operation does to entries. An entry that holds the same
         as at the start again is dropped. KeyError if an entry that the micro-operation removes or
         moves holds nothing, because the set lacks what it needs."""
@@ -161,39 +173,37 @@ class SetClasses:
         held_nodes = {entry: node for entry, node in nodes.items() if node is not None}
         change_entries(held_nodes, operation)
         for entry in operation.entries:
-            changes[entry] = held_nodes.get(entry)
-            if changes[entry] == self.reading.start.get(entry):
-                del changes[entry]
+            changes.nodes[entry] = held_nodes.get(entry)
+            if changes.nodes[entry] == self.reading.start.get(entry):
+                del changes.nodes[entry]
 
-    def update_directory_rights(self, changes: NameChanges, operation: MicroOperation) -> None:
+    def update_rights(self, changes: NameChanges, operation: MicroOperation) -> None:
         """Updates `changes` by what a micro-operation does to the rights of directories. A removed
         directory, and one whose rights are as at the start again, are dropped."""
         changed_rights: Dict[int, Rights] = {}
         change_rights(changed_rights, operation)
         for directory, rights in changed_rights.items():
-            changes[directory] = rights
+            changes.rights[directory] = rights
             if rights == self.reading.start_rights.get(directory):
-                del changes[directory]
+                del changes.rights[directory]
         if operation.removed_directory is not None:
-            changes.pop(operation.removed_directory, None)
+            changes.rights.pop(operation.removed_directory, None)
 
     def node_at_entry(self, changes: NameChanges, entry: Entry) -> Optional[Inode]:
         """What an entry holds after name changes; None if it holds nothing. An entry that `changes`
         lacks is as at the start."""
-        node = changes[entry] if entry in changes else self.reading.start.get(entry)
-        assert node is None or isinstance(node, Inode)
-        return node
+        return changes.nodes[entry] if entry in changes.nodes else self.reading.start.get(entry)
 
     def compute_entries_of(self, changes_id: int, file_number: int) -> Tuple[Entry, ...]:
         """The entries that hold a file or symbolic link, given by its number, after the name
         changes with this id, in no particular order; none if it has no name then."""
-        changes = self.name_changes.values[changes_id]
+        changed_nodes = self.name_changes.values[changes_id].nodes
         start_entries = self.start_entries.get(file_number, [])
-        unchanged_entries = (entry for entry in start_entries if entry not in changes)
+        unchanged_entries = (entry for entry in start_entries if entry not in changed_nodes)
         changed_entries = (
-            key
-            for key, node in changes.items()
-            if isinstance(key, tuple) and isinstance(node, Inode) and is_file(node, file_number)
+            entry
+            for entry, node in changed_nodes.items()
+            if node is not None and is_file(node, file_number)
         )
         return (*unchanged_entries, *changed_entries)
 
@@ -209,7 +219,7 @@ class SetClasses:
         items = {}
         for path, node in nodes.items():
             item = self.shown_item(node, changes, content_ids)
-            if item != self.shown_item(self.reading.start_paths.get(path), {}, {}):
+            if item != self.shown_item(self.reading.start_paths.get(path), NO_CHANGES, {}):
                 items[path] = item
         return frozenset(items.items())
 
@@ -218,8 +228,8 @@ class SetClasses:
         unmoved path, the one that it has while no directory is moved."""
         return any(
             self.reading.unmoved_path(entry) != self.reading.unmoved_paths[node.number]
-            for entry, node in changes.items()
-            if isinstance(entry, tuple) and isinstance(node, Inode) and node.kind == DIRECTORY
+            for entry, node in changes.nodes.items()
+            if node is not None and node.kind == DIRECTORY
         )
 
     def changed_nodes(self, result: SetResult) -> Dict[str, Optional[Inode]]:
@@ -228,15 +238,13 @@ class SetClasses:
         changes = self.name_changes.values[result.changes_id]
         nodes: Dict[str, Optional[Inode]] = {
             self.reading.unmoved_paths[number] or '/': Inode(DIRECTORY, number)
-            for number in changes
-            if isinstance(number, int)
+            for number in changes.rights
         }
-        changed_entries = (key for key in changes if isinstance(key, tuple))
         entries_of_files = (
             self.entries_of(result.changes_id, file_number)
             for file_number, _ in result.file_contents
         )
-        for entry in chain(changed_entries, *entries_of_files):
+        for entry in chain(changes.nodes, *entries_of_files):
             path = self.reading.unmoved_path(entry)
             # Entries of a directory that is gone and of one made again may have the same path.
             nodes[path] = self.node_at_entry(changes, entry) or nodes.get(path)
@@ -246,9 +254,8 @@ class SetClasses:
         """What is at each path after name changes, also of moved directories, and None at each path
         of the start tree at which nothing is left. Unlike changed_nodes() it has all unchanged
         paths."""
-        keys = dict.fromkeys((*self.reading.start, *changes))
-        nodes = ((key, self.node_at_entry(changes, key)) for key in keys if isinstance(key, tuple))
-        held_nodes = ((entry, node) for entry, node in nodes if node is not None)
+        nodes: Dict[Entry, Optional[Inode]] = {**self.reading.start, **changes.nodes}
+        held_nodes = ((entry, node) for entry, node in nodes.items() if node is not None)
         return {**dict.fromkeys(self.reading.start_paths), **dict(reachable_paths(held_nodes))}
 
     def shown_item(
@@ -261,7 +268,8 @@ class SetClasses:
         if node is None:
             return None
         if node.kind == DIRECTORY:
-            return node.kind, changes.get(node.number, self.reading.start_rights.get(node.number))
+            start_rights = self.reading.start_rights.get(node.number)
+            return node.kind, changes.rights.get(node.number, start_rights)
         content_id = content_ids.get(node.number, self.initial_content_ids[node.number])
         return node.kind, self.contents.shown_content_id(content_id)
 
