@@ -16,7 +16,8 @@ from crashfs_tools.common.trace_lines import TraceLine, parse_trace_text
 from crashfs_tools.common.trace_lines import with_syncs, without_numbers
 from crashfs_tools.reading import make_plan, parse_trace
 from crashfs_tools.reading.listing import json_listing
-from crashfs_tools.reading.plan import different_places, file_sets, lost_sets
+from crashfs_tools.reading.picking import different_places
+from crashfs_tools.reading.plan import file_sets, lost_sets
 
 from .random_traces import RandomTrace
 from .support import FAKE

@@ -10,7 +10,8 @@ from pathlib import Path
 from crashfs_tools.reading import ReadingFault, make_plan, parse_trace
 from crashfs_tools.reading.listing import plain_listing
 from crashfs_tools.reading.order import Order
-from crashfs_tools.reading.plan import different_places, file_sets, read_picks
+from crashfs_tools.reading.picking import different_places
+from crashfs_tools.reading.plan import file_sets, read_picks
 from crashfs_tools.reading.trees import Trees
 
 from .case_runs import Runner

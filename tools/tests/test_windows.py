@@ -23,7 +23,8 @@ from crashfs_tools.common.trace_lines import parse_trace_text
 from crashfs_tools.reading import ReadingFault, make_plan, parse_trace
 from crashfs_tools.reading.listing import json_listing
 from crashfs_tools.reading.main import read_options
-from crashfs_tools.reading.plan import different_places, file_sets, lost_sets, read_picks
+from crashfs_tools.reading.picking import different_places
+from crashfs_tools.reading.plan import file_sets, lost_sets, read_picks
 
 from .random_traces import RandomTrace
 from .support import EXAMPLE_TRACES, EXAMPLES, FAKE

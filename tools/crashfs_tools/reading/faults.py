@@ -16,6 +16,10 @@ class ReadingFault(Exception):
         self.why = why
 
 
+class UsageFault(Exception):
+    """A command line that is refused, as a line that says why."""
+
+
 class LineFault(Exception):
     """A fault of one line of a trace: its kind in the program's words, such as `BadName`, and an
     explanation."""

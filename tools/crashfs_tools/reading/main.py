@@ -1,4 +1,4 @@
-"""The command line: that of the program's `list`, `picks` and `tar`, without its help."""
+"""The command line: that of the program's `list`, `picks` and `tar`. Its help is only HELP."""
 
 from __future__ import annotations
 
@@ -6,9 +6,9 @@ import os
 import sys
 from typing import List
 
-from .faults import ReadingFault
+from .faults import ReadingFault, UsageFault
 from .listing import json_listing, plain_listing
-from .picking import Options, UsageFault, is_number_text, picks_lines, refuse_picks_options
+from .picking import Options, is_number_text, picks_lines, refuse_picks_options
 from .plan import StatePlan, add_families, make_plan, read_picks
 from .trace import parse_trace
 
@@ -22,6 +22,7 @@ VALUED = {
     'picks': ('--trace', '--most', '--sample', '--seed', '--profile'),
     'tar': ('--trace', '--picks', '--state', '--states'),
 }
+# What --help prints after `picks` or `tar`: the tools look there for the options that they need.
 HELP = (
     'tar --trace FILE [--holes] [--picks FILE] --state N [--sparse]\n'
     'tar --trace FILE [--holes] [--picks FILE] --states LIST [--changes] [--sparse]\n'
@@ -102,7 +103,7 @@ def print_output(command: str, options: Options) -> None:
         return
     picks = read_picks(read_file(str(options['--picks']))) if '--picks' in options else []
     plan = make_plan(reading, has_holes='--holes' in options, picks=picks)
-    add_families(plan, has_lost='--lost' in options, has_files='--files' in options)
+    add_families(plan, options)
     if command == 'list' and '--json' in options:
         sys.stdout.writelines(json_listing(plan))
     elif command == 'list':

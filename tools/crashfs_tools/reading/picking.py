@@ -8,25 +8,20 @@ from typing import Dict, Iterator, List, Union
 
 from .classes import SetClasses
 from .every import MOST_SETS, count_sets, drawn_sets, every_set
-from .faults import ReadingFault
+from .faults import ReadingFault, UsageFault
 from .lines import PROFILES
 from .order import Order, order_under
 from .place_sets import places_of
-from .plan import different_places, family_sets
+from .plan import family_sets
 from .trees import Trees
 from .trace import Reading
 
 DEFAULT_MOST = 1_000_000
-# The largest and the least value of each option that is a number.
-LARGEST = {'--most': 16_777_216, '--sample': 16_384, '--seed': 2**64 - 1}
-LEAST = {'--most': 1, '--sample': 1, '--seed': 0}
+# The values that each option may have that is a number.
+RANGES = {'--most': range(1, 16_777_217), '--sample': range(1, 16_385), '--seed': range(2**64)}
 OPTIONS_OF_EVERY = ('--different', '--most', '--count', '--profile')
 
 Options = Dict[str, Union[str, bool]]
-
-
-class UsageFault(Exception):
-    """A command line that is refused, as a line that says why."""
 
 
 def refuse_picks_options(options: Options) -> None:
@@ -45,16 +40,16 @@ def refuse_picks_options(options: Options) -> None:
         raise UsageFault('--sample and --seed go together')
     if options.get('--profile', PROFILES[0]) not in PROFILES:
         raise UsageFault(f"invalid value '{options['--profile']}' for '--profile <F>'")
-    for option in LARGEST:
+    for option in RANGES:
         if option in options:
             option_number(options, option)
 
 
 def option_number(options: Options, option: str) -> int:
-    """The number that a given option has. UsageFault if it is no number, or not in the option's
-    range, LEAST to LARGEST. KeyError if the option isn't given."""
+    """The number that is the value of an option of RANGES. UsageFault if the value is no number, or
+    not in the option's range. KeyError if the option isn't given."""
     text = str(options[option])
-    if not is_number_text(text) or not LEAST[option] <= int(text) <= LARGEST[option]:
+    if not is_number_text(text) or int(text) not in RANGES[option]:
         raise UsageFault(f"invalid value '{text}' for '{option} <N>'")
     return int(text)
 
@@ -92,10 +87,17 @@ def picked_sets(reading: Reading, options: Options) -> Iterator[List[int]]:
         count, seed = option_number(options, '--sample'), option_number(options, '--seed')
         drawn = drawn_sets(Order(reading), count, seed)
         return (list(places_of(place_set)) for place_set in drawn)
-    has_lost, has_files = '--lost' in options, '--files' in options
-    order, trees = Order(reading), Trees(reading)
-    families = family_sets(order, trees, has_lost=has_lost, has_files=has_files)
+    families = family_sets(Order(reading), Trees(reading), options)
     return (places for family in families for places in different_places(family))
+
+
+def different_places(sets: Iterator[int]) -> Iterator[List[int]]:
+    """The places of each set, ascending, as a stream. A set that came before is left out."""
+    seen_sets = set()
+    for place_set in sets:
+        if place_set not in seen_sets:
+            seen_sets.add(place_set)
+            yield list(places_of(place_set))
 
 
 def sets_of_every(reading: Reading, options: Options) -> Iterator[List[int]]:

@@ -3,7 +3,7 @@
 from __future__ import annotations
 
 from itertools import chain
-from typing import Any, Dict, Iterable, Iterator, List, NamedTuple, Sequence, Tuple
+from typing import Any, Container, Dict, Iterable, Iterator, List, NamedTuple, Sequence, Tuple
 
 from .faults import LineFault, ReadingFault, syntax_fault
 from .json_lines import is_trace_number, read_array
@@ -112,11 +112,11 @@ def make_plan(
     return plan
 
 
-def add_families(plan: StatePlan, *, has_lost: bool, has_files: bool) -> None:
-    """Adds the sets of the families that are asked for, --lost before --files, to a plan, as picks.
-    Each set is added once, and only if the plan lacks it. ReadingFault if the plan is full; the
-    sets added before stay."""
-    families = family_sets(plan.order, plan.trees, has_lost=has_lost, has_files=has_files)
+def add_families(plan: StatePlan, options: Container[str]) -> None:
+    """Adds the sets of the families that are among the options, see family_sets(), to a plan, as
+    picks. Each set is added once, and only if the plan lacks it. ReadingFault if the plan is full;
+    the sets added before stay."""
+    families = family_sets(plan.order, plan.trees, options)
     planned_sets = {state.place_set for state in plan.states}
     for place_set in dict.fromkeys(chain.from_iterable(families)):
         if place_set not in planned_sets:
@@ -146,13 +146,11 @@ def read_pick(line: bytes) -> List[int]:
     return places
 
 
-def family_sets(
-    order: Order, trees: Trees, *, has_lost: bool, has_files: bool
-) -> List[Iterator[int]]:
-    """A stream of the sets of each family that is asked for: --lost first, then --files. `order`
-    and `trees` must be those of one trace."""
-    families = [lost_sets(order)] if has_lost else []
-    return [*families, file_sets(order, trees)] if has_files else families
+def family_sets(order: Order, trees: Trees, options: Container[str]) -> List[Iterator[int]]:
+    """A stream of the sets of each family whose option is among the options: --lost first, then
+    --files. `order` and `trees` must be those of one trace."""
+    families = {'--lost': lost_sets(order), '--files': file_sets(order, trees)}
+    return [sets for option, sets in families.items() if option in options]
 
 
 def lost_sets(order: Order) -> Iterator[int]:
@@ -172,12 +170,3 @@ def file_sets(order: Order, trees: Trees) -> Iterator[int]:
         not_synced = prefix & ~order.synced_sets[end - 1]
         lost_of_files = (not_synced & changes[file_number] for file_number in sorted(changes))
         yield from (order.set_without(prefix, lost) for lost in lost_of_files if lost)
-
-
-def different_places(sets: Iterator[int]) -> Iterator[List[int]]:
-    """The places of each set, ascending, as a stream. A set that came before is left out."""
-    seen_sets = set()
-    for place_set in sets:
-        if place_set not in seen_sets:
-            seen_sets.add(place_set)
-            yield list(places_of(place_set))
