@@ -70,7 +70,7 @@ def benchmark_of_program(name: str) -> Benchmark:
     raises OSError if the program can't be started."""
 
     def run_program(programs: Programs, tally: Tally) -> None:
-        tally.run_program([str(programs.path_if_built(name)), 'time'])
+        tally.run_program([programs.path(name), 'time'])
 
     return Benchmark([name], run_program)
 
@@ -80,9 +80,7 @@ def measure_benchmark(programs: Programs, name: str, tally: Tally) -> None:
     aren't built. Rows and failures are counted in the tally. OSError as benchmark_of_program(), if
     the benchmark isn't in MEASURED."""
     benchmark = MEASURED.get(name) or benchmark_of_program(name)
-    not_built = [
-        program for program in benchmark.needed_programs if programs.path_if_built(program) is None
-    ]
+    not_built = [program for program in benchmark.needed_programs if not programs.is_built(program)]
     if not_built:
         tally.add_not_built(name, not_built)
         return

@@ -21,11 +21,14 @@ class Programs:
 
     top: Path
 
-    def path_if_built(self, name: str) -> Optional[Path]:
-        """The path of a crate's program; None if it isn't built, or may not be executed. The
-        program may be older than its sources."""
-        program = self.top / 'crates' / name / 'out' / name
-        return program if os.access(program, os.X_OK) else None
+    def path(self, name: str) -> str:
+        """The path of a crate's program, which may not be built yet, or be older than its
+        sources."""
+        return str(self.top / 'crates' / name / 'out' / name)
+
+    def is_built(self, name: str) -> bool:
+        """Whether a crate's program is built, and may be executed."""
+        return os.access(self.path(name), os.X_OK)
 
     def benchmark_names(self) -> List[str]:
         """The names of the benchmark programs, built or not, in the order of crates.txt: those of

@@ -60,11 +60,10 @@ def running_server(words: List[str]) -> Iterator[subprocess.Popen[str]]:
 
 def serve_words(programs: Programs, address: str, connection_count: int) -> List[str]:
     """The command line of `crashfs serve` for the only state of a small trace, with one worker, for
-    connection_count connections at once. The program must be built: if not, the first word is the
-    text `None`."""
-    examples: Path = programs.top / 'examples'
+    connection_count connections at once."""
+    examples = programs.top / 'examples'
     return [
-        str(programs.path_if_built('crashfs')),
+        programs.path('crashfs'),
         'serve',
         '--users',
         str(examples / 'users'),

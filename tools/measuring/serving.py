@@ -19,7 +19,7 @@ def running_servers(programs: Programs, addresses: List[str], client_count: int)
     """`crashfs serve` at the first of four addresses, and the bare servers of KEEPING at the
     others, for client_count clients each. They run until the `with` ends, and are killed then.
     OSError as running_server()."""
-    bench = str(programs.path_if_built('serve_bench'))
+    bench = programs.path('serve_bench')
     with ExitStack() as servers:
         servers.enter_context(running_server(serve_words(programs, addresses[0], client_count)))
         for keeping, address in zip(KEEPING, addresses[1:]):
@@ -32,7 +32,7 @@ def add_serving_rows(programs: Programs, tally: Tally) -> None:
     them. If a server has no free port or doesn't listen, or a program can't be started, that is a
     failure of the tally, and the next setting is measured. `crashfs` and `serve_bench` must be
     built."""
-    bench = str(programs.path_if_built('serve_bench'))
+    bench = programs.path('serve_bench')
     for client_count, runs in SETTINGS:
         runs_text = 'each on a run of its own' if runs == 'own' else 'all on one run'
         tally.add_line(f'-- {client_count} clients, {runs_text}')

@@ -124,7 +124,7 @@ def measure_row(program: str, row: Row, folder: Path) -> Usage:
 def add_set_rows(programs: Programs, tally: Tally, rows: Tuple[Row, ...] = ROWS) -> None:
     """Measures and prints the rows of sets. If a command of `picks` fails, that is a failure of the
     tally, and its row isn't printed. The program `crashfs` must be built."""
-    program = str(programs.path_if_built('crashfs'))
+    program = programs.path('crashfs')
     with tempfile.TemporaryDirectory() as folder:
         for row in rows:
             try:
