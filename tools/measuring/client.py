@@ -12,6 +12,12 @@ VERSION = '9P2000'
 TVERSION, TATTACH, TWALK, TOPEN, TWRITE = 100, 104, 110, 112, 118
 RERROR = 107
 READ_WRITE = 2
+# The largest message that the client can take.
+MESSAGE_BYTES = 65_536
+# How many bytes the size of messages has in a reply, and the length before a text.
+NUMBER_BYTES, LENGTH_BYTES = 4, 2
+# The user who attaches, one of examples/users.
+USER = 'ann'
 
 
 class ServerRefused(Exception):
@@ -44,10 +50,12 @@ class Client:
         self.stream = socket.create_connection((host, int(port)))
         self.replies = self.stream.makefile('rb')
         try:
-            fields = struct.pack('<I', 65_536) + text_field(VERSION)
-            version_field = self.ask(message_bytes(TVERSION, fields, NO_TAG))[4:]
+            fields = struct.pack('<I', MESSAGE_BYTES) + text_field(VERSION)
+            reply_fields = self.ask(message_bytes(TVERSION, fields, NO_TAG))
+            version_field = reply_fields[NUMBER_BYTES:]
             if version_field != text_field(VERSION):
-                raise ServerRefused(f'the server speaks {version_field[2:]!r}, not {VERSION}')
+                version = version_field[LENGTH_BYTES:]
+                raise ServerRefused(f'the server speaks {version!r}, not {VERSION}')
         except BaseException:
             self.close()
             raise
@@ -59,7 +67,7 @@ class Client:
         size, kind, _ = struct.unpack('<IBH', self.read_whole(7))
         fields = self.read_whole(size - 7)
         if kind == RERROR:
-            raise ServerRefused(fields[2:].decode(errors='replace'))
+            raise ServerRefused(fields[LENGTH_BYTES:].decode(errors='replace'))
         return fields
 
     def read_whole(self, count: int) -> bytes:
@@ -91,10 +99,10 @@ class Client:
         return granted_count
 
     def attach(self, fid: int, run: str) -> None:
-        """Attaches the user `ann` to a run, given as STATE/RUN; the fid is the run's root directory
-        then. ServerRefused if the server refuses it, as for a fid that is in use; OSError if the
+        """Attaches USER to a run, given as STATE/RUN; the fid is the run's root directory then.
+        ServerRefused if the server refuses it, as for a fid that is in use; OSError if the
         connection ends."""
-        fields = struct.pack('<II', fid, NO_FID) + text_field('ann') + text_field(run)
+        fields = struct.pack('<II', fid, NO_FID) + text_field(USER) + text_field(run)
         self.ask(message_bytes(TATTACH, fields))
 
     def open(self, fid: int, newfid: int, name: str) -> None:

@@ -64,29 +64,24 @@ def time_command(words: List[str], environment: Optional[Dict[str, str]] = None)
 
 
 class Checks:
-    """Checks of SQLite's example. `folder` is for the modules that Python compiles. Call
-    compile_modules() first, so that the checks are measured as they are after a user's first one.
-    """
+    """Checks of SQLite's example, which are measured as they are after a user's first one: Python
+    has compiled the modules. Their options must have `--families`, for prefixes and holes, or
+    `--prefixes`: so figures can be compared with those of earlier versions."""
 
     def __init__(self, programs: Programs, folder: str) -> None:
-        """Runs nothing yet. The program `crashfs` must be built."""
-        self.program = str(programs.path_if_built('crashfs'))
+        """Runs a check, so that Python compiles the modules into the folder. The program `crashfs`
+        must be built. OSError as measure_check()."""
+        self.program = programs.path('crashfs')
         self.environment = {**os.environ, 'PYTHONPYCACHEPREFIX': folder}
         self.environment.pop('PYTHONDONTWRITEBYTECODE', None)
-
-    def compile_modules(self) -> None:
-        """Runs a check, so that Python compiles its modules into the folder. OSError as
-        measure_check()."""
         self.measure_check('--prefixes')
 
     def measure_check(self, *options: str) -> Times:
-        """The times of one check with these options. It tries prefixes and holes (`--families`), or
-        only prefixes if `--prefixes` is among the options, so that figures can be compared with
-        those of earlier versions. OSError if the check fails, or finds a state that fails."""
+        """The times of one check with these options. OSError if the check fails, or finds a state
+        that fails."""
         # -S leaves out what this machine's Python loads by itself.
         program = [sys.executable, '-S', str(CHECK), '--crashfs', self.program]
-        families = [] if '--prefixes' in options else ['--families']
-        words = [*program, *families, *options, str(TRACE), '--', '/bin/true']
+        words = [*program, *options, str(TRACE), '--', '/bin/true']
         command = time_command(words, self.environment)
         counts = TRIED.search(command.output)
         if counts is None:
@@ -130,9 +125,8 @@ def measure_all_times(programs: Programs) -> AllTimes:
     that is removed at the end. OSError or CalledProcessError if a program is missing or fails."""
     with tempfile.TemporaryDirectory() as folder:
         checks = Checks(programs, folder)
-        checks.compile_modules()
-        check, short_check = checks.least_times(), checks.least_times('--prefixes')
-        one_job_check = checks.measure_check('--jobs', '1')
+        check, short_check = checks.least_times('--families'), checks.least_times('--prefixes')
+        one_job_check = checks.measure_check('--families', '--jobs', '1')
         c_program = measure_c_program(folder, check.tried_count)
         return AllTimes(check, short_check, one_job_check, c_program)
 
