@@ -3,7 +3,7 @@
 from __future__ import annotations
 
 import re
-from dataclasses import asdict, dataclass, field
+from dataclasses import dataclass, field
 from typing import Dict, Iterator, List, Set
 
 from crashfs_tools.checker.findings.read_trees import TreeAndCount, tree_and_count
@@ -48,10 +48,6 @@ class SessionResult:
     outside: List[str] = field(default_factory=list)
     # With how many operations the session was drawn.
     operations: int = OPERATIONS
-
-    def fields(self) -> Dict[str, object]:
-        """The result as a line of results.jsonl has it."""
-        return asdict(self)
 
 
 def allowed_trees(reading: Reading, profile: str) -> Set[TreeAndCount]:

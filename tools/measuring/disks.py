@@ -14,6 +14,7 @@ import json
 import os
 import platform
 import sys
+from dataclasses import asdict
 from functools import partial
 from pathlib import Path
 from typing import Iterator, List, Optional, Tuple
@@ -131,7 +132,7 @@ class Measurement:
         FILESYSTEM-SEED-OPERATIONS.trace, over an older one. OSError if one of the two can't be
         written: the file of results may then have a part of the line."""
         with self.results_path.open('a', encoding='utf-8') as file:
-            file.write(json.dumps(result.fields()) + '\n')
+            file.write(json.dumps(asdict(result)) + '\n')
         if result.outside:
             trace = draw_session(result.seed, result.operations)
             name = f'{result.filesystem}-{result.seed}-{result.operations}.trace'

@@ -31,7 +31,8 @@ from crashfs_tools.common.trace import (
 )
 from crashfs_tools.common.trace_read import tree_without_start
 
-ROOT = 'root', 'root'
+# The owner and the group of all files and directories.
+OWNER = 'root', 'root'
 FILE_MODE, DIRECTORY_MODE = 0o644, 0o755
 NAMES, DIRECTORIES = 'abc', 'def'
 # The kinds of operations, by the names of the methods that draw one, with how often each is drawn
@@ -63,6 +64,7 @@ def draw_session(seed: int, operation_count: int) -> Trace:
     session: results and pages name sessions by their seeds."""
     session = DrawnSession(seed)
     session.draw_operations(operation_count)
+    session.trace.operations.append(Say('end'))
     return session.trace
 
 
@@ -74,7 +76,7 @@ class DrawnSession:
     def __init__(self, seed: int) -> None:
         """Draws the start tree."""
         self.random = random.Random(seed)
-        self.trace = Trace(Header(*ROOT, DIRECTORY_MODE), self.draw_start(), version=4)
+        self.trace = Trace(Header(*OWNER, DIRECTORY_MODE), self.draw_start(), version=4)
         self.tree = tree_without_start(self.trace)
         for line in self.trace.start:
             self.tree.add_start(line)
@@ -84,12 +86,12 @@ class DrawnSession:
         symbolic link /e/c. `tree` isn't needed yet."""
         directories = ['/d', '/e', *(['/d/f'] if self.draw_boolean(true_once_in=3) else [])]
         start: List[StartLine] = []
-        start += [Start(path, *ROOT, DIRECTORY_MODE, None) for path in directories]
+        start += [Start(path, *OWNER, DIRECTORY_MODE, None) for path in directories]
         for path in self.random.sample(['/a', '/b', '/d/a', '/d/b', '/e/a'], 2):
             data = self.random.choice([b'old', b'x' * 5000])
-            start.append(Start(path, *ROOT, FILE_MODE, data))
+            start.append(Start(path, *OWNER, FILE_MODE, data))
         if self.draw_boolean(true_once_in=3):
-            start.append(StartSymlink('/e/c', *ROOT, 'a'))
+            start.append(StartSymlink('/e/c', *OWNER, 'a'))
         return start
 
     def draw_boolean(self, *, true_once_in: int) -> bool:
@@ -97,15 +99,14 @@ class DrawnSession:
         return self.random.randrange(true_once_in) == 0
 
     def draw_operations(self, count: int) -> None:
-        """Adds `count` useful operations, 0 or more, to the trace, with acknowledged lines as
-        draw_session() says. The last line of the session is added, too: call this only once."""
+        """Adds `count` useful operations, 0 or more, to the trace, and after each sync an
+        acknowledged line."""
         for _ in range(count):
             operation = self.draw_useful_operation()
             self.tree.apply(operation)
             self.trace.operations.append(operation)
             if isinstance(operation, SYNCS):
                 self.trace.operations.append(Say(f'{len(self.trace.operations)}'))
-        self.trace.operations.append(Say('end'))
 
     def draw_useful_operation(self) -> Operation:
         """Draws operations, each kind as often as KINDS says, until one is useful, and returns this
@@ -159,15 +160,17 @@ class DrawnSession:
     # A method for each kind, which draws an operation; None if the tree has nothing for it
 
     def draw_creat(self) -> Operation:
-        return Creat(self.draw_new_path(NAMES), *ROOT, FILE_MODE)
+        """Draws a new, empty file."""
+        return Creat(self.draw_new_path(NAMES), *OWNER, FILE_MODE)
 
     def draw_mkdir(self) -> Operation:
-        return Mkdir(self.draw_new_path(DIRECTORIES), *ROOT, DIRECTORY_MODE)
+        """Draws a new directory."""
+        return Mkdir(self.draw_new_path(DIRECTORIES), *OWNER, DIRECTORY_MODE)
 
     def draw_symlink(self) -> Operation:
         """Draws a new symbolic link; there may be nothing at its target."""
         return Symlink(
-            self.draw_new_path(NAMES), *ROOT, self.random.choice(['a', '../b', 'd/none'])
+            self.draw_new_path(NAMES), *OWNER, self.random.choice(['a', '../b', 'd/none'])
         )
 
     def draw_write(self) -> Optional[Operation]:
@@ -180,6 +183,7 @@ class DrawnSession:
         return Write(path, offset, self.draw_bytes())
 
     def draw_append(self) -> Optional[Operation]:
+        """Draws a write at the end of a file; None if there is no file."""
         path = self.draw_path(FILE_KIND)
         return Write(path, self.file_size(path), self.draw_bytes()) if path else None
 
@@ -191,30 +195,38 @@ class DrawnSession:
         return Truncate(path, length) if path else None
 
     def draw_rename(self) -> Optional[Operation]:
+        """Draws a rename of a file or symbolic link; None if there is neither."""
         path = self.draw_path(FILE_KIND, SYMLINK_KIND)
         return Rename(path, self.draw_new_path(NAMES)) if path else None
 
     def draw_rename_directory(self) -> Optional[Operation]:
+        """Draws a rename of a directory; None if there is none but the root."""
         path = self.draw_path(DIRECTORY_KIND)
         return Rename(path, self.draw_new_path(DIRECTORIES)) if path else None
 
     def draw_link(self) -> Optional[Operation]:
+        """Draws one more name for a file; None if there is no file."""
         path = self.draw_path(FILE_KIND)
         return Link(path, self.draw_new_path(NAMES)) if path else None
 
     def draw_unlink(self) -> Optional[Operation]:
+        """Draws the removal of a file or symbolic link; None if there is neither."""
         path = self.draw_path(FILE_KIND, SYMLINK_KIND)
         return Unlink(path) if path else None
 
     def draw_rmdir(self) -> Optional[Operation]:
+        """Draws the removal of a directory, which may have entries; None if there is none but the
+        root."""
         path = self.draw_path(DIRECTORY_KIND)
         return Rmdir(path) if path else None
 
     def draw_fsync(self) -> Optional[Operation]:
+        """Draws a sync of a file; None if there is no file."""
         path = self.draw_path(FILE_KIND)
         return Fsync(path) if path else None
 
     def draw_fdatasync(self) -> Optional[Operation]:
+        """Draws a sync of a file's data; None if there is no file."""
         path = self.draw_path(FILE_KIND)
         return Fdatasync(path) if path else None
 
@@ -225,7 +237,9 @@ class DrawnSession:
         return FsyncRange(path, 4096 * self.random.randrange(2), 4096) if path else None
 
     def draw_fsync_directory(self) -> Operation:
+        """Draws a sync of a directory, which may be the root."""
         return Fsync(self.random.choice(['/', *self.paths_of(DIRECTORY_KIND)]))
 
     def draw_sync(self) -> Operation:
+        """Returns a sync of everything: nothing needs to be drawn."""
         return Sync()

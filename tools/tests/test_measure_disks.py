@@ -9,6 +9,7 @@ import os
 import subprocess
 import sys
 import unittest
+from dataclasses import asdict
 from pathlib import Path
 from typing import List
 
@@ -132,7 +133,7 @@ class Kept(InFolder):
         run.save_result(SessionResult('ext4', 1, operations=99))
         run.save_result(SessionResult('ext4', 2))
         # A line of a file that didn't say how many they are.
-        old = SessionResult('ext4', 3).fields()
+        old = asdict(SessionResult('ext4', 3))
         del old['operations']
         with run.results_path.open('a', encoding='utf-8') as file:
             file.write(json.dumps(old) + '\n')
