@@ -3,7 +3,7 @@
 from __future__ import annotations
 
 import json
-from typing import Any, Dict, Iterator, List, Set
+from typing import Dict, Iterator, List, Optional, Set, TypedDict
 
 from .markdown import table_lines
 from .sources import TOP
@@ -16,8 +16,25 @@ DISKS = {'ext4': 'ext4', 'xfs': 'XFS', 'btrfs': 'btrfs'}
 # As a link of the page has it.
 STORES = '../examples/stores'
 
-# A session of a store with what was found: an object of RESULTS.
-Row = Dict[str, Any]
+
+class Row(TypedDict):
+    """A session of a store with what was found: an object of RESULTS. `sets` is None if the sets
+    are uncounted; `causes` has how many failing states are of each kind of cause; `disks` has the
+    counts `trees`, `failing` and `outside` of each file system that was tried."""
+
+    key: str
+    store: str
+    version: str
+    session: str
+    micro_operations: int
+    sets: Optional[int]
+    is_whole: bool
+    tried: int
+    failing: int
+    causes: Dict[str, int]
+    profiles: Dict[str, int]
+    disks: Dict[str, Dict[str, int]]
+    report: List[str]
 
 
 def results_part() -> str:

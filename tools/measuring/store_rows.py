@@ -3,7 +3,6 @@
 from __future__ import annotations
 
 import json
-import re
 from collections import Counter
 from pathlib import Path
 from typing import Any, Dict, Iterator, List
@@ -12,18 +11,15 @@ from typing import Counter as Counts
 from crashfs_tools.checker.findings.sightings import OUTSIDE
 from crashfs_tools.checker.report.counts import StateCounts
 from crashfs_tools.checker.running.read_results import read_json
-from crashfs_tools.checker.running.results import Results
+from crashfs_tools.checker.running.results import AllResults, Results
 from crashfs_tools.checker.running.runner import BAD
+from inventory.results import RESULTS, Row
 
-TOP = Path(__file__).resolve().parents[2]
-STORES = TOP / 'examples' / 'stores'
-RESULTS = TOP / 'docs' / 'results.json'
-ALL_STATES = re.compile(r' all ([\d,]+) crash states?\b')
+from .store_sessions import Session, read_sessions
+
 # So many lines of a report are kept: its first, and those of its first entry, which says last where
 # it was seen on disks.
 REPORT_LINES = 12
-
-Row = Dict[str, Any]
 
 
 class ResultsFile:
@@ -44,46 +40,34 @@ class ResultsFile:
     def put_row(self, row: Row) -> None:
         """Puts a row into the file, instead of a row with its key. Rows are in the order of
         stores.json; rows of other sessions are kept, and come last. Errors as read_rows() and
-        session_keys(), before anything is written; an OSError of the write may leave a part of the
+        read_sessions(), before anything is written; an OSError of the write may leave a part of the
         file. A row that another process puts at the same time may be lost."""
         rows = {old_row['key']: old_row for old_row in self.read_rows()}
         rows[row['key']] = row
-        key_order = {key: number for number, key in enumerate(session_keys())}
+        key_order = {session.key: number for number, session in enumerate(read_sessions())}
         keys = sorted(rows, key=lambda key: key_order.get(key, len(key_order)))
         lines = ',\n'.join(json.dumps(rows[key], ensure_ascii=False) for key in keys)
         self.path.write_text(f'[\n{lines}\n]\n', 'utf-8')
 
 
-def read_stores() -> List[Dict[str, Any]]:
-    """The objects of stores.json, one for each store. OSError if it can't be read, ValueError if it
-    is no JSON."""
-    stores: List[Dict[str, Any]] = json.loads((STORES / 'stores.json').read_text('utf-8'))
-    return stores
-
-
-def session_keys() -> List[str]:
-    """The keys FOLDER/SESSION of all sessions of stores.json, in its order. Errors as
-    read_stores()."""
-    return [f'{store["folder"]}/{name}' for store in read_stores() for name in store['sessions']]
-
-
-def row_of_check(store: Dict[str, Any], key: str, json_path: str, report: str) -> Row:
-    """The row of a session, with an empty version: from the store's object of stores.json, the file
-    that the check wrote for --json, and the text of its report. Failing states are counted, not the
-    sets that leave them; states without an answer count only as tried. ValueError if the report is
-    empty, Refused as read_json(), KeyError if the store has no session with this key."""
+def row_of_check(session: Session, version: str, json_path: str, report: str) -> Row:
+    """The row of a session, from the version of its store, the file that its check wrote for
+    --json, and the text of the check's report. Failing states are counted, not the sets that leave
+    them; states without an answer count only as tried. ValueError if the report is empty, Refused
+    as read_json()."""
     first_line, *lines = [line for line in report.splitlines() if not line.startswith('unproved: ')]
-    windows = read_json(json_path).windows
+    results = read_json(json_path)
+    windows = results.windows
     outcomes = [outcome for window in windows for outcome in window.outcomes.values()]
     failing = [outcome for outcome in outcomes if outcome.result == BAD]
     return {
-        'key': key,
-        'store': store['store'],
-        'version': '',
-        'session': store['sessions'][key.partition('/')[2]],
+        'key': session.key,
+        'store': session.store['store'],
+        'version': version,
+        'session': session.title,
         'micro_operations': sum(len(window.plan.operations) for window in windows),
-        'sets': StateCounts(all_states=[window.plan.all_states for window in windows]).set_count,
-        'is_whole': ALL_STATES.search(first_line) is not None,
+        'sets': counts_of_plans(windows).set_count,
+        'is_whole': has_tried_all(results),
         'tried': len(outcomes),
         'failing': len(failing),
         'causes': Counter(outcome.cause_kind for outcome in failing),
@@ -91,6 +75,21 @@ def row_of_check(store: Dict[str, Any], key: str, json_path: str, report: str) -
         'disks': disk_counts(json.loads(Path(json_path).read_text('utf-8'))),
         'report': [first_line, *(first_entry_lines(lines) if failing else [])][:REPORT_LINES],
     }
+
+
+def counts_of_plans(windows: List[Results]) -> StateCounts:
+    """What the plans of all windows know of their crash states; outcomes aren't counted."""
+    return StateCounts(all_states=[window.plan.all_states for window in windows])
+
+
+def has_tried_all(results: AllResults) -> bool:
+    """Whether a check has tried all crash states of its session: it wasn't stopped, and the end of
+    a window cut no loss off."""
+    are_all_tried = all(
+        window.outcomes.keys() >= set(window.own_numbers.values()) for window in results.windows
+    )
+    are_all_listed = counts_of_plans(results.windows).are_all_listed
+    return are_all_tried and are_all_listed and not (results.head.stopped or results.head.cut_off)
 
 
 def failing_by_profile(windows: List[Results]) -> Dict[str, int]:
@@ -106,7 +105,7 @@ def failing_by_profile(windows: List[Results]) -> Dict[str, int]:
     return dict(counts)
 
 
-def disk_counts(report: Dict[str, Any]) -> Dict[str, Any]:
+def disk_counts(report: Dict[str, Any]) -> Dict[str, Dict[str, int]]:
     """What a check's report in JSON says of disks, by file system: how many different trees crashes
     left (trees), in how many of these the recovery fails (failing), and how many of the failing
     trees no crash state has (outside). Empty if the check was made without --disks."""

@@ -11,63 +11,32 @@ from __future__ import annotations
 
 import argparse
 import json
-import re
 import subprocess
 import sys
 import tempfile
 from pathlib import Path
-from typing import Any, Dict, List, NamedTuple
+from typing import List
 
 from crashfs_tools.common.signals import Stopped, raise_on_stop_signals
+from inventory.results import Row
 
-from .store_rows import STORES, TOP, ResultsFile, Row, disk_counts, read_stores, row_of_check
+from .store_rows import ResultsFile, disk_counts, row_of_check
+from .store_sessions import STORES, Session, find_sessions, installed_version
 
-TOOLS = TOP / 'tools'
+CHECK = Path(__file__).parents[1] / 'crashfs-check'
 # Sessions of at most so many operations are made again on disks.
 MOST_OPERATIONS = 200
-# Further options of each check, which tests set.
-MORE_OPTIONS: List[str] = []
 
 
 class NoResult(Exception):
     """Why a session has no row."""
 
 
-class Session(NamedTuple):
-    """A session of a store: the folder of its scripts, its name there, and the store's object of
-    stores.json."""
-
-    folder: str
-    name: str
-    store: Dict[str, Any]
-
-    @property
-    def key(self) -> str:
-        """What the session is called on the command line, and in docs/results.json."""
-        return f'{self.folder}/{self.name}'
-
-    @property
-    def scripts_folder(self) -> Path:
-        """The folder of its scripts."""
-        return STORES / self.folder
-
-    @property
-    def committed_trace(self) -> Path:
-        """Where its trace is if it is committed: large ones aren't."""
-        return self.scripts_folder / f'{self.name}.trace'
-
-    def missing_packages(self) -> List[str]:
-        """The Debian packages that aren't installed, of those that the session's scripts need: the
-        store's package, and those in its `needs`. OSError if there is no dpkg-query."""
-        needed = (self.store['package'], *self.store.get('needs', []))
-        return [package for package in needed if not installed_version(package)]
-
-
 def parse_words(words: List[str]) -> argparse.Namespace:
     """The options that the words after `measure stores` give. Wrong words, and a name that no
     session and no folder has, with status 2, and --help end the program (SystemExit). The values of
     --disks, --jobs and --time-limit are only passed to checks, which may refuse them. Errors as
-    read_stores()."""
+    read_sessions()."""
     parser = argparse.ArgumentParser(
         prog='measure stores',
         description=__doc__,
@@ -83,35 +52,6 @@ def parse_words(words: List[str]) -> argparse.Namespace:
         if not find_sessions([name]):
             parser.error(f'{name} is no session of {STORES / "stores.json"}')
     return options
-
-
-def find_sessions(names: List[str]) -> List[Session]:
-    """The sessions of stores.json whose folder or key is among the names, in the order of the file;
-    all sessions if there are no names. A name that no session has is ignored. Errors as
-    read_stores()."""
-    sessions = [
-        Session(store['folder'], name, store)
-        for store in read_stores()
-        for name in store['sessions']
-    ]
-    if not names:
-        return sessions
-    return [session for session in sessions if {session.folder, session.key} & set(names)]
-
-
-def installed_version(package: str) -> str:
-    """The version of a Debian package, without what Debian adds: `1.23` for `1:1.23-4` or
-    `1.23+dfsg1-4`. If the package is installed for several architectures, the first version that
-    dpkg-query prints. Empty if it isn't installed; OSError if there is no dpkg-query."""
-    words = ['dpkg-query', '-W', '-f', '${Status} ${Version}\n', package]
-    completed = subprocess.run(
-        words, stdout=subprocess.PIPE, stderr=subprocess.DEVNULL, check=False
-    )
-    for line in completed.stdout.decode().splitlines():
-        status, _, version = line.rpartition(' ')
-        if status == 'install ok installed':
-            return re.split('[-+]', version.rpartition(':')[2])[0]
-    return ''
 
 
 class SessionCheck:
@@ -136,16 +76,15 @@ class SessionCheck:
             raise NoResult(f'not installed: {", ".join(missing)}')
         run_command([str(STORES / 'build.sh'), str(self.session.scripts_folder)])
         self.make_trace()
-        version = installed_version(self.session.store['package'])
-        return {**self.check_for_row(), 'version': version}
+        return self.check_for_row(installed_version(self.session.store['package']))
 
-    def check_for_row(self) -> Row:
-        """Checks the session, whose trace must be made, and returns its row, with an empty version.
-        With a time limit disks are tried by a second check: one that the limit ends tries none.
-        NoResult if no report is made; errors as run_check() and row_of_check()."""
+    def check_for_row(self, version: str) -> Row:
+        """Checks the session, whose trace must be made, and returns its row, with this version of
+        the store. With a time limit disks are tried by a second check: one that the limit ends
+        tries none. NoResult if no report is made; errors as run_check() and row_of_check()."""
         limit, disks = self.limit_options(), self.disk_options()
         report = self.run_check(*limit, *([] if limit else disks))
-        row = row_of_check(self.session.store, self.session.key, str(self.report_path), report)
+        row = row_of_check(self.session, version, str(self.report_path), report)
         if limit and disks:
             self.run_check('--prefixes', *disks)
             row['disks'] = disk_counts(json.loads(self.report_path.read_text('utf-8')))
@@ -167,7 +106,7 @@ class SessionCheck:
         """Checks the session with these options and those of all checks, and returns the text of
         the report. The file of --json is replaced. NoResult if the check wrote no such file; its
         status doesn't matter. OSError if crashfs-check can't be started. The trace must be made."""
-        words = [str(TOOLS / 'crashfs-check'), '--jobs', str(self.options.jobs), *MORE_OPTIONS]
+        words = [str(CHECK), '--jobs', str(self.options.jobs)]
         words += ['--json', str(self.report_path), '--timeout', '60', *options]
         words += [str(self.trace_path), '--']
         words += [str(self.session.scripts_folder / 'check.sh'), self.session.name]

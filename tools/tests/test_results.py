@@ -17,15 +17,23 @@ from crashfs_tools.reading import parse_trace
 from crashfs_tools.reading.every import count_sets
 from crashfs_tools.reading.order import Order
 from inventory.results import results_part, row_cells, session_table
-from measuring import stores
-from measuring.store_rows import STORES, ResultsFile, disk_counts, session_keys
-from measuring.stores import Session, SessionCheck, find_sessions, installed_version
+from measuring import store_sessions, stores
+from measuring.store_rows import ResultsFile, disk_counts, row_of_check
+from measuring.store_sessions import (
+    STORES,
+    Session,
+    find_sessions,
+    installed_version,
+    read_sessions,
+)
+from measuring.stores import SessionCheck
 
-from .support import FAKE, InFolder
+from .support import InFolder
 
 # Committed traces are smaller, and those with at most so many sets are counted again.
 MOST_BYTES, MOST_SETS = 150_000, 2_000
 ROWS: List[Dict[str, Any]] = ResultsFile().read_rows()
+KEYS = [session.key for session in read_sessions()]
 # The options of a check that say what is tried besides states.
 DISK_WORDS = ('--time-limit', '--prefixes', '--disks')
 
@@ -54,12 +62,12 @@ class Data(unittest.TestCase):
         for one in find_sessions([]):
             for name in ('record.sh', 'check.sh'):
                 self.assertTrue((one.scripts_folder / name).exists(), one.key)
-        self.assertLessEqual({one['key'] for one in ROWS}, set(session_keys()))
-        self.assertEqual(len(session_keys()), len(set(session_keys())))
+        self.assertLessEqual({one['key'] for one in ROWS}, set(KEYS))
+        self.assertEqual(len(KEYS), len(set(KEYS)))
 
     def test_committed_traces_are_small_and_of_sessions(self) -> None:
         for trace in STORES.glob('*/*.trace'):
-            self.assertIn(f'{trace.parent.name}/{trace.stem}', session_keys())
+            self.assertIn(f'{trace.parent.name}/{trace.stem}', KEYS)
             self.assertLessEqual(trace.stat().st_size, MOST_BYTES, trace)
 
     def test_states_and_sets_of_small_rows_are_those_of_their_traces(self) -> None:
@@ -114,11 +122,9 @@ class Tables(unittest.TestCase):
 class Rows(InFolder):
     def test_results_keep_the_order_of_the_sessions(self) -> None:
         kept = ResultsFile(Path(self.path('results.json')))
-        for key in (session_keys()[2], session_keys()[0], session_keys()[2]):
+        for key in (KEYS[2], KEYS[0], KEYS[2]):
             kept.put_row(row(key=key, tried=len(kept.read_rows())))
-        self.assertEqual(
-            [one['key'] for one in kept.read_rows()], [session_keys()[0], session_keys()[2]]
-        )
+        self.assertEqual([one['key'] for one in kept.read_rows()], [KEYS[0], KEYS[2]])
         self.assertEqual(kept.read_rows()[1]['tried'], 2)
 
     def test_disks_count_what_is_outside_the_model(self) -> None:
@@ -138,8 +144,7 @@ class Rows(InFolder):
         for name in ('config/durable', 'config/synced'):
             (session,) = find_sessions([name])
             words = argparse.Namespace(record=False, disks=None, jobs=2, time_limit=None)
-            with mock.patch.object(stores, 'MORE_OPTIONS', ['--crashfs', FAKE]):
-                made = SessionCheck(session, words, Path(self.path(''))).make_row()
+            made = SessionCheck(session, words, Path(self.path(''))).make_row()
             (kept,) = (one for one in ROWS if one['key'] == name)
             report, seen = (
                 kept['report'][: len(made['report'])],
@@ -151,6 +156,27 @@ class Rows(InFolder):
             )
             wanted = {**kept, 'version': made['version'], 'disks': {}, 'report': report}
             self.assertEqual(made, wanted)
+
+    @unittest.skipIf(shutil.which('yes') is None, 'there is no yes')
+    def test_only_a_check_of_all_states_is_whole(self) -> None:
+        (session,) = find_sessions(['config/durable'])
+        words = argparse.Namespace(record=False, disks=None, jobs=2, time_limit=None)
+        check = SessionCheck(session, words, Path(self.path('')))
+        check.make_trace()
+        for options, is_whole in (
+            ([], True),
+            (['--window', '6'], True),
+            # The loss of a line is tried only up to a window's end.
+            (['--window', '4'], False),
+            (['--prefixes'], False),
+            (['--every', '5'], False),
+            (['--shard', '1/2'], False),
+            (['--time-limit', '0.001'], False),
+        ):
+            report = check.run_check(*options)
+            made = row_of_check(session, '1', str(check.report_path), report)
+            self.assertEqual(made['is_whole'], is_whole, options)
+            self.assertEqual(' all 22 crash states' in report, is_whole, options)
 
 
 class Limited(InFolder):
@@ -187,7 +213,7 @@ class NoRows(unittest.TestCase):
         def version(package: str) -> str:
             return '' if package == 'python3-lmdb' else '1'
 
-        with mock.patch.object(stores, 'installed_version', side_effect=version):
+        with mock.patch.object(store_sessions, 'installed_version', side_effect=version):
             status, said = self.measured('lmdb/rows', 'lmdb/new')
         wanted = [
             f'lmdb/{name}: no result: not installed: python3-lmdb' for name in ('rows', 'new')
@@ -224,7 +250,7 @@ class Versions(unittest.TestCase):
             ('7.8.3-2', '7.8.3'),
         ]:
             ran = mock.Mock(stdout=f'install ok installed {given}'.encode())
-            with mock.patch.object(stores.subprocess, 'run', return_value=ran):
+            with mock.patch.object(store_sessions.subprocess, 'run', return_value=ran):
                 self.assertEqual(installed_version('it'), wanted)
 
     def test_a_package_of_two_architectures_has_one_version(self) -> None:
@@ -234,7 +260,7 @@ class Versions(unittest.TestCase):
             end_of_line = words[words.index('-f') + 1].partition('${Version}')[2]
             return mock.Mock(stdout=printed.replace('\n', end_of_line).encode())
 
-        with mock.patch.object(stores.subprocess, 'run', run):
+        with mock.patch.object(store_sessions.subprocess, 'run', run):
             self.assertEqual(installed_version('it'), '1.2')
 
     def test_sessions_are_chosen_by_folder_or_key(self) -> None:
