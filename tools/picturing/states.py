@@ -18,6 +18,13 @@ CELL = 5
 COLUMNS = 60
 # The sign of a state's result in a drawing: its colour, and what the key says of it.
 RESULTS = {'g': ('good', 'recovery found all rows'), 'b': ('bad', 'an acknowledged row is lost')}
+# The lines of the key: the colour that each explains, or none, and what it says.
+KEY = (
+    *RESULTS.values(),
+    ('', '\u2192 how much of the session had begun'),
+    ('', '\u2193 the step that the crash lost (top: none)'),
+    ('', 'equal states are drawn more than once'),
+)
 STYLE = f""".cells {{ fill: none; stroke-width: {CELL - 1}; stroke-dasharray: {CELL - 1} 1 }}
 .cells.good {{ stroke: var(--good) }}
 .cells.bad {{ stroke: var(--bad) }}
@@ -74,8 +81,9 @@ def acknowledged_columns(checked: CheckedExample) -> Dict[int, str]:
 
 
 def draw_holes(picture: Picture, checked: CheckedExample, drawing: Drawing) -> None:
-    """Adds the prefixes and the states with one hole below what is there. The text of each
-    acknowledged line is above its first column, at the left side of which a rule goes down."""
+    """Adds the prefixes and the states with one hole below what is there, and the key in the corner
+    that has no states. The text of each acknowledged line is above its first column, at the left
+    side of which a rule goes down."""
     rows = rows_of_holes(drawing)
     picture.y += LINE
     for column, words in acknowledged_columns(checked).items():
@@ -85,6 +93,7 @@ def draw_holes(picture: Picture, checked: CheckedExample, drawing: Drawing) -> N
     picture.y += 6
     draw_states(picture, rows, picture.y)
     picture.y += len(rows) * CELL
+    draw_key(picture, picture.y)
 
 
 def draw_picks(picture: Picture, drawing: Drawing) -> None:
@@ -111,18 +120,16 @@ def rows_by_loss(drawing: Drawing) -> List[str]:
     ]
 
 
-def draw_key(picture: Picture) -> None:
-    """Adds what rows, columns and colours mean, in the corner that has no states. Must be called
-    right after draw_holes(), whose last rows have states only at the right. Doesn't change the
+def draw_key(picture: Picture, bottom: float) -> None:
+    """Adds the lines of KEY at the left, a little above the height `bottom`. Doesn't change the
     picture's y."""
-    bottom, picture.y = picture.y, picture.y - 5 * LINE - 8
-    for sign, (colour, words) in RESULTS.items():
-        picture.add(rectangle_element(MARGIN, picture.y + 9, 11, 11, colour))
-        picture.add_line(words, x=MARGIN + 18)
-    picture.add_line('\u2192 how much of the session had begun', 'grey')
-    picture.add_line('\u2193 the step that the crash lost (top: none)', 'grey')
-    picture.add_line('equal states are drawn more than once', 'grey')
-    picture.y = bottom
+    for line, (colour, words) in enumerate(KEY, 1 - len(KEY)):
+        y = bottom - 8 + line * LINE
+        if colour:
+            picture.add(rectangle_element(MARGIN, y - 10, 11, 11, colour))
+            picture.add(text_element(MARGIN + 18, y, words))
+        else:
+            picture.add(text_element(MARGIN, y, words, 'grey'))
 
 
 def alternative_text(checked: CheckedExample, drawing: Drawing) -> str:
@@ -151,7 +158,6 @@ def states_picture(checked: CheckedExample) -> str:
     picture = Picture(title, alternative_text(checked, drawing))
     picture.add_lines(textwrap.wrap(ReportText(checked.report).summary(), COLUMNS), 'title')
     draw_holes(picture, checked, drawing)
-    draw_key(picture)
     draw_picks(picture, drawing)
     group = checked.report.groups()[0]
     picture.y += 8
