@@ -4,7 +4,8 @@ which they were made."""
 from __future__ import annotations
 
 import bisect
-from typing import Callable, Dict, Iterable, Iterator, List, Optional, Tuple
+from dataclasses import dataclass, field
+from typing import Callable, Dict, Iterator, List, Optional, Tuple
 
 from crashfs_tools.common.file_bytes import Bytes
 from crashfs_tools.common.sparse import PAGE_BYTES, SparseBytes, pages_to_compare
@@ -20,20 +21,19 @@ NOT_ALONE = (
 )
 
 
+@dataclass
 class MappedStores:
-    """Adds the stores that copies of mapped files show. A mapped file has a number, that of
-    FileCopies. By it, `nodes` has the files whose mmap is translated, and early_bytes what copies
-    show of other files. Copies may be added in another order than they were made: copy_indexes has
-    that order, by their ids, and newest_indexes the index of the newest copy that was added of each
-    file."""
+    """The stores that copies of mapped files show. copy_indexes has the place of each copy in the
+    order in which they were made, by the copy's id: they may be added in another order. A mapped
+    file has a number, that of FileCopies. By it, `nodes` has the files whose mmap is translated,
+    early_bytes what copies show of other files, and newest_indexes the index of the newest copy of
+    the file that was added."""
 
-    def __init__(self, files: LiveFiles, copies: List[FileCopy]) -> None:
-        """Adds nothing yet. `copies` are all copies, in the order in which they were made."""
-        self.files = files
-        self.copy_indexes = {id(copy): index for index, copy in enumerate(copies)}
-        self.nodes: Dict[int, Node] = {}
-        self.early_bytes: Dict[int, Bytes] = {}
-        self.newest_indexes: Dict[int, int] = {}
+    files: LiveFiles
+    copy_indexes: Dict[int, int]
+    nodes: Dict[int, Node] = field(default_factory=dict)
+    early_bytes: Dict[int, Bytes] = field(default_factory=dict)
+    newest_indexes: Dict[int, int] = field(default_factory=dict)
 
     def add_node(self, number: int, node: Optional[Node]) -> None:
         """Adds the file with this number, whose mmap is translated, and the stores that were found
@@ -44,18 +44,10 @@ class MappedStores:
                 data = self.early_bytes.pop(number)
                 add_stores(self.files, node, data, has_one_writer=False)
 
-    def add_copies(
-        self, copies: Iterable[FileCopy], is_chosen: Callable[[Node], bool] = lambda node: True
-    ) -> None:
-        """Adds the stores that these copies show to the files for which is_chosen() is True: to all
-        if it isn't given."""
-        for copy in copies:
-            self.add_copy(copy, is_chosen)
-
     def add_copy(self, copy: FileCopy, is_chosen: Callable[[Node], bool]) -> None:
-        """Adds the stores that a copy shows to the files for which is_chosen() is True, except to
-        those of which a copy that was made later is added already. The bytes of a file whose mmap
-        isn't translated yet are kept until then."""
+        """Adds the stores that a copy shows to the trace and the live files, of the files for which
+        is_chosen() is True, except those of which a later copy is added already. The bytes of a
+        file whose mmap isn't translated yet are kept until then."""
         index = self.copy_indexes[id(copy)]
         for number, data in copy.bytes_by_number.items():
             if index < self.newest_indexes.get(number, 0):

@@ -59,7 +59,8 @@ class Translator:
         self.log = log
         self.file_copies = file_copies or FileCopies()
         self.call_copies: Dict[int, List[FileCopy]] = {}
-        self.stores = MappedStores(files, self.file_copies.copies)
+        copy_indexes = {id(copy): index for index, copy in enumerate(self.file_copies.copies)}
+        self.stores = MappedStores(files, copy_indexes)
         self.forks = forks_by_result(log.calls)
 
     def translate_log(self) -> None:
@@ -77,7 +78,7 @@ class Translator:
             raise LogError(f'{error}{where}') from error
         self.recording.current_call = None
         self.recording.end_streams()
-        self.stores.add_copies([copy for copy in self.file_copies.copies if copy.is_last])
+        self.add_stores([copy for copy in self.file_copies.copies if copy.is_last])
         for path in self.file_copies.unopened_paths:
             self.recording.report('mapped, and it could not be opened to be followed', path)
         self.report_untraced_names()
@@ -111,7 +112,7 @@ class Translator:
             self.translate_returned_call(call)
             return
         # Mapped files are copied after a call that failed, too.
-        self.stores.add_copies(self.call_copies.get(id(call), []))
+        self.add_stores(self.call_copies.get(id(call), []))
         if call.name == EXIT:
             self.files.processes.pop(call.thread, None)
         elif call.name == SUPERSEDE:
@@ -137,13 +138,13 @@ class Translator:
         changed_file = self.file_changed_by(process, call) if self.call_copies else None
         copies = self.call_copies.get(id(call), [])
         # The copy of a file that the call itself changed has that change in it already.
-        self.stores.add_copies(copies, lambda node: node is not changed_file)
+        self.add_stores(copies, lambda node: node is not changed_file)
         if handler is not None:
             handler(self.files, process, call)
         if call.begin in self.file_copies.numbers_by_line:
             mapped_node = syncs.node_to_map(process, call)
             self.stores.add_node(self.file_copies.numbers_by_line[call.begin], mapped_node)
-        self.stores.add_copies(copies, lambda node: node is changed_file)
+        self.add_stores(copies, lambda node: node is changed_file)
 
     def file_changed_by(self, process: Process, call: Call) -> Optional[Node]:
         """The file whose bytes a call changes. None if the call changes no bytes, or if the file
@@ -154,6 +155,14 @@ class Translator:
             return None
         target = call.descriptor(call_order.TARGET_INDEXES.get(call.name, 0))
         return node_of(process.open_file(target))
+
+    def add_stores(
+        self, copies: Iterable[FileCopy], is_chosen: Callable[[Node], bool] = lambda node: True
+    ) -> None:
+        """Adds the stores that these copies show to the mapped files for which is_chosen() is True:
+        to all if it isn't given."""
+        for copy in copies:
+            self.stores.add_copy(copy, is_chosen)
 
     def find_process(self, number: int, line: int) -> Process:
         """The process with this number, which makes a call at this line of the log. One that isn't
