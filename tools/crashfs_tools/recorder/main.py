@@ -25,7 +25,7 @@ from .log_filter import LogFilter
 from .live_files import LiveFiles, StartConditions, no_target
 from .log_stream import LogStream
 from .mapped_files import FileCopies, MappedFiles
-from .options import NAME, RecordOptions, prepare_options, read_options
+from .options import NAME, RecordOptions, prepared_options, read_options
 from .output_streams import SayEach, nonstandard_descriptors
 from .own_path import NOTE as OWN_PATH
 from .own_path import files_with_path
@@ -139,10 +139,9 @@ def read_link_target(path: str) -> Optional[str]:
 def record(options: RecordOptions) -> int:
     """Records a session, replaces OUT by the trace, and returns the status of
     report_written_trace(). Only OUT's owner may read a trace that has a file or directory which not
-    everybody may read. The options are changed as by prepare_options(). Refused, LogError, Stopped
-    or OSError if no trace is written, or if writing it fails: write_whole_file() says what is left
-    then."""
-    prepare_options(options)
+    everybody may read. Refused, LogError, Stopped or OSError if no trace is written, or if writing
+    it fails: write_whole_file() says what is left then."""
+    options = prepared_options(options)
     # A wrong --crashfs is refused before COMMAND runs.
     Crashfs.find(options.crashfs)
     start_scan = scan_directory(options.directory, options.is_ignored, options.version or NEWEST)
@@ -211,14 +210,14 @@ def report_recording(
     """Compares the directory with the written trace, unless with --from-log, prints what the trace
     doesn't have, and then the summary. Returns the status. It raises what compare_directory() does,
     before it prints anything."""
-    failure = summary.failure_of_command(run.status, run.passed_signals)
-    report = summary.final_report(recording, options, failure)
-    comparison = summary.NOT_COMPARED
+    comparison = summary.DirectoryComparison()
     if options.from_log is None:
-        comparison = summary.compare_directory(options, recording, start_scan, report)
+        comparison = summary.compare_directory(options, recording, start_scan)
+    failure = summary.failure_of_command(run.status, run.passed_signals)
+    report = summary.final_report(recording, options, failure, comparison)
     for line in report.lines + report.notes + remarks_on_trace(options, recording):
         print_text(line)
-    print_text(summary.summary_line(options, recording, comparison))
+    print_text(summary.summary_line(options, recording, comparison.result))
     return report.status
 
 

@@ -4,7 +4,8 @@ from __future__ import annotations
 
 import argparse
 import os
-from dataclasses import dataclass, field
+from dataclasses import dataclass, replace
+from functools import cached_property
 from typing import Any, Dict, List, Optional
 
 from crashfs_tools.common.command import (
@@ -43,11 +44,10 @@ passed to COMMAND, and what was recorded is written; a second one kills COMMAND.
 example: crashfs-record store.d store.trace -- sqlite3 test.db ".read session.sql" """
 
 
-@dataclass
+@dataclass(frozen=True)
 class RecordOptions:
     """The values of a command line, by the names that the parser gives them, and COMMAND, which is
-    empty with --from-log. is_ignored, which prepare_options() sets, returns whether --ignore leaves
-    out a path of the directory."""
+    empty with --from-log."""
 
     directory: str
     out: str
@@ -66,12 +66,16 @@ class RecordOptions:
     profile: str
     block: int
     trace_version: str
-    is_ignored: IgnoreRules = field(init=False)
 
     @property
     def version(self) -> Optional[int]:
         """The version of the trace; None for the oldest that has all that happens."""
         return None if self.trace_version == AUTO else int(self.trace_version)
+
+    @cached_property
+    def is_ignored(self) -> IgnoreRules:
+        """The rules of --ignore, which say whether a path of the directory is left out."""
+        return IgnoreRules(self.ignore, self.directory)
 
 
 def check_pattern(text: str) -> str:
@@ -216,9 +220,8 @@ def make_parser() -> argparse.ArgumentParser:
 
 
 def read_options(arguments: List[str]) -> RecordOptions:
-    """The options in the words of a command line; no file is looked at, and prepare_options() must
-    be called before they are used. SystemExit if the words are wrong or don't go together, and for
-    --help and --version."""
+    """The options in the words of a command line; no file is looked at: prepared_options() does
+    that. SystemExit if the words are wrong or don't go together, and for --help and --version."""
     parser = make_parser()
     values, command = parse_command_line(parser, arguments)
     if values.from_log is None and not command:
@@ -234,20 +237,19 @@ def read_options(arguments: List[str]) -> RecordOptions:
     return RecordOptions(command=command, **vars(values))
 
 
-def prepare_options(options: RecordOptions) -> None:
-    """Replaces the directory in the options by its real path, and COMMAND's program by its absolute
-    path, and sets is_ignored. Refused if there is no such directory or program, or if OUT or the
-    file of --keep-log can't be made or would be in the directory: then some options may be replaced
-    already."""
+def prepared_options(options: RecordOptions) -> RecordOptions:
+    """The options with the directory's real path, and the absolute path of COMMAND's program.
+    Refused if there is no such directory or program, or if OUT or the file of --keep-log can't be
+    made or would be in the directory."""
     if not os.path.isdir(options.directory):
         raise Refused(f'{options.directory} is no directory')
-    options.directory = os.path.realpath(options.directory)
-    options.is_ignored = IgnoreRules(options.ignore, options.directory)
+    directory = os.path.realpath(options.directory)
     if options.out != '-':
-        refuse_output_path(options.out, options.directory)
+        refuse_output_path(options.out, directory)
     if options.keep_log is not None:
-        refuse_output_path(options.keep_log, options.directory)
-    options.command = with_program_path(options.command) if options.command else []
+        refuse_output_path(options.keep_log, directory)
+    command = with_program_path(options.command) if options.command else []
+    return replace(options, directory=directory, command=command)
 
 
 def refuse_output_path(path: str, directory: str) -> None:

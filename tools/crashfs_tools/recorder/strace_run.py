@@ -162,13 +162,15 @@ class StraceRun:
         return CallProgress(NAME, lambda: len(self.stream.reader.log.calls))
 
     def copy_output(self, strace: subprocess.Popen[bytes], pipe: int) -> None:
-        """Copies COMMAND's output from a pipe, as read_output() reads it, to standard output. If
-        nobody reads standard output any more, the pipe is still read; OSError if standard output
-        can't be written for another reason. To be called in the main thread."""
+        """Copies COMMAND's output from a pipe, as read_output() reads it, to standard output, and
+        passes the signals that come meanwhile. If nobody reads standard output any more, the pipe
+        is still read; OSError if standard output can't be written for another reason. To be called
+        in the main thread."""
         wakeup_read, wakeup_write = os.pipe2(os.O_NONBLOCK | os.O_CLOEXEC)
         signal.set_wakeup_fd(wakeup_write, warn_on_full_buffer=False)
         try:
             for piece in iter(lambda: self.read_output(strace, pipe, wakeup_read), None):
+                self.send_pending_signal()
                 with flushed_output():
                     sys.stdout.buffer.write(piece)
         finally:
@@ -180,14 +182,13 @@ class StraceRun:
         self, strace: subprocess.Popen[bytes], pipe: int, wakeup_pipe: int
     ) -> Optional[bytes]:
         """Waits a while for bytes of a pipe, or for a signal, at which Python writes to the wakeup
-        pipe, and sends the pending signal. Returns the bytes of the pipe, empty if there are none
-        yet. None at its end, or if strace has ended and there are none: a process that strace
-        doesn't follow may keep the pipe open."""
+        pipe. Returns the bytes of the pipe, empty if there are none yet. None at its end, or if
+        strace has ended and there are none: a process that strace doesn't follow may keep the pipe
+        open."""
         seconds = IDLE_SECONDS if self.signal_to_send is None else RESEND_SECONDS
         ready = {number for number, _ in poll_for_input(pipe, wakeup_pipe).poll(seconds * 1000)}
         if wakeup_pipe in ready:
             os.read(wakeup_pipe, 64)
-        self.send_pending_signal()
         if pipe in ready:
             return os.read(pipe, 65_536) or None
         return None if not ready and strace.poll() is not None else b''

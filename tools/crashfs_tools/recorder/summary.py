@@ -3,8 +3,9 @@
 from __future__ import annotations
 
 import os
-from dataclasses import dataclass, field
-from typing import Dict, List, Optional, Tuple
+from contextlib import suppress
+from dataclasses import dataclass
+from typing import Dict, List, Optional, Sequence, Tuple
 
 from crashfs_tools.common.command import ending_text, relative_path_arguments
 from crashfs_tools.common.entry import Entries
@@ -33,13 +34,23 @@ NOT_COMPARED = 'its last state was compared with nothing'
 BY_PROGRAM, BY_REPLAY = 'crashfs tar', "the recorder's replay"
 
 
-@dataclass
+@dataclass(frozen=True)
+class DirectoryComparison:
+    """What the comparison of the directory with the trace's last state gives: its result in words,
+    and the `lines` and `notes` on differences for the FinalReport."""
+
+    result: str = NOT_COMPARED
+    lines: Sequence[str] = ()
+    notes: Sequence[str] = ()
+
+
+@dataclass(frozen=True)
 class FinalReport:
     """What is printed before the summary: `lines` on what the trace lacks, on COMMAND's failure and
     on why a loss could stay hidden; `notes` on what changes no verdict on a crash state."""
 
-    lines: List[str] = field(default_factory=list)
-    notes: List[str] = field(default_factory=list)
+    lines: List[str]
+    notes: List[str]
 
     @property
     def status(self) -> int:
@@ -49,20 +60,22 @@ class FinalReport:
 
 
 def final_report(
-    recording: Recording, options: RecordOptions, failure: Optional[str]
+    recording: Recording,
+    options: RecordOptions,
+    failure: Optional[str],
+    comparison: DirectoryComparison,
 ) -> FinalReport:
-    """A new report on what the trace doesn't have; on COMMAND's failure, which is in words (None:
-    it didn't fail), with the likely cause; and, without --no-say, on why a loss could stay hidden.
-    compare_directory() adds the differences later."""
-    report = FinalReport()
+    """The report on what the trace doesn't have; on COMMAND's failure, which is in words (None: it
+    didn't fail), with the likely cause; without --no-say, on why a loss could stay hidden; and on
+    the differences that a comparison found."""
     troubles = list(recording.troubles.values())
-    report.lines = [f'not in the trace: {trouble}' for trouble in troubles if not trouble.is_note]
-    report.notes = [f'not in the trace: {line}' for line in lines_on_notes(troubles)]
+    lines = [f'not in the trace: {trouble}' for trouble in troubles if not trouble.is_note]
+    notes = [f'not in the trace: {line}' for line in lines_on_notes(troubles)]
     if failure is not None:
-        report.lines += ['COMMAND ' + failure, *relative_path_hints(options)]
+        lines += ['COMMAND ' + failure, *relative_path_hints(options)]
     if not options.no_say:
-        report.lines += acknowledgement_faults(recording)
-    return report
+        lines += acknowledgement_faults(recording)
+    return FinalReport([*lines, *comparison.lines], [*notes, *comparison.notes])
 
 
 def lines_on_missing_notes(trace: Trace) -> List[str]:
@@ -151,17 +164,15 @@ def held_line_faults(stream: OutputStream) -> List[str]:
 
 
 def compare_directory(
-    options: RecordOptions, recording: Recording, at_start: Scan, report: FinalReport
-) -> str:
-    """Compares the directory with the trace's last state, adds the differences to the report, and
-    returns the result in words, with the name of the reader. If the directory can't be read, that
-    is in the report, and nothing is compared. Errors as read_last_state(): the report is as it was
-    then."""
+    options: RecordOptions, recording: Recording, at_start: Scan
+) -> DirectoryComparison:
+    """Compares the directory with the trace's last state; the result names the reader of that. If
+    the directory can't be read, that is a line, and nothing is compared. Errors as
+    read_last_state()."""
     try:
         at_end = scan_directory(options.directory, options.is_ignored, options.version or NEWEST)
     except OSError as error:
-        report.lines.append(f'{error.filename}: {error.strerror}: {NOT_COMPARED}')
-        return NOT_COMPARED
+        return DirectoryComparison(lines=[f'{error.filename}: {error.strerror}: {NOT_COMPARED}'])
     last_state, reader_name = read_last_state(options, recording)
     troubles = recording.troubles.values()
     reported = {trouble.where for trouble in troubles if not trouble.is_note}
@@ -172,36 +183,41 @@ def compare_directory(
         + lines_on_new_omissions(at_start, at_end, reported)
         + lines_on_links(at_end, recording.tree, reported)
     )
-    report.lines += differences
     known_paths = {trouble.where for trouble in troubles}
-    report.notes += lines_on_changed_attributes(at_start, at_end, known_paths)
-    report.notes += lines_on_new_notes(at_start, at_end, known_paths)
+    notes = lines_on_changed_attributes(at_start, at_end, known_paths)
+    notes += lines_on_new_notes(at_start, at_end, known_paths)
     verdict = 'differs from' if differences else 'equals'
     exception = ', except for what is reported' if reported and not differences else ''
-    return f'its last state {verdict} the directory{exception} (by {reader_name})'
+    result = f'its last state {verdict} the directory{exception} (by {reader_name})'
+    return DirectoryComparison(result, differences, notes)
 
 
 def read_last_state(options: RecordOptions, recording: Recording) -> Tuple[Entries, str]:
     """The entries of the trace's last state, without the root, and the name of what computed them:
-    the program, if it takes OUT as a whole; else a replay, of the trace in memory if OUT is no
-    plain file. Refused if --crashfs names no program; OSError as in Crashfs.program_for_version(),
-    and if OUT can't be read; other errors as entries_by_replay()."""
+    program_for_last_state(), if it takes OUT; else a replay, of the trace in memory if OUT is no
+    plain file. OSError if OUT can't be read; other errors as in program_for_last_state() and
+    entries_by_replay()."""
     # `-` is standard output, also if there is a file of this name.
     if options.out == '-' or not os.path.isfile(options.out):
         return entries_by_replay(recording.trace.lines()), BY_REPLAY
-    program = None
-    # A longer trace is checked in windows: no plan has all of it.
-    if recording.tree.micro_operations <= MICRO_OPERATIONS:
-        program = Crashfs.find(options.crashfs)
+    program = program_for_last_state(options, recording)
     if program is not None:
-        program = program.program_for_version(recording.trace.version)
-    if program is not None and not program.is_unproved:
-        try:
+        # If the program refuses OUT, a replay shows the last state.
+        with suppress(ProgramFault):
             return entries_by_program(program, options.out), BY_PROGRAM
-        except ProgramFault:
-            pass
     with open(options.out, encoding='utf-8', newline='\n') as lines:
         return entries_by_replay(lines), BY_REPLAY
+
+
+def program_for_last_state(options: RecordOptions, recording: Recording) -> Optional[Crashfs]:
+    """The program that computes the trace's last state. None if there is no program for the trace's
+    version, if it isn't proved, or if the trace is longer than a plan: a check then uses windows.
+    Refused if --crashfs names no program; OSError as in Crashfs.program_for_version()."""
+    if recording.tree.micro_operations > MICRO_OPERATIONS:
+        return None
+    found = Crashfs.find(options.crashfs)
+    program = None if found is None else found.program_for_version(recording.trace.version)
+    return None if program is None or program.is_unproved else program
 
 
 def summary_line(options: RecordOptions, recording: Recording, comparison: str) -> str:
