@@ -333,6 +333,23 @@ class Troubles(unittest.TestCase):
             recording = recording_of([line], [*FILE, link])
             self.assertEqual([one.where for one in recording.troubles.values()], wanted)
 
+    def test_a_cut_change_by_a_link_names_what_the_call_would_change(self):
+        for call, wanted in (
+            ('chmod("l", 0600', '/f'),
+            ('fchmodat(AT_FDCWD</d>, "l", 0600', '/f'),
+            ('truncate64("l", 0', '/f'),
+            ('chown32("l", 54321, -1', '/f'),
+            ('lchown("l", 54321, -1', '/l'),
+            ('fchownat(AT_FDCWD</d>, "l", 54321, -1, 0', '/f'),
+            ('fchownat(AT_FDCWD</d>, "l", 54321, -1, AT_SYMLINK_NOFOLLOW', '/l'),
+            ('unlink("l"', '/l'),
+        ):
+            with self.subTest(call):
+                recording = recording_of(
+                    [f'1 {call} <unfinished ...>) = ?'], [*FILE, StartSymlink('/l', 'u', 'u', 'f')]
+                )
+                self.assertEqual([one.where for one in recording.troubles.values()], [wanted])
+
     def test_an_open_whose_path_strace_cut_is_reported_if_it_may_change_a_file(self):
         for line, wanted in (
             ('openat(AT_FDCWD</d>, "f"..., O_RDWR|O_TRUNC) = 3', ['/']),

@@ -11,6 +11,12 @@ from .live_files import LiveFiles
 from .processes import Process
 from .strace_log import UNFINISHED, Call
 
+# Calls, other than opens, that follow a symbolic link at the end of their path.
+FOLLOWING_CALLS = (
+    *('chmod', 'fchmodat', 'fchmodat2', 'chown', 'chown32', 'fchownat'),
+    *('truncate', 'truncate64'),
+)
+
 
 def may_be_change(call: Call) -> bool:
     """Whether a cut call may have changed more than extended attributes, by its name: an open may
@@ -71,9 +77,7 @@ def targets_by_path(files: LiveFiles, process: Process, call: Call) -> List[str]
     the directory, ignored ones, and those that strace cut. A relative path begins at the directory
     of the descriptor before it, or else at the working directory. Of a link only the new path is
     changed."""
-    follow_last_link = call.name.startswith(('chmod', 'chown', 'fchmod', 'truncate'))
-    if call.name in call_order.OPENS:
-        follow_last_link = may_follow_last_link(' '.join(call.arguments))
+    follow_last_link = is_last_link_followed(call)
     base = process.path_context.directory
     paths: List[Optional[str]] = []
     for argument in call.arguments:
@@ -86,3 +90,11 @@ def targets_by_path(files: LiveFiles, process: Process, call: Call) -> List[str]
     if call.name.startswith(('link', 'symlink')):
         paths = paths[-1:]
     return [path for path in paths if path is not None]
+
+
+def is_last_link_followed(call: Call) -> bool:
+    """Whether a call follows a symbolic link at the end of its path."""
+    words = ' '.join(call.arguments)
+    if call.name in call_order.OPENS:
+        return may_follow_last_link(words)
+    return call.name in FOLLOWING_CALLS and 'AT_SYMLINK_NOFOLLOW' not in words
