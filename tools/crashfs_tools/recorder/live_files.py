@@ -249,10 +249,7 @@ class LiveFiles:
         parent = self.tree.node_at(parent_of(path))
         if parent is None or parent.traced_path is None:
             return
-        operation = self.operation_that_makes(path, node)
-        if isinstance(operation, Symlink) and not self.recording.may_have_newest_version:
-            self.recording.report('a symbolic link was made', path)
-        elif self.recording.add_operation(operation):
+        if self.recording.add_operation(self.operation_that_makes(path, node)):
             node.traced_paths.add(path)
 
     def add_new_file(self, path: str, mode: int) -> Node:

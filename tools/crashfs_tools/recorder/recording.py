@@ -212,9 +212,11 @@ class Recording:
 
     def add_operation(self, operation: Operation) -> bool:
         """Adds an operation, with its call's note, to the trace and its tree, and returns True. The
-        trace gets the newest version if the operation needs that; a Symlink must not be added if
-        may_have_newest_version is False. If `crashfs` would refuse the operation, it is reported
-        and not added, and False is returned."""
+        trace gets the newest version if the operation needs that. If the version can't have it, or
+        `crashfs` would refuse it, it is reported and not added, and False is returned."""
+        if isinstance(operation, Symlink) and not self.may_have_newest_version:
+            self.report('a symbolic link was made', operation.path)
+            return False
         old_version, old_reason = self.trace.version, self.version_reason
         reason = self.reason_for_newest_version(operation)
         if reason:
@@ -229,7 +231,8 @@ class Recording:
         if self.current_call is not None and self.current_call.note:
             self.trace.notes[len(self.trace.operations)] = self.current_call.note
         self.trace.operations.append(operation)
-        self.change_count += not isinstance(operation, Say)
+        if not isinstance(operation, Say):
+            self.change_count += 1
         return True
 
     def add_output(self, stream: OutputStream, data: bytes) -> None:
