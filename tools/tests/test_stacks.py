@@ -178,6 +178,11 @@ class Frames(unittest.TestCase):
             ['a.py:3 put', 'a.py:3 put', 'put (store)', 'a.py:3 put', 'a.py:3 put', '', ''],
         )
 
+    def test_the_hook_s_own_copies_of_constants_are_those_of_the_recorder(self):
+        hook = Path(stacks.HOOK, 'sitecustomize.py').read_text('utf-8')
+        self.assertIn(f'\nPREFIX = {stacks.PREFIX!r}\n', hook)
+        self.assertIn(f'\nMOST_LINES = {stacks.MOST_FUNCTIONS}\n', hook)
+
     def test_no_mark_counts_after_an_exec_by_another_thread(self):
         lines = [
             '1 access("/proc/crashfs-frame/a.py:3 put", F_OK) = -1 ENOENT (No such file)',

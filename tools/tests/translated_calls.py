@@ -269,6 +269,8 @@ CASES = [
             OPEN_F,
             '1 fchown(3</d/f>, 4294967295, 67891) = 0',
             '1 fchown(3</d/f>, -1, -1) = 0',
+            '1 chown("/etc/f", 54323, -1) = 0',
+            '1 setxattr("/etc/f", "user.a", "1", 1, 0) = 0',
         ],
         [
             'chown /f u54321 u',

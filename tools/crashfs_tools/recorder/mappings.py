@@ -12,7 +12,8 @@ from .live_tree import Node
 
 @dataclass(frozen=True)
 class Mapping:
-    """A shared mapping of a file from an offset on, at an address of a process."""
+    """A shared mapping of a file from an offset on, at an address of a process; it has whole
+    pages."""
 
     address: int
     length: int
@@ -62,6 +63,7 @@ class Memory:
         does. What was mapped at the new addresses is unmapped. The old addresses stay mapped if
         keep_old is set, or if old_length is 0. If several mappings are at the old addresses, only
         the first of them in `mappings` is moved."""
+        # With the old length 0, mremap maps the same pages a second time.
         moved = next(self.parts_in(old_address, old_length or 1), None)
         if not keep_old and old_length:
             self.unmap(old_address, old_length)

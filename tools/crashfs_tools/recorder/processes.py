@@ -89,9 +89,9 @@ class PathContext:
         return parse_digits(word, 8) & ~self.umask & 0o7777
 
     def update_directory(self, new_paths: Dict[str, str]) -> None:
-        """Gives the working directory its new path if it is one of some directories that were
-        renamed or removed, or below one; if it is below several, the first of them decides.
-        new_paths has their new paths by the old ones; all are absolute."""
+        """Gives the working directory its new path if it is one of the directories in new_paths, or
+        below one; the first of these decides. new_paths has the new paths of directories that were
+        renamed or removed, by the old ones; all are absolute."""
         for old_path, new_path in new_paths.items():
             if (self.directory + '/').startswith(old_path + '/'):
                 self.directory = new_path + self.directory[len(old_path) :]
@@ -113,12 +113,12 @@ class Process:
 
     def directory_of(self, shown: Descriptor) -> str:
         """The absolute path of the directory at which a relative path after a descriptor begins:
-        what strace shows, or removed_path() of it if strace shows that it is removed. It is the
-        working directory if strace shows no path, and for AT_FDCWD in a removed one: its path
-        strace shows with ` (deleted)` at the end."""
+        what strace shows, or removed_path() of it if strace shows that it is removed. If strace
+        shows no path, it is the working directory."""
         own_directory = self.path_context.directory
-        is_removed = shown.number == CURRENT_DIRECTORY and REMOVED in own_directory
-        if shown.path is None or is_removed:
+        # Of a removed working directory strace shows the path with ` (deleted)` at its end.
+        is_in_removed = shown.number == CURRENT_DIRECTORY and REMOVED in own_directory
+        if shown.path is None or is_in_removed:
             return own_directory
         return removed_path(shown.path) if shown.is_deleted else shown.path
 

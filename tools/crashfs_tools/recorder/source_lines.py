@@ -2,6 +2,7 @@
 
 from __future__ import annotations
 
+import re
 import shutil
 import struct
 import subprocess
@@ -9,8 +10,12 @@ from typing import BinaryIO, Dict, Iterable, List, NamedTuple, Sequence, Tuple
 
 # A program's file, and the offset in it to which a call returns.
 Address = Tuple[str, int]
+# What an ELF file begins with; then comes a byte for 64 bits or 32, and one for the order of bytes.
+ELF_MARK, CLASS_64, LITTLE_ENDIAN = b'\x7fELF', b'\2', b'\1'
 # The kind of a segment that is loaded.
 LOAD = 1
+# What addr2line prints for a source line if it doesn't know the file or the number.
+UNKNOWN_LINE = re.compile(r'^\?|:[?0]$')
 
 
 class Frame(NamedTuple):
@@ -59,9 +64,9 @@ def parse_segments(file: BinaryIO) -> List[Segment]:
     one with the most significant byte first. struct.error if the headers are cut, ValueError if the
     table is at an offset that no file has, OSError if the file can't be read."""
     header = file.read(64)
-    if header[:4] != b'\x7fELF' or header[5:6] != b'\x01':
+    if header[:4] != ELF_MARK or header[5:6] != LITTLE_ENDIAN:
         return []
-    layout = ELF_64 if header[4] == 2 else ELF_32
+    layout = ELF_64 if header[4:5] == CLASS_64 else ELF_32
     (table,) = struct.unpack_from(layout.table_format, header, layout.table_place)
     entry_size, entry_count = struct.unpack_from('<HH', header, layout.sizes_place)
     segments = []
@@ -139,8 +144,6 @@ def parse_frames(lines: Sequence[str]) -> List[Frame]:
     """The frames in the lines of addr2line for one address: in turn a function and its source line.
     Those whose source line isn't known are left out."""
     pairs = zip(lines[::2], lines[1::2])
-    return [
-        Frame(function, source_line.partition(' ')[0])
-        for function, source_line in pairs
-        if not source_line.startswith('?') and not source_line.split(' ')[0].endswith((':?', ':0'))
-    ]
+    # After a blank there may be a discriminator.
+    frames = [Frame(function, source_line.partition(' ')[0]) for function, source_line in pairs]
+    return [frame for frame in frames if not UNKNOWN_LINE.search(frame.source_line)]

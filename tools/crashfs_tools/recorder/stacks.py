@@ -13,7 +13,7 @@ from .source_lines import Address, Frame, source_frames
 from .strace_log import SUPERSEDE, Call
 
 HOOK = os.path.join(os.path.dirname(os.path.realpath(__file__)), 'python_hook')
-# What the hook calls `access` with, before the line.
+# What the hook, which has its own copy of this, calls `access` with, before the line.
 PREFIX = '/proc/crashfs-frame/'
 # The calls by which the hook shows a line; they are traced in addition to those that are followed.
 MARKING_CALLS = ('access', 'faccessat', 'faccessat2')

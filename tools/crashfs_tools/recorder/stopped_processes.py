@@ -11,6 +11,8 @@ from crashfs_tools.common.descendants import read_stat_fields
 
 # How long the threads of a process may take until all are stopped: one may be in a slow sync.
 WAIT_SECONDS = 2.0
+# How long the recorder waits before it looks again whether all threads are stopped.
+POLL_SECONDS = 0.0005
 # The letters of /proc for a thread that strace, or a signal, has stopped.
 STOPPED = {'t', 'T'}
 
@@ -61,7 +63,7 @@ def wait_until_stopped(thread: int, process: int) -> Stop:
             return Stop.ALL_STOPPED
         if time.monotonic() > deadline:
             return Stop.SOME_RUN
-        time.sleep(0.0005)
+        time.sleep(POLL_SECONDS)
     return Stop.RESUMED
 
 

@@ -8,7 +8,7 @@ from typing import Optional
 
 from crashfs_tools.recorder import arguments
 from crashfs_tools.recorder.live_tree import END
-from crashfs_tools.recorder.output_streams import sent_bytes
+from crashfs_tools.recorder.output_streams import ACCEPTS, SENDS, sent_bytes
 from crashfs_tools.recorder.processes import OpenFile, Process, node_of
 from crashfs_tools.recorder.live_files import LiveFiles
 from crashfs_tools.recorder.strace_log import Call
@@ -39,7 +39,7 @@ def on_lseek(files: LiveFiles, process: Process, call: Call) -> None:
 
 def on_llseek(files: LiveFiles, process: Process, call: Call) -> None:
     """Sets the offset of the open file by the lseek of 32-bit programs, whose result is only 0: the
-    offset is in the first argument that strace shows as `[42]`. Nothing if no argument is so."""
+    offset is in the first argument that strace shows as `[42]`. Nothing if there is none."""
     file = process.open_file(call.descriptor())
     numbers = [arguments.parse_pointed_integer(word) for word in call.arguments]
     offsets = [number for number in numbers if number is not None]
@@ -279,13 +279,7 @@ def on_io_uring(files: LiveFiles, process: Process, call: Call) -> None:
 
 
 # Traced only if the lines of a socket are asked for.
-SOCKET_HANDLERS = {
-    'sendto': on_send,
-    'sendmsg': on_send,
-    'sendmmsg': on_send,
-    'accept': on_accept,
-    'accept4': on_accept,
-}
+SOCKET_HANDLERS = {**dict.fromkeys(SENDS, on_send), **dict.fromkeys(ACCEPTS, on_accept)}
 HANDLERS = {
     'read': on_read,
     'readv': on_read,

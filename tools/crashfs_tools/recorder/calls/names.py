@@ -4,6 +4,7 @@ ignored, or was cut by strace: it isn't followed."""
 
 from __future__ import annotations
 
+import re
 from typing import Optional
 
 from crashfs_tools.common.entry import parent_of
@@ -18,6 +19,8 @@ from crashfs_tools.recorder.strace_log import Call
 
 # The bits of a mode that mkdir ignores.
 SET_ID = 0o6000
+# The path in a socket's address. An abstract name has an `@` before the quotation mark.
+SOCKET_PATH = re.compile(r'sun_path=("[^}]*)')
 
 
 def on_unlink(files: LiveFiles, process: Process, call: Call) -> None:
@@ -210,9 +213,9 @@ def make_file(files: LiveFiles, process: Process, path: Optional[str], mode_word
 def on_bind(files: LiveFiles, process: Process, call: Call) -> None:
     """Reports a socket that is bound to a path, as add_untraceable_node() does. Nothing if it is
     bound to an abstract name, or to an address of another kind."""
-    word = call.argument(1).partition('sun_path=')[2].partition('}')[0]
-    if word.startswith('"'):
-        path = files.resolve_argument(process.path_context.directory, word)
+    match = SOCKET_PATH.search(call.argument(1))
+    if match:
+        path = files.resolve_argument(process.path_context.directory, match[1])
         add_untraceable_node(files, path, 'a socket was bound')
 
 

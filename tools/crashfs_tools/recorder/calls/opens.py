@@ -76,10 +76,10 @@ def open_path(
 
 
 def opened_path(files: LiveFiles, call: Call, base: str, word: str, flags: str) -> Optional[str]:
-    """The path in the tree of the file that an open has opened, by the path that strace shows for
-    the descriptor; None if it shows another text, as for a pipe. If it shows nothing, or the file
-    is unlinked, it is the path in the argument `word`, as LiveFiles.resolve_argument() returns it:
-    if strace cut that, and the open may make or truncate a file, this is reported."""
+    """The path in the tree of the file that an open has opened: the path that strace shows for the
+    descriptor, or None if it shows another text, as for a pipe. If it shows nothing, or the file is
+    unlinked, the path in the argument `word` counts, as LiveFiles.resolve_argument() returns it. A
+    path there that strace cut is reported if the open may make or truncate a file."""
     shown = call.result_descriptor
     if shown.text is not None and not shown.is_deleted:
         return files.resolve_path(shown.path) if shown.path else None
@@ -155,9 +155,9 @@ def duplicate_descriptor(
     files: LiveFiles, process: Process, call: Call, *, is_closed_by_exec: bool
 ) -> None:
     """Makes the call's result a descriptor of the same open file or stream as its first argument.
-    If --say-fd names one of the two numbers, the stream acknowledges something; a first argument
-    that it names is followed from now on. If the first argument isn't followed, neither is the
-    result. Nothing if the two numbers are equal."""
+    An unknown first argument that --say-fd names is followed from now on; any other isn't, and
+    neither is the result. A stream of which --say-fd names the result acknowledges something.
+    Nothing if the two numbers are equal."""
     old, streams = call.descriptor(), files.recording.streams
     if old.number == call.result:
         return

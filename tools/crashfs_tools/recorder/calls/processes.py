@@ -10,7 +10,7 @@ from crashfs_tools.recorder import arguments
 from crashfs_tools.recorder.processes import Descriptors, Process
 from crashfs_tools.recorder.live_files import LiveFiles
 from crashfs_tools.recorder.mappings import Memory
-from crashfs_tools.recorder.strace_log import Call
+from crashfs_tools.recorder.strace_log import FORKS, Call
 
 
 def on_clone(files: LiveFiles, process: Process, call: Call) -> None:
@@ -61,10 +61,7 @@ def on_chroot(files: LiveFiles, process: Process, call: Call) -> None:
 
 
 HANDLERS = {
-    'clone': on_clone,
-    'clone3': on_clone,
-    'fork': on_clone,
-    'vfork': on_clone,
+    **dict.fromkeys(FORKS, on_clone),
     'execve': on_execve,
     'execveat': on_execve,
     'chdir': on_chdir,

@@ -15,6 +15,7 @@ from importlib.util import module_from_spec
 from types import FrameType
 from typing import Any, Callable, List, Optional
 
+# As PREFIX and MOST_FUNCTIONS of recorder/stacks.py, which COMMAND's Python may not find.
 PREFIX = '/proc/crashfs-frame/'
 MOST_LINES = 3
 WATCHED = frozenset(
