@@ -12,9 +12,6 @@ from .live_files import LiveFiles, StartConditions
 from .live_tree import LiveTree, Node, new_node
 from .recording import Recording
 
-# How many entries a start tree may have: its root is a record too.
-MOST_ENTRIES = limits.RECORDS - 1
-
 
 def files_at_start(
     recording: Recording,
@@ -29,13 +26,14 @@ def files_at_start(
     root = Node(is_directory=True, mode=scan.header.mode, traced_paths={'/'})
     tree = LiveTree(root)
     files = LiveFiles(recording, conditions, is_ignored, tree, has_copies=has_copies)
-    for entry in scan.entries[:MOST_ENTRIES]:
+    # The root is a record too.
+    for entry in scan.entries[: limits.RECORDS - 1]:
         source = scan.links.get(entry.path)
         if source is None:
             add_start_node(recording, tree, new_node(entry), entry)
         else:
             add_start_node(recording, tree, tree.nodes[source], StartLink(entry.path, source))
-    add_excess_entries(recording, tree, scan.entries[MOST_ENTRIES:])
+    add_excess_entries(recording, tree, scan.entries[limits.RECORDS - 1 :])
     add_omissions(recording, tree, scan)
     report_notes(recording, scan)
     return files
@@ -58,7 +56,7 @@ def add_excess_entries(recording: Recording, tree: LiveTree, entries: List[Scann
     if entries:
         recording.report(
             f'the start tree leaves out {len(entries):,} of its files and directories: '
-            f'a trace has {MOST_ENTRIES:,} at most',
+            f'a trace has {limits.RECORDS - 1:,} at most',
             '/',
         )
     for entry in entries:
