@@ -6,7 +6,7 @@ from typing import List, Sequence
 from crashfs_tools.common.trace import Say, Start
 from crashfs_tools.recorder.recording import Recording
 
-from .support import recording_of
+from .support import recording_of, short
 
 FILE = [Start('/f', 'u', 'u', 0o644, b'one\ntwo\n')]
 OPEN_F = '1 openat(AT_FDCWD</d>, "f", O_RDONLY) = 3</d/f>'
@@ -53,6 +53,28 @@ class Lines(unittest.TestCase):
         part = '1 write(1<pipe:[7]>, "one", 3) = 3'
         recording = output_of([nothing, change, part, nothing, change.replace('a', 'b'), rest])
         self.assertEqual(recording.streams.inherited_streams[1].most_gaps, 1)
+
+    def test_only_changes_between_the_parts_of_a_line_are_gaps(self):
+        change, part = '1 mkdir("a", 0777) = 0', '1 write(1<pipe:[7]>, "on", 2) = 2'
+        recording = output_of([change, part, part, '1 write(1<pipe:[7]>, "\n", 1) = 1'])
+        self.assertEqual(recording.streams.inherited_streams[1].most_gaps, 0)
+
+    def test_a_write_that_is_an_acknowledgement_is_noted_only_if_it_is_changed(self):
+        accepted = '1 accept4(3<socket:[1]>, NULL, NULL, 0) = 4<socket:[8]>'
+        for text, wanted in (('on', 0), ('o' * 1025, 1)):
+            sent = f'1 sendto(4<socket:[8]>, "{text}", {len(text)}, 0, NULL, 0) = {len(text)}'
+            recording = output_of([accepted, sent], ['socket'])
+            self.assertEqual([one.text for one in recording.trace.operations], [text[:1024]])
+            self.assertEqual(len(recording.troubles), wanted)
+
+    def test_a_file_at_a_descriptor_of_say_fd_stays_a_file(self):
+        log = [
+            '1 openat(AT_FDCWD</d>, "f", O_RDWR) = 6</d/f>',
+            '1 dup(6</d/f>) = 7</d/f>',
+            '1 write(7</d/f>, "J", 1) = 1',
+        ]
+        recording = output_of(log, ['6'])
+        self.assertEqual([short(one) for one in recording.trace.operations], ['write /f 0 J'])
 
     def test_a_stream_that_exec_closes_is_none_any_more(self):
         log = [

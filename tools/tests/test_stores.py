@@ -94,6 +94,16 @@ class Stores(unittest.TestCase):
         )
         self.assertEqual(list(recording.troubles.values()), [])
 
+    def test_a_copy_of_a_file_that_its_call_changes_has_the_change(self):
+        copies = [FileCopy(3, 1, True, {0: b'row\0'})]
+        for call in ('truncate("f", 4)', 'ftruncate(3</d/f>, 4)'):
+            recording = after_copies(copies, [*FAILED[:2], f'1 {call} = 0'])
+            self.assertEqual(
+                [short(one) for one in recording.trace.operations],
+                ['truncate /f 4', 'write /f 0 row'],
+            )
+            self.assertEqual(recording.troubles, {})
+
     def test_what_the_last_copy_shows_is_after_the_last_call(self):
         recording = after_copies([FileCopy(8, 0, True, {0: b'parent\0\0'})])
         self.assertEqual(

@@ -5,12 +5,13 @@ from unittest import mock
 
 from crashfs_tools.common.trace import Start
 from crashfs_tools.recorder.live_files import StartConditions
+from crashfs_tools.recorder.recording import is_private
 from crashfs_tools.recorder.strace_log import read_log
 from crashfs_tools.recorder.translate import forks_by_result
 
 from . import support
 from .support import needs_version_3, operations_of, recording_of, short
-from .translated_calls import CASES, FILE, OPEN_F
+from .translated_calls import CASES, FILE, IN_DIRECTORY, OPEN_F
 from .translated_forks import FORKS
 from .translated_syncs import SYNCS
 
@@ -90,10 +91,80 @@ class Calls(unittest.TestCase):
                 self.assertEqual(recording.trace.operations, [])
                 self.assertEqual(list(recording.troubles.values()), [])
 
+    def test_a_trace_is_private_if_a_file_is_not_for_everybody_at_any_time(self):
+        for log, wanted in (
+            (['1 openat(AT_FDCWD</d>, "a", O_CREAT, 0644) = 3</d/a>'], False),
+            (['1 openat(AT_FDCWD</d>, "a", O_CREAT, 0640) = 3</d/a>'], True),
+            (['1 chmod("f", 0604) = 0', '1 chmod("f", 0644) = 0'], True),
+            (['1 mkdir("a", 0711) = 0'], True),
+        ):
+            recording = recording_of(log, FILE)
+            self.assertEqual(is_private(recording.trace), wanted)
+            self.assertEqual(recording.trace.notes, {})
+
     def test_only_a_fork_that_succeeded_makes_a_process(self):
         lines = ['fork() = 2', 'write(1</d/f>, "ab", 2) = 2', 'fork() = -1 EAGAIN', 'vfork() = 2']
         calls = read_log([f'1 {line}' for line in lines]).calls
         self.assertEqual(forks_by_result(calls), {2: [calls[0], calls[3]]})
+
+
+class OutsideTheTrace(unittest.TestCase):
+    """What no trace has is followed nevertheless, as later calls may be on it."""
+
+    def test_names_that_no_trace_has_are_followed_without_it(self):
+        name = 'n' * 256
+        made = '1 openat(AT_FDCWD</d>, ".", O_RDWR|O_TMPFILE, 0644) = 3</d/#7>(deleted)'
+        named = f'1 linkat(3</d/#7>(deleted), "", AT_FDCWD</d>, "{name}", AT_EMPTY_PATH) = 0'
+        left_out = 'is left out: a name of more than 255 bytes'
+        for log, wanted in (
+            (
+                [f'1 link("f", "{name}") = 0', f'1 unlink("{name}") = 0'],
+                [f'link {left_out}', 'a hard link was made, and removed again'],
+            ),
+            (
+                [f'1 mknod("{name}", S_IFREG|0644) = 0', f'1 unlink("{name}") = 0'],
+                [f'mknod {left_out}'],
+            ),
+            (
+                [f'1 mkdir("{name}", 0755) = 0', f'1 rename("{name}", "s") = 0'],
+                [
+                    f'mkdir {left_out}',
+                    'a directory was renamed to /s: no trace can say it; what is done below it is '
+                    'left out',
+                ],
+            ),
+            (
+                [made, '1 write(3</d/#7>(deleted), 0x7ffc, 2) = 2', named],
+                [f'linkat {left_out}'],
+            ),
+        ):
+            recording = recording_of(log, FILE)
+            self.assertEqual([one.what for one in recording.troubles.values()], wanted)
+            self.assertEqual(recording.trace.operations, [])
+
+    def test_a_rename_that_no_trace_has_leaves_the_version(self):
+        recording = recording_of([f'1 rename("s", "{"n" * 256}") = 0'], IN_DIRECTORY)
+        self.assertNotEqual(recording.troubles, {})
+        self.assertEqual((recording.trace.version, recording.version_reason), (3, ''))
+
+    def test_what_came_from_outside_is_followed_without_its_bytes(self):
+        log = ['1 rename("/etc/x", "g") = 0', '1 rename("g", "h") = 0']
+        troubles = recording_of(log, FILE).troubles.values()
+        self.assertEqual([one.where for one in troubles], ['/g', '/h'])
+        self.assertIn('a file that is not in the trace', str([*troubles][1]))
+
+    def test_a_file_that_is_exchanged_with_a_directory_is_followed_by_no_name(self):
+        for words in ('"f", AT_FDCWD</d>, "s"', '"s", AT_FDCWD</d>, "f"'):
+            log = [
+                f'1 renameat2(AT_FDCWD</d>, {words}, RENAME_EXCHANGE) = 0',
+                '1 truncate("f", 0) = 0',
+                '1 truncate("s", 0) = 0',
+            ]
+            recording = recording_of(log, FILE + IN_DIRECTORY)
+            self.assertEqual(recording.trace.operations, [])
+            self.assertEqual(len(recording.troubles), 1)
+            reported = {one.where for one in recording.troubles.values()}
+            self.assertEqual(reported | recording.differing_paths, {'/f', '/s'})
 
 
 class WorkingDirectories(unittest.TestCase):

@@ -63,6 +63,7 @@ CASES = [
         [
             '1 openat(AT_FDCWD</d>, "f", O_WRONLY|O_APPEND) = 3</d/f>',
             '1 dup2(3</d/f>, 9) = 9',
+            '1 dup2(8</etc/x>, 7) = 7',
             '1 close(3</d/f>) = 0',
             '1 write(9</d/f>, "a", 1) = 1',
             '1 fcntl(9</d/f>, F_SETFL, O_WRONLY) = 0',
@@ -125,7 +126,7 @@ CASES = [
     (
         'a file that is opened again by its descriptor is truncated',
         FILE,
-        [OPEN_F, '1 openat(AT_FDCWD</d>, "/proc/self/fd/3", O_WRONLY|O_TRUNC) = 4</d/f>'],
+        [OPEN_F, *2 * ['1 openat(AT_FDCWD</d>, "/proc/self/fd/3", O_WRONLY|O_TRUNC) = 4</d/f>']],
         ['truncate /f 0'],
     ),
     (
@@ -241,6 +242,8 @@ CASES = [
             '1 chdir("t") = 0',
             '1 unlink("g") = 0',
             '1 rmdir("../t") = 0',
+            '1 unlink("/d/none") = 0',
+            '1 rmdir("/d/none") = 0',
         ],
         ['mkdir /t', 'rename /s/f /t/g', 'rmdir /s', 'unlink /t/g', 'rmdir /t'],
     ),
