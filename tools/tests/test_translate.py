@@ -11,7 +11,7 @@ from crashfs_tools.recorder.translate import forks_by_result
 
 from . import support
 from .support import needs_version_3, operations_of, recording_of, short
-from .translated_calls import CASES, FILE, IN_DIRECTORY, OPEN_F
+from .translated_calls import CASES, FILE, IN_DIRECTORY, OPEN_F, TWO_FILES
 from .translated_forks import FORKS
 from .translated_syncs import SYNCS
 
@@ -141,6 +141,25 @@ class OutsideTheTrace(unittest.TestCase):
             recording = recording_of(log, FILE)
             self.assertEqual([one.what for one in recording.troubles.values()], wanted)
             self.assertEqual(recording.trace.operations, [])
+
+    def test_a_replaced_file_that_keeps_a_name_which_no_trace_has_is_reported(self):
+        log = [f'1 link("f", "{"n" * 256}") = 0', '1 rename("g", "f") = 0']
+        recording = recording_of(log, TWO_FILES)
+        self.assertEqual(
+            [one.what for one in recording.troubles.values()][1:],
+            ['a file was replaced that has another name by a link'],
+        )
+        self.assertEqual([short(one) for one in recording.trace.operations], ['rename /g /f'])
+
+    def test_files_that_are_exchanged_have_each_other_s_name(self):
+        log = [
+            '1 renameat2(AT_FDCWD</d>, "f", AT_FDCWD</d>, "g", RENAME_EXCHANGE) = 0',
+            '1 link("g", "h") = 0',
+            '1 truncate("g", 0) = 0',
+        ]
+        recording = recording_of(log, TWO_FILES)
+        self.assertEqual(recording.trace.operations, [])
+        self.assertEqual([one.where for one in recording.troubles.values()], ['/f'])
 
     def test_a_rename_that_no_trace_has_leaves_the_version(self):
         recording = recording_of([f'1 rename("s", "{"n" * 256}") = 0'], IN_DIRECTORY)

@@ -165,9 +165,8 @@ class OutputStreams:
         and if strace shows nothing. Two descriptors of a device may be two streams."""
         if text is None:
             return None
-        known_stream = self.streams_by_text.get(text)
-        if known_stream is not None or not self.is_named_nonstandard(number):
-            return known_stream
+        if not self.is_named_nonstandard(number):
+            return self.streams_by_text.get(text)
         key = f'{number}<{text}>' if text.startswith('/dev/') else text
         return self.streams_by_text.setdefault(key, self.new_stream(number))
 

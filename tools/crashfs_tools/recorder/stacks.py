@@ -35,6 +35,8 @@ LIBRARY_SOURCE = re.compile(
     r'^/rustc/|/rustlib/src/|/include/c\+\+/|/library/(?:std|core|alloc)/|/go(?:-[\d.]+)?/src/'
     r'(?:runtime|syscall|os|io|bufio|fmt|net|sync|log|time|internal)/|crtstuff\.c'
 )
+# How many bytes of a script's first line may name its interpreter.
+FIRST_LINE_BYTES = 200
 # How many functions a note has at most.
 MOST_FUNCTIONS = 3
 
@@ -51,7 +53,7 @@ def is_python_program(path: str) -> bool:
     or its first line. False if the file can't be read."""
     try:
         with open(path, 'rb') as file:
-            first_line = file.readline(200)
+            first_line = file.readline(FIRST_LINE_BYTES)
     except OSError:
         return False
     has_name = os.path.basename(path).startswith(('python', 'pypy'))

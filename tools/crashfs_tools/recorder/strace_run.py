@@ -34,6 +34,8 @@ SAME_SIGNAL_SECONDS = 1.0
 # How long the recorder waits for output before it looks whether strace has ended, and before it
 # sends a signal again.
 IDLE_SECONDS, RESEND_SECONDS = 0.5, 0.1
+# How many bytes of COMMAND's output are copied at once.
+READ_BYTES = 65_536
 
 
 def find_strace() -> str:
@@ -190,7 +192,7 @@ class StraceRun:
         if wakeup_pipe in ready:
             os.read(wakeup_pipe, 64)
         if pipe in ready:
-            return os.read(pipe, 65_536) or None
+            return os.read(pipe, READ_BYTES) or None
         return None if not ready and strace.poll() is not None else b''
 
     def wait_for_status(self, strace: subprocess.Popen[bytes]) -> int:

@@ -186,6 +186,7 @@ class Translator:
             conditions = self.files.conditions
             return Process(Descriptors(), PathContext(conditions.top, conditions.umask))
         newest = forks[-1]
+        # What the parent itself was made by began before this fork.
         return self.find_process(newest.thread, newest.begin - 1).forked_child(newest)
 
     def renumber_thread(self, call: Call) -> None:
