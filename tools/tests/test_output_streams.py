@@ -4,6 +4,7 @@ import unittest
 from typing import List, Sequence
 
 from crashfs_tools.common.trace import Say, Start
+from crashfs_tools.recorder.output_streams import nonstandard_descriptors
 from crashfs_tools.recorder.recording import Recording
 
 from .support import recording_of, short
@@ -66,6 +67,9 @@ class Lines(unittest.TestCase):
             recording = output_of([accepted, sent], ['socket'])
             self.assertEqual([one.text for one in recording.trace.operations], [text[:1024]])
             self.assertEqual(len(recording.troubles), wanted)
+
+    def test_the_standard_descriptors_and_sockets_are_not_nonstandard(self):
+        self.assertEqual(nonstandard_descriptors(['0', '1', '2', 'socket', '3', '21']), [3, 21])
 
     def test_a_file_at_a_descriptor_of_say_fd_stays_a_file(self):
         log = [

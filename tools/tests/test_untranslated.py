@@ -32,6 +32,10 @@ TROUBLES: List[Tuple[str, List[str], List[str]]] = [
         [],
         ['1 chdir("/d") = 0', '3 clone(child_stack=NULL, flags=SIGCHLD) = 3'],
     ),
+    *[
+        ('/: syncfs by a file outside the directory is left out', [], [f'1 syncfs({shown}) = 0'])
+        for shown in ('3</etc/x>', '3<pipe:[7]>')
+    ],
     ('/: io_submit: what is done by it is not in the log', [], ['1 io_submit(0x7f, 1, [{}]) = 1']),
     (
         '/f: a file of O_TMPFILE that was synced before it had this name',

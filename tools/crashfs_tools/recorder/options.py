@@ -79,7 +79,7 @@ class RecordOptions:
 
 
 def check_pattern(text: str) -> str:
-    """A pattern of --ignore, unchanged; ArgumentTypeError as Rule.parse() raises ValueError."""
+    """A pattern of --ignore, unchanged; ArgumentTypeError if Rule.parse() refuses it."""
     try:
         Rule.parse(text)
     except ValueError as error:

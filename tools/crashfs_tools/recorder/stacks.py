@@ -82,8 +82,8 @@ def note_calls(calls: List[Call]) -> List[str]:
 
 
 def is_exec(call: Call) -> bool:
-    """Whether a call, or an event, is an exec that succeeded: SUPERSEDE, with the number that the
-    thread has from then on, is one of another thread than the first."""
+    """Whether a call is an exec that succeeded. So is the event SUPERSEDE, if another thread than
+    the process's first called exec: its `thread` is the number that it has from then on."""
     return call.name == SUPERSEDE or call.name in ('execve', 'execveat') and call.result == 0
 
 

@@ -130,9 +130,9 @@ class LogReader:
 
     def read_resumed_line(self, number: int, resumed: re.Match[str]) -> None:
         """Reads the second part of a call, by the match of RESUMED, together with the first. If
-        that was needless, or is of the number that the thread had before an exec, the second part
-        and its frames are left out. If the first part is of another call, an exec by another thread
-        cut that call: it is read as cut. LogError as in read_line()."""
+        there is none, as it was needless, or as the thread had another number then, the second part
+        and its frames are left out. If the thread's first part is of another call, an exec by
+        another thread cut that call: it is read as cut. LogError as in read_line()."""
         call = self.interrupted_calls.pop(resumed[1], None)
         if call is None:
             self.call_with_frames = None

@@ -147,10 +147,10 @@ def no_acknowledgement_text(streams: List[OutputStream]) -> str:
 
 
 def held_line_faults(stream: OutputStream) -> List[str]:
-    """A line if files were changed while a text of the stream was incomplete, so that it counts too
-    late: at several places between the writes of a line, or after the beginning of a last line
-    without a line feed. Empty if not: changes at one place are usual, as a program prints what it
-    does, and then, in the same line, that it is done."""
+    """A line if a text of the stream counts too late, as files were changed while it was
+    incomplete: a last line without a line feed, or a line between whose writes files were changed
+    at more than one place. One such place is usual: a program prints what it does, and then, in the
+    same line, that it is done. Empty if there is no such text."""
     if stream.is_held:
         reason = 'its last text has no line feed, so it counts from the end'
     elif stream.most_gaps > 1:
