@@ -172,7 +172,7 @@ class Frames(unittest.TestCase):
                 ],
             )
         ).calls
-        stacks.note_calls(calls)
+        stacks.note_calls(calls, {})
         self.assertEqual(
             [call.note for call in calls],
             ['a.py:3 put', 'a.py:3 put', 'put (store)', 'a.py:3 put', 'a.py:3 put', '', ''],
@@ -192,7 +192,7 @@ class Frames(unittest.TestCase):
             '1 fsync(3</d/f>) = 0',
         ]
         calls = read_log(map(as_strace, lines)).calls
-        stacks.note_calls(calls)
+        stacks.note_calls(calls, {})
         self.assertEqual([call.note for call in calls], ['a.py:3 put', '', ''])
 
 

@@ -134,6 +134,10 @@ class OutsideTheTrace(unittest.TestCase):
                 ],
             ),
             (
+                [f'1 mkdir("{name}", 0755) = 0', f'1 mknod("{name}/p", S_IFIFO|0644) = 0'],
+                [f'mkdir {left_out}'],
+            ),
+            (
                 [made, '1 write(3</d/#7>(deleted), 0x7ffc, 2) = 2', named],
                 [f'linkat {left_out}'],
             ),

@@ -30,6 +30,7 @@ from .output_streams import SayEach, nonstandard_descriptors
 from .own_path import NOTE as OWN_PATH
 from .own_path import files_with_path
 from .recording import Recording, TraceSettings, is_private
+from .source_lines import source_frames
 from .start_tree import files_at_start
 from .strace_log import Call, Log, read_log
 from .translate import Translator
@@ -277,9 +278,12 @@ def translate_with_begin_after(options: RecordOptions, files: LiveFiles, run: Re
 
 def note_functions(calls: List[Call]) -> None:
     """Sets each call's note to the functions that made the call, as far as they are known, and
-    prints the programs of which no source line is known. OSError and LogError as in
-    stacks.note_calls()."""
-    for program in stacks.note_calls(calls):
+    prints the programs of which no source line is known. OSError as in source_frames(), LogError as
+    in stacks.note_calls()."""
+    addresses = stacks.addresses_of_calls(calls)
+    source_lines = source_frames(addresses)
+    stacks.note_calls(calls, source_lines)
+    for program in sorted({path for path, _ in addresses} - {path for path, _ in source_lines}):
         print_text(f'--stacks: no source line of {program} is known{stacks.addr2line_hint()}')
 
 

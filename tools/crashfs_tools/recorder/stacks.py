@@ -9,7 +9,7 @@ from itertools import chain, islice
 from typing import Dict, Iterator, List, NamedTuple, Optional
 
 from . import arguments
-from .source_lines import Address, Frame, source_frames
+from .source_lines import Address, Frame
 from .strace_log import SUPERSEDE, Call
 
 HOOK = os.path.join(os.path.dirname(os.path.realpath(__file__)), 'python_hook')
@@ -60,25 +60,25 @@ def is_python_program(path: str) -> bool:
     return has_name or first_line.startswith(b'#!') and b'python' in first_line
 
 
-def note_calls(calls: List[Call]) -> List[str]:
+def addresses_of_calls(calls: List[Call]) -> List[Address]:
+    """The addresses of the program_frames() of these calls."""
+    return [frame.address for call in calls for frame in program_frames(call.frames)]
+
+
+def note_calls(calls: List[Call], source_lines: Dict[Address, List[Frame]]) -> None:
     """Sets each call's note: the source lines that the hook showed last in its thread, since the
-    last exec, or else its stack_text(). Returns the programs, sorted, that have frames but no known
-    source line. The calls must be in the log's order. OSError as in source_frames(), LogError as in
-    parse_mark()."""
-    frames_of_calls = [program_frames(call.frames) for call in calls]
-    addresses = [frame.address for frames in frames_of_calls for frame in frames]
-    source_lines = source_frames(addresses)
+    last exec, or else its stack_text() with these source lines. The calls must be in the log's
+    order. LogError as in parse_mark()."""
     marks: Dict[int, str] = {}
-    for call, frames in zip(calls, frames_of_calls):
+    for call in calls:
         if is_exec(call):
             marks.pop(call.thread, None)
         mark = parse_mark(call)
         if mark is not None:
             marks[call.thread] = mark
-        note = marks.get(call.thread) or stack_text(frames, source_lines)
+        note = marks.get(call.thread) or stack_text(program_frames(call.frames), source_lines)
         # Bytes that aren't UTF-8 become `?`.
         call.note = note.encode('utf-8', 'replace').decode()
-    return sorted({path for path, _ in addresses} - {path for path, _ in source_lines})
 
 
 def is_exec(call: Call) -> bool:
