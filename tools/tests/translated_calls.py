@@ -128,8 +128,13 @@ CASES = [
     (
         'a file that is opened again by its descriptor is truncated',
         FILE,
-        [OPEN_F, *2 * ['1 openat(AT_FDCWD</d>, "/proc/self/fd/3", O_WRONLY|O_TRUNC) = 4</d/f>']],
-        ['truncate /f 0'],
+        [
+            OPEN_F,
+            '1 openat(AT_FDCWD</d>, "/proc/self/fd/3", O_WRONLY) = 4</d/f>',
+            '1 write(4</d/f>, "J", 1) = 1',
+            *2 * ['1 openat(AT_FDCWD</d>, "/proc/self/fd/3", O_WRONLY|O_TRUNC) = 4</d/f>'],
+        ],
+        ['write /f 0 J', 'truncate /f 0'],
     ),
     (
         'descriptors that exec closes: of dup3, and of F_DUPFD_CLOEXEC; not after F_SETFD',
@@ -298,6 +303,18 @@ CASES = [
             'chown /f u54322 g67890',
             'chown /f u54322 g67891',
         ],
+    ),
+    (
+        'a path after a descriptor of which strace shows nothing begins at the working directory',
+        FILE,
+        ['1 mkdirat(AT_FDCWD, "a", 02755) = 0', '1 chdir("a") = 0', '1 unlinkat(5, "../f", 0) = 0'],
+        ['mkdir /a', 'unlink /f'],
+    ),
+    (
+        'a file that is renamed to a path that strace cut is removed',
+        FILE,
+        ['1 rename("f", "/e"...) = 0'],
+        ['unlink /f'],
     ),
     (
         'a file under a new name has the mode that it was given',

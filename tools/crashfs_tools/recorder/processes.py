@@ -2,6 +2,7 @@
 
 from __future__ import annotations
 
+import stat
 from copy import copy
 from dataclasses import dataclass, field
 from typing import Dict, Iterable, Optional, Set
@@ -86,7 +87,7 @@ class PathContext:
         """The mode of a file or directory that is made with the mode in an argument (`word`):
         without the bits of the umask. It may have bits beyond 777. LogError if the argument isn't
         in octal digits."""
-        return parse_digits(word, 8) & ~self.umask & 0o7777
+        return stat.S_IMODE(parse_digits(word, 8)) & ~self.umask
 
     def update_directory(self, new_paths: Dict[str, str]) -> None:
         """Gives the working directory its new path if it is one of the directories in new_paths, or

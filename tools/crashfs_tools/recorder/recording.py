@@ -2,6 +2,7 @@
 
 from __future__ import annotations
 
+import stat
 from dataclasses import dataclass, field
 from typing import Callable, Dict, List, Optional, Sequence, Set, Tuple
 
@@ -31,6 +32,9 @@ from crashfs_tools.common.tree import Tree, least_file_size
 from .directory import NEWEST, PERMISSIONS
 from .output_streams import DEFAULT_DESCRIPTORS, OutputStream, OutputStreams, SayEach
 from .strace_log import Call
+
+# The bits of a mode by which group and others may read.
+READ_BY_ALL = stat.S_IRGRP | stat.S_IROTH
 
 
 @dataclass(frozen=True)
@@ -83,7 +87,7 @@ def is_private(trace: Trace) -> bool:
         for operation in trace.operations
         if isinstance(operation, (Creat, Mkdir, Chmod))
     ]
-    return any(mode & 0o044 != 0o044 for mode in modes)
+    return any(mode & READ_BY_ALL != READ_BY_ALL for mode in modes)
 
 
 def symlink_reason(path: str) -> str:

@@ -4,6 +4,7 @@ LogError if an argument isn't as strace writes it."""
 
 from __future__ import annotations
 
+import stat
 from typing import Dict, Optional
 
 from crashfs_tools.common.trace import Chmod, Chown
@@ -53,7 +54,7 @@ def set_mode(files: LiveFiles, node: Optional[Node], mode: int) -> None:
     if path is None:
         return
     # Some programs also pass the bits of the file's kind, which the kernel ignores.
-    files.recording.note_extra_bits(path, mode & 0o7777)
+    files.recording.note_extra_bits(path, stat.S_IMODE(mode))
     if node.mode != files.recording.tree.entries[path].mode:
         node.has_new_rights = files.recording.add_operation(Chmod(path, node.mode))
 

@@ -5,6 +5,7 @@ ignored, or was cut by strace: it isn't followed."""
 from __future__ import annotations
 
 import re
+import stat
 from typing import Optional
 
 from crashfs_tools.common.entry import parent_of
@@ -18,7 +19,7 @@ from crashfs_tools.recorder.resolving import removed_path
 from crashfs_tools.recorder.strace_log import Call
 
 # The bits of a mode that mkdir ignores.
-SET_ID = 0o6000
+SET_ID = stat.S_ISUID | stat.S_ISGID
 # The path in a socket's address. An abstract name has an `@` before the quotation mark.
 SOCKET_PATH = re.compile(r'sun_path=("[^}]*)')
 
