@@ -68,6 +68,12 @@ class Lines(unittest.TestCase):
             self.assertEqual([one.text for one in recording.trace.operations], [text[:1024]])
             self.assertEqual(len(recording.troubles), wanted)
 
+    def test_what_is_sent_and_not_in_the_log_is_reported_if_it_acknowledges_something(self):
+        for stream, wanted in (('2<socket:[9]>', []), ('6<socket:[9]>', ['descriptor 6'])):
+            log = [f'1 sendto({stream}, "no"..., 4, 0, NULL, 0) = 4']
+            troubles = output_of(log, ['6']).troubles.values()
+            self.assertEqual([one.where for one in troubles], wanted)
+
     def test_the_standard_descriptors_and_sockets_are_not_nonstandard(self):
         self.assertEqual(nonstandard_descriptors(['0', '1', '2', 'socket', '3', '21']), [3, 21])
 

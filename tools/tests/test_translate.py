@@ -171,10 +171,11 @@ class OutsideTheTrace(unittest.TestCase):
         self.assertEqual((recording.trace.version, recording.version_reason), (3, ''))
 
     def test_what_came_from_outside_is_followed_without_its_bytes(self):
-        log = ['1 rename("/etc/x", "g") = 0', '1 rename("g", "h") = 0']
-        troubles = recording_of(log, FILE).troubles.values()
-        self.assertEqual([one.where for one in troubles], ['/g', '/h'])
-        self.assertIn('a file that is not in the trace', str([*troubles][1]))
+        for source in ('"/etc/x"', '"x"...'):
+            log = [f'1 rename({source}, "g") = 0', '1 rename("g", "h") = 0']
+            troubles = recording_of(log, FILE).troubles.values()
+            self.assertEqual([one.where for one in troubles], ['/g', '/h'])
+            self.assertIn('a file that is not in the trace', str([*troubles][1]))
 
     def test_a_file_that_is_exchanged_with_a_directory_is_followed_by_no_name(self):
         for words in ('"f", AT_FDCWD</d>, "s"', '"s", AT_FDCWD</d>, "f"'):

@@ -8,7 +8,7 @@ from typing import Optional
 
 from crashfs_tools.recorder import arguments
 from crashfs_tools.recorder.live_tree import END
-from crashfs_tools.recorder.output_streams import ACCEPTS, SENDS, sent_bytes
+from crashfs_tools.recorder.output_streams import ACCEPTS, SENDS, OutputStream, sent_bytes
 from crashfs_tools.recorder.processes import OpenFile, Process, node_of
 from crashfs_tools.recorder.live_files import LiveFiles
 from crashfs_tools.recorder.strace_log import Call
@@ -81,16 +81,11 @@ def on_pwritev(files: LiveFiles, process: Process, call: Call) -> None:
 
 
 def on_send(files: LiveFiles, process: Process, call: Call) -> None:
-    """Adds the bytes that are sent over a socket, if that is an output stream. If the log lacks
-    some of them, none is added, and that is reported."""
+    """Adds the bytes that are sent over a socket, if that is an output stream, as write_to_stream()
+    does."""
     stream = files.find_output_stream(process, call)
-    if stream is None:
-        return
-    data = sent_bytes(call)
-    if data is None:
-        files.recording.report(f'{call.name}: {NOT_IN_LOG}', stream.name)
-    else:
-        files.recording.add_output(stream, data)
+    if stream is not None:
+        write_to_stream(files, stream, sent_bytes(call), f'{call.name}: {NOT_IN_LOG}')
 
 
 def on_accept(files: LiveFiles, process: Process, call: Call) -> None:
@@ -114,17 +109,13 @@ def write_to_descriptor(
 ) -> None:
     """Writes the bytes that a call wrote, as many as its result says, to the stream or file of the
     descriptor in the argument with this index: at the offset, or, if it is None, at the open file's
-    own. If data is None, or has fewer bytes, missing_reason is reported for a file or an
-    acknowledging stream. Nothing is written if the descriptor isn't followed, or is of a directory.
-    """
+    own. If data is None, or has fewer bytes, missing_reason is reported, for a stream as in
+    write_to_stream(). Nothing is written if the descriptor isn't followed, or is of a directory."""
     written = None if data is None or len(data) < call.result else data[: call.result]
     reason = f'{call.name}: {missing_reason}'
     stream = files.find_output_stream(process, call, index)
     if stream is not None:
-        if written is not None:
-            files.recording.add_output(stream, written)
-        elif stream.is_acknowledged:
-            files.recording.report(reason, stream.name)
+        write_to_stream(files, stream, written, reason)
         return
     file = files.find_open_file(process, call, index)
     if file is None or file.node is None or file.node.is_directory:
@@ -133,6 +124,17 @@ def write_to_descriptor(
         files.drop_bytes(file.node, reason)
     else:
         write_to_file(files, file, written, offset, flags)
+
+
+def write_to_stream(
+    files: LiveFiles, stream: OutputStream, data: Optional[bytes], missing_reason: str
+) -> None:
+    """Adds bytes to a stream. If the log lacks some of them (None), none is added, and this reason
+    is reported if the stream acknowledges something."""
+    if data is not None:
+        files.recording.add_output(stream, data)
+    elif stream.is_acknowledged:
+        files.recording.report(missing_reason, stream.name)
 
 
 def write_to_file(
