@@ -142,6 +142,76 @@ CASES = [
         ['link /f /h', 'rename /g /h', 'write /h 0 a', 'fsync /f', 'unlink /h', 'link /f /h'],
     ),
     (
+        'a change on two lines that had ended before the sync began is covered',
+        [
+            '2 pwrite64(3</d/f>, "a", 1, 0 <unfinished ...>',
+            '1 pwrite64(4</d/g>, "b", 1, 0) = 1',
+            '2 <... pwrite64 resumed>) = 1',
+            '1 fsync(3</d/f>) = 0',
+        ],
+        ['write /f 0 a', 'write /g 0 b', 'fsync /f'],
+    ),
+    (
+        'a change on two lines that began after the sync had ended is placed where it begins',
+        [
+            '1 fsync(3</d/f>) = 0',
+            '2 pwrite64(3</d/f>, "a", 1, 0 <unfinished ...>',
+            '1 pwrite64(4</d/g>, "b", 1, 0) = 1',
+            '2 <... pwrite64 resumed>) = 1',
+        ],
+        ['fsync /f', 'write /f 0 a', 'write /g 0 b'],
+    ),
+    *[
+        (
+            f'a change of a file while everything is synced is not covered: {sync}',
+            [
+                f'1 {sync} <unfinished ...>',
+                '2 pwrite64(3</d/f>, "a", 1, 0) = 1',
+                f'1 <... {sync.partition("(")[0]} resumed>) = 0',
+            ],
+            ['sync', 'write /f 0 a'],
+        )
+        for sync in ('sync(', 'syncfs(4</d/g>')
+    ],
+    (
+        'a change of an unknown path while a file is synced is not covered',
+        [
+            '1 fsync(4</d/g> <unfinished ...>',
+            '2 unlink("f") = 0',
+            '1 <... fsync resumed>) = 0',
+        ],
+        ['fsync /g', 'unlink /f'],
+    ),
+    *[
+        (
+            f'a change of other paths while a file is synced is placed before the sync: {change}',
+            [
+                '1 fsync(4</d/g> <unfinished ...>',
+                f'2 {change} = 0',
+                '1 <... fsync resumed>) = 0',
+            ],
+            [operation, 'fsync /g'],
+        )
+        for change, operation in (
+            ('rename("/d/f", "/d/h")', 'rename /f /h'),
+            ('mkdirat(AT_FDCWD</d>, "s", 0755)', 'mkdir /s'),
+            (f'setxattr("/d/f", "system.posix_acl_access", "{LIST}", 28, 0)', 'chmod /f 600'),
+        )
+    ],
+    *[
+        (
+            f'a descriptor whose close began may be that of another file: {call}',
+            [
+                f'1 {call} <unfinished ...>',
+                '2 openat(AT_FDCWD</d>, "g", O_RDWR) = 3</d/g>',
+                f'1 <... {call.partition("(")[0]} resumed>) = 0',
+                '2 pwrite64(3</d/g>, "a", 1, 0) = 1',
+            ],
+            ['write /g 0 a'],
+        )
+        for call in ('close(3</d/f>', 'close_range(3, 3, 0')
+    ],
+    (
         'an entry that comes while its directory is synced is not covered',
         [
             '1 openat(AT_FDCWD</d>, ".", O_RDONLY) = 5</d>',

@@ -71,12 +71,15 @@ DESCRIPTOR_CHANGES = DATA_CHANGES | {'fchmod', 'fchown', 'fchown32', 'fsetxattr'
 # No open is among the changes, though one may make or truncate a file.
 CHANGES = DESCRIPTOR_CHANGES | NAME_CHANGES | RIGHT_CHANGES | LIST_CHANGES
 OPENS = {'open', 'openat', 'openat2', 'creat'}
-FILE_SYNCS = {'fsync', 'fdatasync', 'msync'}
-WHOLE_SYNCS = {'sync', 'syncfs'}
+# Placed where they begin: from there on another thread may get the number of the descriptor.
+CLOSES = {'close', 'close_range'}
+SYNCS = {'fsync', 'fdatasync', 'msync', 'sync', 'syncfs'}
 # The index of the argument with the descriptor that a call changes, unless it is 0.
 TARGET_INDEXES = {'copy_file_range': 2, 'splice': 2, 'tee': 1}
 
-# A line of the log, and 0 for what is before all other moments of that line, or 1.
+# Directly before all that is placed at a line of the log, and at that line.
+BEFORE, AT = 0, 1
+# Where a call is placed: a line of the log, and BEFORE or AT.
 Moment = Tuple[int, int]
 # A call after its moment and the line at which it ends, which no other call has.
 PlacedCall = Tuple[Moment, int, Call]
@@ -110,11 +113,11 @@ class CallQueue:
         self.place_calls()
         self.queue = sorted(map(self.placed_call, self.calls), reverse=True)
         while self.queue or self.moved_calls:
-            moment, _, call = self.pop_first()
+            (line, _), _, call = self.pop_first()
             # A sync that was moved to an earlier place is still at its old one too.
             if id(call) in self.moments and not self.move_by_links(call):
                 del self.moments[id(call)]
-                yield moment[0], call
+                yield line, call
 
     def placed_call(self, call: Call) -> PlacedCall:
         """A call after its moment and, for calls at one moment, the line at which it ends."""
@@ -133,7 +136,7 @@ class CallQueue:
         self.moments.update((id(call), moment_of(call)) for call in self.calls)
         changes = ChangeIndex([call for call in self.calls if call.name in CHANGES])
         for sync in self.calls:
-            if sync.name in FILE_SYNCS or sync.name in WHOLE_SYNCS:
+            if sync.name in SYNCS:
                 self.place_sync(sync, changes.changes_during(sync))
 
     def place_sync(self, sync: Call, changes: List[Call]) -> None:
@@ -148,16 +151,17 @@ class CallQueue:
     def move_after_sync(self, sync: Call, change: Call) -> None:
         """Places a change where it ends, and a sync that ran at the same time directly before this
         end, unless the sync is earlier already."""
-        self.moments[id(change)] = (change.end, 1)
-        self.moments[id(sync)] = min(self.moments[id(sync)], (change.end, 0))
+        self.moments[id(change)] = (change.end, AT)
+        self.moments[id(sync)] = min(self.moments[id(sync)], (change.end, BEFORE))
 
     def move_by_links(self, change: Call) -> bool:
-        """Moves a change that is next after those of its unrelated_syncs that aren't yielded yet,
-        if the paths are of one file now. Returns whether there are such syncs."""
+        """Places a change that would be yielded next after those of its unrelated_syncs that aren't
+        yielded yet and may cover it by links, as move_after_sync() does. Returns whether there are
+        some: the change isn't next then."""
         syncs = [
             sync
             for sync in self.unrelated_syncs.get(id(change), [])
-            if id(sync) in self.moments and self.is_same_file(sync, change)
+            if id(sync) in self.moments and self.may_cover_by_links(sync, change)
         ]
         for sync in syncs:
             self.move_after_sync(sync, change)
@@ -166,9 +170,9 @@ class CallQueue:
             heapq.heappush(self.moved_calls, self.placed_call(change))
         return bool(syncs)
 
-    def is_same_file(self, sync: Call, change: Call) -> bool:
-        """Whether are_of_same_file() is True for the path of a sync and one of a change. LogError
-        if an argument isn't as strace writes it."""
+    def may_cover_by_links(self, sync: Call, change: Call) -> bool:
+        """Whether the path of a sync and one of a change are names of one file now. LogError if an
+        argument isn't as strace writes it."""
         path, paths = synced_path(sync), changed_paths(change) or ()
         return path is not None and any(self.are_of_same_file(path, other) for other in paths)
 
@@ -176,8 +180,8 @@ class CallQueue:
 def moment_of(call: Call) -> Moment:
     """The moment at which a call is placed in the trace, unless a sync and a change overlap: that
     of its beginning for a change or a close, that of its end for any other call."""
-    is_placed_at_begin = call.name in CHANGES or call.name in ('close', 'close_range')
-    return (call.begin if is_placed_at_begin else call.end, 1)
+    is_placed_at_begin = call.name in CHANGES or call.name in CLOSES
+    return (call.begin if is_placed_at_begin else call.end, AT)
 
 
 class ChangeIndex:
@@ -199,9 +203,9 @@ class ChangeIndex:
 
 
 def is_concurrent(sync: Call, change: Call) -> bool:
-    """Whether a sync and a change ran at the same time, at least in part, in two threads."""
-    is_at_once = change.begin <= sync.end and sync.begin <= change.end
-    return is_at_once and sync.thread != change.thread
+    """Whether a sync and a change ran at the same time, at least in part. Two calls of one thread
+    never do."""
+    return change.begin <= sync.end and sync.begin <= change.end
 
 
 def may_cover(sync: Call, change: Call) -> bool:
@@ -209,9 +213,9 @@ def may_cover(sync: Call, change: Call) -> bool:
     path, may cover each change of a file; each sync may cover a change of unknown paths. LogError
     if an argument isn't as strace writes it."""
     path, paths = synced_path(sync), changed_paths(change)
-    if path is None or paths is None:
-        return paths != set()
-    return path in paths
+    if paths is None:
+        return True
+    return bool(paths) if path is None else path in paths
 
 
 def synced_path(sync: Call) -> Optional[str]:
