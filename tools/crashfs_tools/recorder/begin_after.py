@@ -13,29 +13,28 @@ from .recording import Recording
 
 class LateStart:
     """Begins the trace again after an acknowledged line: the one with a number, from 1, or the
-    first one that a pattern matches. has_begun is False until that line comes. Its count_line()
-    must be the recording's on_acknowledged."""
+    first one that a pattern matches. From then on the recording's has_late_start is True. Its
+    on_acknowledged must be count_line()."""
 
     def __init__(self, recording: Recording, number_or_pattern: str) -> None:
         """What parse_number() takes is a number; any other text is a pattern of fnmatch."""
         self.recording, self.pattern = recording, number_or_pattern
         self.number = parse_number(number_or_pattern)
         self.line_count = 0
-        self.has_begun = False
 
     def count_line(self, line: Say) -> None:
         """Counts an acknowledged line. If this is the first wanted line, the trace begins again;
         later lines are only counted."""
         self.line_count += 1
-        if not self.has_begun and self.is_wanted(line.text):
-            self.has_begun = True
+        if not self.recording.has_late_start and self.is_wanted(self.line_count, line.text):
             restart_trace(self.recording)
 
-    def is_wanted(self, text: str) -> bool:
-        """Whether the line that was counted last, which has this text, has the wanted number, or
-        matches the pattern, in which upper and lower case differ."""
+    def is_wanted(self, number: int, text: str) -> bool:
+        """Whether the trace may begin after the acknowledged line with this number, from 1, and
+        this text: it has the wanted number, or matches the pattern, in which upper and lower case
+        differ."""
         if self.number is not None:
-            return self.line_count == self.number
+            return number == self.number
         return fnmatch.fnmatchcase(text, self.pattern)
 
 

@@ -271,7 +271,7 @@ def translate_with_begin_after(options: RecordOptions, files: LiveFiles, run: Re
     late_start = LateStart(files.recording, options.begin_after)
     files.recording.on_acknowledged = late_start.count_line
     translator.translate_log()
-    if not late_start.has_begun:
+    if not files.recording.has_late_start:
         what = f'no acknowledged line is {options.begin_after}: the trace begins with COMMAND'
         files.recording.report(what, '--begin-after')
 
