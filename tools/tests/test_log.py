@@ -130,6 +130,14 @@ class Needless(unittest.TestCase):
         mapped = ['7 mmap(NULL, 9, PROT_READ, MAP_SHARED, 4</d/f>, 0) = 0x7f00']
         self.assertEqual(self.read(mapped + elsewhere[-1:]), ['mmap', 'mprotect'])
 
+    def test_a_write_by_a_descriptor_without_a_path_may_have_the_directory_s_path(self):
+        self.assertEqual(self.read(['7 write(9, "/d/f", 4) = 4']), [])
+        self.assertEqual(self.read(['7 write(9</x>, "a", 1) = 1'], top=b'/'), ['write'])
+
+    def test_standard_streams_and_what_is_no_descriptor_are_read(self):
+        self.assertEqual(self.read(['7 read(0x0, 0x7ffc, 0x2) = 0x2']), ['read'])
+        self.assertEqual(self.read(['7 close(-1) = -1 EBADF (Bad file descriptor)']), ['close'])
+
     def test_a_number_may_have_zeros_before_it(self):
         self.assertEqual(self.read(['7 fcntl(09, F_DUPFD, 9) = 9', '7 close(08) = 0']), [])
         self.assertEqual(self.read(['7 dup(02) = 9', '7 close(09) = 0']), ['dup', 'close'])
@@ -195,7 +203,7 @@ class Lines(unittest.TestCase):
         writer = threading.Thread(target=write_slowly, args=(writing, 400))
         writer.start()
         with mock.patch('os.read', side_effect=os.read) as reads:
-            found = list(iter(lines.next_line, None))
+            found = list(iter(lines.next_line, ''))
         writer.join()
         os.close(reading)
         self.assertEqual(found, [f'{number}\n' for number in range(400)])
@@ -220,7 +228,7 @@ class Lines(unittest.TestCase):
         with open(path, 'wb') as writing:
             writing.write(b'a\n')
         self.assertEqual(lines.next_line(PATIENCE), 'a\n')
-        self.assertIsNone(lines.next_line(PATIENCE))
+        self.assertEqual(lines.next_line(PATIENCE), '')
         self.assertTrue(lines.has_ended)
 
     def test_a_call_that_is_cut_in_two_is_one(self):

@@ -221,7 +221,7 @@ class Descriptors(InFolder):
         writing.write(b'a\n')
         self.assertEqual(lines.next_line(PATIENCE), 'a\n')
         writing.close()
-        self.assertIsNone(lines.next_line(PATIENCE))
+        self.assertEqual(lines.next_line(PATIENCE), '')
         self.assertTrue(lines.has_ended)
 
     def test_output_whose_pipe_has_a_high_number_is_read(self):

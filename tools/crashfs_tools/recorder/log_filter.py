@@ -41,9 +41,10 @@ DESCRIPTOR_PATHS = tuple(map(escape_text, (b'/dev/fd', b'/dev/std', b'/proc/')))
 
 class LogFilter:
     """Finds needless lines by needed_descriptors: those that may be of files below a directory, or
-    of streams, in any process. It learns them from the lines that are read: each line must be given
-    to is_needless(), in the log's order, and each whole call that isn't needless to
-    learn_from_result(). shown_top is the directory's path as strace shows it."""
+    of streams, in any process; has_mapping means that a file below the directory was mapped. Each
+    whole call that isn't needless must be given to learn_from_result(), from which both come,
+    before is_needless() is asked about a later line. shown_top is the directory's path as strace
+    shows it."""
 
     def __init__(self, top: bytes, descriptors: Iterable[int] = ()) -> None:
         """`top` is the directory's path as the calls have it. These descriptors, and 0 to 2, are

@@ -59,11 +59,11 @@ class PipeLines:
         self.has_ended = False
 
     def next_line(self, idle_seconds: Optional[float] = None) -> Optional[str]:
-        """The next line, with its line feed, which the last one may lack. None at the pipe's end
-        (has_ended), or if no bytes come within idle_seconds; without these it waits without a
-        limit. If few bytes come, and may_gather is set, GATHER_SECONDS pass, so that the next read
-        finds more. Bytes that aren't UTF-8 become surrogates, as in os.fsdecode. OSError if a read
-        fails."""
+        """The next line, with its line feed, which the last one may lack; empty at the pipe's end,
+        as readline() has it. None if no bytes come within idle_seconds; without these it waits
+        without a limit. If few bytes come, and may_gather is set, GATHER_SECONDS pass, so that the
+        next read finds more. Bytes that aren't UTF-8 become surrogates, as in os.fsdecode. OSError
+        if a read fails."""
         milliseconds = None if idle_seconds is None else idle_seconds * 1000
         while not self.ready_lines and not self.has_ended:
             # Before a process has opened a named pipe for writing, a read would find its end.
@@ -73,7 +73,7 @@ class PipeLines:
             if self.may_gather and 0 < len(piece) < READ_BYTES // 4:
                 time.sleep(GATHER_SECONDS)
             self.add_bytes(piece)
-        return self.ready_lines.popleft() if self.ready_lines else None
+        return self.ready_lines.popleft() if self.ready_lines else ''
 
     def add_bytes(self, piece: bytes) -> None:
         """Adds the lines that the next bytes of the pipe complete to ready_lines; what is after the
@@ -171,7 +171,7 @@ class LogStream:
         # A process whose mapped files are copied is stopped until its line is read.
         lines = PipeLines(descriptor, may_gather=self.mapped_files is None)
         line = lines.next_line()
-        while line is not None:
+        while line:
             stopped_thread = self.add_line(line)
             if stopped_thread is not None and self.mapped_files is not None:
                 self.copy_and_continue(self.mapped_files, stopped_thread, lines)
@@ -243,7 +243,7 @@ class LogStream:
         threads_of_others = []
         while unreported_threads:
             line = lines.next_line(SAME_STOP_SECONDS)
-            if line is None:
+            if not line:
                 break
             stopped_thread = self.add_line(line)
             if stopped_thread in threads:
