@@ -8,6 +8,8 @@ from typing import Dict, Optional
 
 NAME = 'system.posix_acl_access'
 VERSION = 2
+# A list is its version and entries: a tag, the rights, and the number of a named user or group.
+HEADER, ENTRY = struct.Struct('<I'), struct.Struct('<HHI')
 # The tags of entries for the owner, the owning group, the mask and all others.
 OWNER, GROUP, MASK, OTHERS = 0x01, 0x04, 0x10, 0x20
 
@@ -16,10 +18,9 @@ def parse_rights(value: bytes) -> Optional[Dict[int, int]]:
     """The rights of an access control list, by the tags of its entries; None if the value is no
     such list. Of several entries with one tag, as for named users, only the last is kept:
     has_only_mode() needs no more."""
-    if len(value) % 8 != 4 or struct.unpack('<I', value[:4])[0] != VERSION:
+    if len(value) % ENTRY.size != HEADER.size or HEADER.unpack_from(value) != (VERSION,):
         return None
-    entries = struct.iter_unpack('<HHI', value[4:])
-    return {tag: rights & 7 for tag, rights, _ in entries}
+    return {tag: rights & 0o7 for tag, rights, _ in ENTRY.iter_unpack(value[HEADER.size :])}
 
 
 def mode_of_rights(rights: Dict[int, int]) -> int:

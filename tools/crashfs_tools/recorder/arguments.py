@@ -20,6 +20,7 @@ class LogError(Exception):
     """A log that isn't as strace writes it with the options that it needs."""
 
     def __init__(self, text: str = 'the log is not as strace -f -y -xx writes it') -> None:
+        """The text is what the user sees; another one also says where in the log that is."""
         super().__init__(text)
 
 
@@ -36,6 +37,10 @@ class Descriptor:
     def path(self) -> Optional[str]:
         """The path of its file; None if strace shows none, as for a socket or a pipe."""
         return self.text if self.text is not None and self.text.startswith('/') else None
+
+
+# What is no descriptor.
+NO_DESCRIPTOR = Descriptor(-1, None, is_deleted=False)
 
 
 def split_arguments(text: str) -> List[str]:
@@ -135,11 +140,11 @@ def parse_digits(word: str, base: int) -> int:
 
 def parse_descriptor(word: str) -> Descriptor:
     """The descriptor in an argument, with what strace shows for it. Its number is CURRENT_DIRECTORY
-    for AT_FDCWD, and -1 for an argument that is no descriptor, also for an empty one. LogError as
-    in parse_shown_text()."""
+    for AT_FDCWD. NO_DESCRIPTOR for any other argument, also for an empty one. LogError as in
+    parse_shown_text()."""
     match = DESCRIPTOR.match(word)
     if not match:
-        return Descriptor(-1, None, is_deleted=False)
+        return NO_DESCRIPTOR
     number = CURRENT_DIRECTORY if match[1] == 'AT_FDCWD' else parse_integer(match[1])
     return Descriptor(number, parse_shown_text(match[2]), is_deleted=bool(match[3]))
 

@@ -85,7 +85,7 @@ def targets_by_path(files: LiveFiles, process: Process, call: Call) -> List[str]
         shown = arguments.parse_descriptor(word)
         if word.startswith('"'):
             paths.append(files.resolve_argument(base, word, follow_last_link=follow_last_link))
-        elif shown.number != -1:
+        elif shown != arguments.NO_DESCRIPTOR:
             base = process.directory_of(shown)
     if call.name.startswith(('link', 'symlink')):
         paths = paths[-1:]

@@ -7,7 +7,7 @@ from dataclasses import dataclass, field
 from typing import Dict, Iterable, List, Optional, Set
 
 from . import arguments
-from .arguments import Descriptor, LogError
+from .arguments import NO_DESCRIPTOR, Descriptor, LogError
 from .log_filter import WRITES, LogFilter
 
 LINE = re.compile(r'^(\d+)\s+(\w+)\((.*)\)\s+= (0x[0-9a-f]+|-?\d+|\?)(.*)$', re.S)
@@ -54,8 +54,8 @@ class Call:
         return self.arguments[index] if index < len(self.arguments) else default
 
     def descriptor(self, index: int = 0) -> Descriptor:
-        """The descriptor in the argument with this index, from 0. Its number is -1 if there is no
-        such argument, or it is no descriptor. LogError as in parse_descriptor()."""
+        """The descriptor in the argument with this index, from 0. NO_DESCRIPTOR if there is no such
+        argument, or it is no descriptor. LogError as in parse_descriptor()."""
         return arguments.parse_descriptor(self.argument(index))
 
 
@@ -199,8 +199,7 @@ class LogReader:
         """Adds an event of a thread, on one line, as a call without arguments, whose name is EXIT
         or SUPERSEDE. The result is 0 for EXIT; for SUPERSEDE it is the number that the thread had
         before."""
-        no_descriptor = Descriptor(-1, None, is_deleted=False)
-        event = Call(thread, name, [], result, no_descriptor, begin=number, end=number)
+        event = Call(thread, name, [], result, NO_DESCRIPTOR, begin=number, end=number)
         self.log.calls.append(event)
 
 
