@@ -2,10 +2,16 @@
 
 import unittest
 from typing import List, Sequence
+from unittest import mock
 
+from crashfs_tools.common.sparse import PAGE_BYTES
 from crashfs_tools.common.trace import Start
-from crashfs_tools.recorder.mapped_files import FileCopies, FileCopy
+from crashfs_tools.recorder.arguments import NO_DESCRIPTOR
+from crashfs_tools.recorder.live_tree import Node
+from crashfs_tools.recorder.mapped_files import NO_THREAD, FileCopies, FileCopy
+from crashfs_tools.recorder.mapped_stores import add_stores, copies_by_call, differing_range
 from crashfs_tools.recorder.recording import Recording
+from crashfs_tools.recorder.strace_log import Call
 
 from .support import recording_of, short
 
@@ -38,6 +44,101 @@ def after_copies(copies: List[FileCopy], log: Sequence[str] = tuple(LOG)) -> Rec
         if MAP in line
     }
     return recording_of(list(log), START, copies=FileCopies(copies, numbers))
+
+
+class Differences(unittest.TestCase):
+    """The stores that a copy of a mapped file shows."""
+
+    def add(self, node: Node, data: bytes, *, has_one_writer: bool = True) -> mock.Mock:
+        node.names.add('/f')
+        files = mock.Mock()
+        files.write_bytes.side_effect = lambda node, offset, data: node.write(offset, data)
+        add_stores(files, node, data, has_one_writer=has_one_writer)
+        return files
+
+    def test_the_smallest_range_has_all_that_differs(self) -> None:
+        for old, new, wanted in (
+            (b'abcd', b'abcd', (0, 0)),
+            (b'', b'', (0, 0)),
+            (b'abcd', b'aBcD', (1, 4)),
+            (b'abcd', b'Abcd', (0, 1)),
+            (b'abcd', b'abcD', (3, 4)),
+        ):
+            self.assertEqual(differing_range(old, new), wanted)
+
+    def test_each_page_that_differs_has_a_write_of_its_own(self) -> None:
+        node = Node.file(0o644, bytes(3 * PAGE_BYTES))
+        new = bytearray(3 * PAGE_BYTES)
+        new[7:9] = b'ab'
+        new[2 * PAGE_BYTES + 1] = 1
+        for has_one_writer, reports in ((True, 0), (False, 2)):
+            node = Node.file(0o644, bytes(3 * PAGE_BYTES))
+            files = self.add(node, bytes(new), has_one_writer=has_one_writer)
+            self.assertEqual(
+                files.write_bytes.call_args_list,
+                [mock.call(node, 7, b'ab'), mock.call(node, 2 * PAGE_BYTES + 1, b'\1')],
+            )
+            self.assertEqual(files.recording.report.call_count, reports)
+
+    def test_a_copy_of_another_length_is_only_reported(self) -> None:
+        files = self.add(Node.file(0o644, b'1'), b'22')
+        files.write_bytes.assert_not_called()
+        files.recording.report.assert_called_once_with(
+            'a copy of the mapped file has another size than is known', '/f'
+        )
+
+    def test_a_file_whose_bytes_are_not_followed_gets_no_stores(self) -> None:
+        files = self.add(Node.unknown(), b'22')
+        files.write_bytes.assert_not_called()
+        files.recording.report.assert_not_called()
+
+    def test_no_more_is_written_after_a_write_that_the_trace_can_not_have(self) -> None:
+        node = Node.file(0o644, bytes(2 * PAGE_BYTES))
+        files = mock.Mock()
+        files.write_bytes.side_effect = lambda node, offset, data: node.drop_bytes()
+        add_stores(files, node, b'1' * 2 * PAGE_BYTES, has_one_writer=True)
+        self.assertEqual(files.write_bytes.call_count, 1)
+
+
+def call(thread: int, line: int, name: str) -> Call:
+    return Call(thread, name, [], 0, NO_DESCRIPTOR, line, line)
+
+
+class CallsOfCopies(unittest.TestCase):
+    """The call before which the stores that a copy shows were made."""
+
+    def assert_call(self, calls: List[Call], copies: List[FileCopy], wanted: Call) -> None:
+        """The last copy is of this call; in the trace the calls are in the opposite order."""
+        found = copies_by_call(calls, calls[::-1], FileCopies(copies))
+        self.assertEqual(found, {id(wanted): copies[-1:]})
+
+    def test_stores_of_a_thread_that_is_alone_are_before_its_last_call(self) -> None:
+        calls = [call(1, 2, 'write'), call(2, 3, 'fsync'), call(1, 5, 'write')]
+        self.assert_call(calls, [FileCopy(4, 1, True, {0: b'a'})], calls[0])
+        self.assert_call(calls, [FileCopy(4, 2, True, {0: b'a'})], calls[1])
+
+    def test_stores_of_one_of_several_threads_are_before_the_first_stopping_call(self) -> None:
+        calls = [
+            call(1, 1, 'write'),
+            call(1, 2, 'write'),
+            call(2, 3, 'fsync'),
+            call(3, 4, 'openat'),
+        ]
+        earlier = FileCopy(1, 1, False, {})
+        copy = FileCopy(4, 1, False, {0: b'a'})
+        self.assert_call(calls, [earlier, copy], calls[2])
+        # No stopping call ended since the earlier copy.
+        earlier = FileCopy(3, 2, False, {})
+        self.assert_call(calls, [earlier, copy], calls[1])
+
+    def test_a_thread_without_a_call_has_the_newest_call(self) -> None:
+        calls = [call(1, 1, 'write'), call(2, 2, 'openat')]
+        self.assert_call(calls, [FileCopy(2, 3, True, {0: b'a'})], calls[1])
+
+    def test_copies_without_files_and_the_last_copy_are_of_no_call(self) -> None:
+        calls = [call(1, 1, 'write')]
+        copies = [FileCopy(1, 1, True, {}), FileCopy(2, NO_THREAD, True, {0: b'a'})]
+        self.assertEqual(copies_by_call(calls, calls, FileCopies(copies)), {})
 
 
 class Stores(unittest.TestCase):

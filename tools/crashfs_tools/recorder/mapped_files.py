@@ -46,6 +46,8 @@ STOPPING_CALLS = (
     'mremap',
     'copy_file_range',
 )
+# The thread of a copy for which none was stopped.
+NO_THREAD = 0
 MAPPED = re.compile(
     r'^(\d+) +mmap2?\([^,]*, \d+, [^,]*, [^,]*MAP_SHARED[^,]*, (\d+)<((?:\\x[0-9a-f]{2})+)>'
 )
@@ -53,13 +55,13 @@ MAPPED = re.compile(
 
 @dataclass
 class FileCopy:
-    """The bytes of the mapped files that changed since the copy before, by their numbers. line is
-    the number of the log's last line that had been read. thread is the one that was stopped, 0 for
-    the copy at the end. is_alone means that its process has no other thread, and that no thread ran
-    while the copy before was made; the copy at the end has it too. shared_numbers has the files
-    that other processes may have mapped too."""
+    """The bytes of the mapped files that changed since the copy before, by their numbers.
+    line_number is that of the log's last line that had been read. thread is the one that was
+    stopped, NO_THREAD for the copy at the end. is_alone means that its process has no other thread,
+    and that no thread ran while the copy before was made; the copy at the end has it too.
+    shared_numbers has the files that other processes may have mapped too."""
 
-    line: int
+    line_number: int
     thread: int
     is_alone: bool
     bytes_by_number: Dict[int, Bytes]
@@ -68,7 +70,7 @@ class FileCopy:
     @property
     def is_last(self) -> bool:
         """Whether it is the copy at the end, for which no thread was stopped."""
-        return self.thread == 0
+        return self.thread == NO_THREAD
 
     def has_one_writer(self, number: int) -> bool:
         """Whether only the stopped thread could store to the file with this number. True for the
@@ -147,11 +149,12 @@ class MappedFiles:
         self.file_copies.numbers_by_line[line_number] = self.numbers[inode]
 
     def copy_changed_files(
-        self, line: int, thread: int, *, is_alone: bool, other_threads: Iterable[int] = ()
+        self, line_number: int, thread: int, *, is_alone: bool, other_threads: Iterable[int] = ()
     ) -> None:
-        """Adds a copy of the files that changed since the copy before, also if none did. `line`,
-        `thread` and is_alone are as in FileCopy; other_threads are the threads of other processes.
-        OSError if a file can't be read: then no copy is added, and newest_bytes stays."""
+        """Adds a copy of the files that changed since the copy before, also if none did.
+        line_number, thread and is_alone are as in FileCopy; other_threads are the threads of other
+        processes. OSError if a file can't be read: then no copy is added, and newest_bytes
+        stays."""
         changed_bytes: Dict[int, Bytes] = {}
         for number, descriptor in enumerate(self.descriptors):
             data = read_file_bytes(descriptor)
@@ -161,7 +164,7 @@ class MappedFiles:
         mapped_numbers = self.numbers_mapped_by(other_threads) if changed_bytes else set()
         self.file_copies.copies.append(
             FileCopy(
-                line=line,
+                line_number=line_number,
                 thread=thread,
                 is_alone=is_alone,
                 bytes_by_number=changed_bytes,
@@ -183,9 +186,10 @@ class MappedFiles:
             number for (_, inode), number in self.numbers.items() if str(inode) in mapped_inodes
         }
 
-    def make_last_copy(self, line: int) -> None:
+    def make_last_copy(self, line_number: int) -> None:
         """Adds the last copy, of what the program left, and closes the files; to be called once.
-        OSError if a file can't be read: then no copy is added, and all files stay open."""
-        self.copy_changed_files(line, 0, is_alone=True)
+        line_number is as in FileCopy. OSError if a file can't be read: then no copy is added, and
+        all files stay open."""
+        self.copy_changed_files(line_number, NO_THREAD, is_alone=True)
         for descriptor in self.descriptors:
             os.close(descriptor)

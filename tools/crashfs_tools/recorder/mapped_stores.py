@@ -10,9 +10,9 @@ from typing import Callable, Dict, Iterator, List, Optional, Tuple
 from crashfs_tools.common.file_bytes import Bytes
 from crashfs_tools.common.sparse import PAGE_BYTES, SparseBytes, pages_to_compare
 
+from .live_files import LiveFiles
 from .live_tree import Node
 from .mapped_files import STOPPING_CALLS, FileCopies, FileCopy
-from .live_files import LiveFiles
 from .strace_log import Call
 
 NOT_ALONE = (
@@ -89,7 +89,7 @@ def copies_with_calls(
     ends = [call.end for call in calls]
     begin = 0
     for copy in file_copies.copies:
-        end = bisect.bisect_right(ends, copy.line)
+        end = bisect.bisect_right(ends, copy.line_number)
         yield copy, calls[begin:end]
         begin = end
 
@@ -128,6 +128,7 @@ def add_stores(files: LiveFiles, node: Node, data: Bytes, *, has_one_writer: boo
             files.recording.report(NOT_ALONE, node.name)
         files.write_bytes(node, page + start, data[page + start : page + end])
         if node.data is None:
+            # The trace can't have the write, so the file's bytes aren't followed any more.
             return
 
 
