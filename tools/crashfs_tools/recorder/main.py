@@ -171,11 +171,18 @@ def report_written_trace(
     except Stopped as stopped:
         print_text(f'stopped by {stopped}; {WRITTEN}')
         return stopped.status
-    except OSError as error:
-        print_text(f'{error.filename or options.out}: {error.strerror}; {WRITTEN}')
     except Exception as error:
-        print_own_fault(NAME, error, WRITTEN)
+        print_error(error, options.out, WRITTEN)
     return summary.NOT_WHOLE
+
+
+def print_error(error: Exception, out: str, outcome: str) -> None:
+    """Prints a line on an error, with `outcome`: whether the trace is written to the path `out`. An
+    OSError that names no file is of `out`; an error of another type is an internal one."""
+    if isinstance(error, OSError):
+        print_text(f'{error.filename or out}: {error.strerror}; {outcome}')
+    else:
+        print_own_fault(NAME, error, outcome)
 
 
 def trace_settings(options: RecordOptions) -> TraceSettings:
@@ -316,8 +323,6 @@ def main(arguments: Optional[List[str]] = None) -> int:
         return stopped.status
     except (Refused, LogError) as refused:
         print_text(f'{refused}')
-    except OSError as error:
-        print_text(f'{error.filename or options.out}: {error.strerror}; {NOT_WRITTEN}')
     except Exception as error:
-        print_own_fault(NAME, error, NOT_WRITTEN)
+        print_error(error, options.out, NOT_WRITTEN)
     return NOTHING_WRITTEN
