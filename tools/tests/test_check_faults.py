@@ -1,11 +1,14 @@
 """Faults in the middle of a check, and faults that nobody expected: nothing that was tried is lost,
 and no status is that of a verdict."""
 
+import errno
+import io
 import json
 import os
 import signal
 import subprocess
 import sys
+import tempfile
 import unittest
 from pathlib import Path
 from unittest import mock
@@ -252,6 +255,21 @@ class OfItsOwn(InStore):
                 self.assertEqual(ran.stderr.count('\n'), 1, ran.stderr)
                 self.assertIn(line, ran.stderr[:200])
                 self.assertNotIn('Traceback', ran.stderr)
+
+    def test_a_process_or_a_pipe_that_there_is_no_room_for_is_blamed_on_no_file(self):
+        temporary = tempfile.gettempdir()
+        for number, wanted in [
+            (errno.EAGAIN, 'a process can not be started: Resource temporarily unavailable'),
+            (errno.ENOMEM, 'a process can not be started: Cannot allocate memory'),
+            (errno.EMFILE, 'a pipe can not be opened: Too many open files'),
+            (errno.ENOSPC, f'{temporary}: No space left on device'),
+        ]:
+            for name in (None, '/named'):
+                fault = OSError(number, os.strerror(number), name)
+                with mock.patch('sys.stderr', io.StringIO()) as printed:
+                    main.print_fault(fault)
+                line = f'/named: {fault.strerror}' if name else wanted
+                self.assertEqual(printed.getvalue(), f'crashfs-check: {line}\n')
 
     def test_a_fault_is_a_line_and_its_traceback_is_asked_for(self):
         fails = mock.Mock(side_effect=KeyError('a bug\x1b'))

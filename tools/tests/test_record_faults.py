@@ -101,10 +101,14 @@ class WithoutStrace(InRecordings):
         with mock.patch.dict(os.environ, {own_faults.TRACEBACK: '1'}):
             status, shown = self.fails_in(place, KeyError('ours'), *words)
         self.assertIn('Traceback', shown)
+        status, shown = self.fails_in(place, OSError(24, 'Too many open files'), *words)
+        self.assertIn('a pipe can not be opened: Too many open files; no trace is', shown)
         place = 'crashfs_tools.recorder.summary.summary_line'
         for error, told in [
             (RecursionError('deep'), 'internal error: RecursionError: deep; the trace is'),
             (OSError(5, 'Input/output error', 'x'), 'x: Input/output error; the trace is written'),
+            (OSError(11, 'No room'), 'a process can not be started: No room; the trace is written'),
+            (OSError(5, 'Input/output error'), f'{words[1]}: Input/output error; the trace is'),
         ]:
             status, shown = self.fails_in(place, error, *words)
             self.assertEqual(status, 3)

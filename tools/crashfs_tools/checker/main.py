@@ -15,7 +15,7 @@ from crashfs_tools.checker.report.report import NOT_ALL_TRIED
 from crashfs_tools.checker.running.progress import Progress
 from crashfs_tools.checker.running.runner import LeftRunning
 from crashfs_tools.checker.states.plan import PlanError
-from crashfs_tools.common.command import Refused, print_line
+from crashfs_tools.common.command import Refused, error_text, print_line
 from crashfs_tools.common.guard import Guard
 from crashfs_tools.common.own_faults import print_own_fault
 from crashfs_tools.common.program import ProgramFault
@@ -135,11 +135,11 @@ def write_and_print(options: Options, report: Report) -> int:
 
 def print_fault(fault: BaseException) -> None:
     """Prints a fault that the user can repair, as lines that name it, and any other Exception as a
-    fault of these tools. An OSError that names no file is printed with the directory of temporary
-    files. Nothing is printed for a KeyboardInterrupt, or another exception that is no
-    Exception."""
+    fault of these tools. An OSError that names no file is printed as error_text(): with what the
+    system has no room for, or with the directory of temporary files. Nothing is printed for a
+    KeyboardInterrupt, or another exception that is no Exception."""
     if isinstance(fault, OSError) and fault.strerror:
-        print_line(NAME, f'{fault.filename or tempfile.gettempdir()}: {fault.strerror}')
+        print_line(NAME, error_text(fault, tempfile.gettempdir()))
     elif isinstance(fault, (Refused, PlanError, ProgramFault)):
         for line in str(fault).split('\n'):
             print_line(NAME, line)

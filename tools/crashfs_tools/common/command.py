@@ -4,6 +4,7 @@ it ended, and the lines that a command prints of itself."""
 from __future__ import annotations
 
 import argparse
+import errno
 import io
 import os
 import shutil
@@ -24,6 +25,13 @@ TEXT: Dict[str, Any] = {'encoding': 'utf-8', 'errors': 'surrogateescape', 'newli
 NOT_PRINTED = 3
 # No line is longer: a fault may name a number of millions of digits. A path has 4,096 bytes.
 LINE_CHARACTERS = 8192
+# What failed if an OSError with one of these numbers names no file: fork(2) or pipe(2).
+FAILED_CALLS = {
+    errno.EAGAIN: 'a process can not be started',
+    errno.ENOMEM: 'a process can not be started',
+    errno.EMFILE: 'a pipe can not be opened',
+    errno.ENFILE: 'a pipe can not be opened',
+}
 
 
 class Refused(Exception):
@@ -161,6 +169,14 @@ def last_line(output: str) -> str:
     at both ends of the output are left out."""
     lines = output.strip().splitlines()
     return lines[-1] if lines else ''
+
+
+def error_text(error: OSError, unnamed_file: str) -> str:
+    """An OSError that has a number, as a text: the file that it names, and why. If it names none,
+    the text begins with what failed as in FAILED_CALLS or, for other numbers, with unnamed_file: the
+    file that was written or read."""
+    subject = error.filename or FAILED_CALLS.get(error.errno or 0, unnamed_file)
+    return f'{subject}: {error.strerror}'
 
 
 def print_line(program: str, text: str) -> None:

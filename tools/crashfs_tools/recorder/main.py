@@ -8,7 +8,7 @@ from dataclasses import dataclass
 from typing import List, Optional, Tuple
 
 from crashfs_tools.common import descendants
-from crashfs_tools.common.command import Refused, print_line
+from crashfs_tools.common.command import Refused, error_text, print_line
 from crashfs_tools.common.guard import Guard
 from crashfs_tools.common.own_faults import print_own_fault
 from crashfs_tools.common.printable import escape_unprintable
@@ -180,7 +180,7 @@ def print_error(error: Exception, out: str, outcome: str) -> None:
     """Prints a line on an error, with `outcome`: whether the trace is written to the path `out`. An
     OSError that names no file is of `out`; an error of another type is an internal one."""
     if isinstance(error, OSError):
-        print_text(f'{error.filename or out}: {error.strerror}; {outcome}')
+        print_text(f'{error_text(error, out)}; {outcome}')
     else:
         print_own_fault(NAME, error, outcome)
 
