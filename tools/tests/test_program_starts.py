@@ -80,15 +80,15 @@ class Starts(Listing):
 
 
 class Archived(Listing):
-    def kept_trees(self, planned: PlannedTrace, keeps_all: bool = True) -> Any:
+    def loaded_trees(self, planned: PlannedTrace, loads_all: bool = True) -> Any:
         program, guard = Crashfs(FAKE, is_unproved=True), Guard('test', may_reap=False)
         with guard:
-            return PlanTrees(program, planned, guard, keeps_all).kept
+            return PlanTrees(program, planned, guard, loads_all).loaded
 
     def test_each_state_of_a_small_plan_has_its_tree(self) -> None:
         planned = self.planned(STORE)
-        program, trees = Crashfs(FAKE, is_unproved=True), self.kept_trees(planned)
-        # No program is started for trees that are kept.
+        program, trees = Crashfs(FAKE, is_unproved=True), self.loaded_trees(planned)
+        # No program is started for trees that are loaded.
         layout = Archive(Crashfs('/none'), planned, self.temporary, {}, trees)
         for state in planned.plan.listed:
             ((number, directory),) = layout.states({state.number})
@@ -103,17 +103,17 @@ class Archived(Listing):
             self.assertEqual((number, found), (state.number, wanted))
             self.assertFalse(os.path.exists(directory))
 
-    def test_trees_of_a_larger_plan_are_not_kept(self) -> None:
+    def test_trees_of_a_larger_plan_are_not_loaded(self) -> None:
         planned = self.planned(STORE)
         count = len({state.same for state in planned.plan.listed})
-        for bounds, is_kept in (
+        for bounds, are_loaded in (
             ({'MOST_TREES': count, 'MOST_BYTES': 1 << 20}, True),
             ({'MOST_TREES': count - 1, 'MOST_BYTES': 1 << 20}, False),
             ({'MOST_TREES': count, 'MOST_BYTES': 11}, False),
         ):
             with self.subTest(bounds), mock.patch.multiple(plan_trees, **bounds):
-                self.assertEqual(len(self.kept_trees(planned)), count if is_kept else 0)
-        self.assertEqual(self.kept_trees(planned, keeps_all=False), {})
+                self.assertEqual(len(self.loaded_trees(planned)), count if are_loaded else 0)
+        self.assertEqual(self.loaded_trees(planned, loads_all=False), {})
 
     def test_trees_are_large_if_they_are_large_at_any_time(self) -> None:
         start = '{"start":"dir","path":"/d"}\n'
@@ -128,14 +128,14 @@ class Archived(Listing):
             (say_of(524_288) + '\n' + say_of(524_288), True),
         ):
             planned: Any = SimpleNamespace(trace=self.write('much.trace', text))
-            trees = PlanTrees(mock.Mock(), planned, mock.Mock(), keeps_all=False)
+            trees = PlanTrees(mock.Mock(), planned, mock.Mock(), loads_all=False)
             self.assertEqual(trees.are_large, expected, text[:99])
 
     def test_a_program_that_leaves_a_state_out_is_named(self) -> None:
         planned = self.planned(STORE)
         planned.parts[0] = planned.parts[0]._replace(end=2)
         with self.assertRaisesRegex(ProgramFault, 'crashfs tar wrote no state 2'):
-            self.kept_trees(planned)
+            self.loaded_trees(planned)
 
 
 class OtherNeeds(Listing):

@@ -150,7 +150,7 @@ class Check:
         before the details of its window, unless all states of the session were tried; such a state
         of a second crash ends it after its recovery. Any other early end is an exception."""
         for planned in self.trace.all_planned():
-            trials = Trials(self.trace.workplace, planned, keeps_trees=True)
+            trials = Trials(self.trace.workplace, planned, loads_all_trees=True)
             is_whole = self.try_window(trials)
             assert self.last_window is not None
             window = self.last_window

@@ -14,7 +14,7 @@ from typing import Callable, Dict, Generator, Iterator, List, Optional
 
 from crashfs_tools.checker.running.runner import Outcome
 from crashfs_tools.checker.running.trials import Trials
-from crashfs_tools.checker.states.place_sets import first_lacking, missing_set, places_of
+from crashfs_tools.checker.states.place_sets import first_missing, missing_set, places_of
 from crashfs_tools.checker.states.plan import Plan, State
 from crashfs_tools.checker.states.planning import Planner
 
@@ -215,7 +215,7 @@ def shortest_beginning(kept_set: int) -> Generator[int, bool, int]:
     """A part of loss_search, by binary search: the shortest beginning of a set that still lacks
     something and fails alike. The set must lack something. If EndSearch is thrown into the search,
     it returns the shortest beginning so far."""
-    lost = first_lacking(kept_set)
+    lost = first_missing(kept_set)
     assert lost is not None
     ends = [place for place in places_of(kept_set) if place > lost]
     low, high = 0, len(ends) - 1

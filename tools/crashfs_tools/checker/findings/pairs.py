@@ -27,7 +27,7 @@ from enum import Enum
 from typing import Dict, NamedTuple, Optional
 
 from crashfs_tools.checker.running.runner import GOOD, Outcome
-from crashfs_tools.checker.states.place_sets import first_lacking, places_of
+from crashfs_tools.checker.states.place_sets import first_missing, places_of
 from crashfs_tools.checker.states.plan import Plan, State
 
 
@@ -44,7 +44,7 @@ class Pair(NamedTuple):
         """The pair of a set: its last place was kept, and the first place that it lacks before that
         one was lost."""
         kept = kept_set.bit_length() - 1 if kept_set else None
-        return Pair(kept, first_lacking(kept_set))
+        return Pair(kept, first_missing(kept_set))
 
     def may_explain(self, kept_set: int) -> bool:
         """Whether a set has the micro-operation that the pair kept, and lacks the one that it lost.

@@ -25,7 +25,7 @@ def find_differences(trials: Trials, findings: Findings) -> None:
     groups, or all, have no difference."""
     compared = compared_states(findings)
     examples = [group.example.number for group, _ in compared]
-    trials.trees.keep([*examples, *(good_state.number for _, good_state in compared)])
+    trials.trees.load([*examples, *(good_state.number for _, good_state in compared)])
     for group, good_state in compared:
         numbers = [group.example.number, good_state.number]
         lines = list(difference_lines(*trials.trees.of_states(numbers)))

@@ -60,11 +60,11 @@ class Workplace:
 
 
 class Trials:
-    """Tries the states of one plan, whose trees `trees` reads. With keeps_trees these keep all
-    trees of a small plan, which pays for trials that need most of them."""
+    """Tries the states of one plan, whose trees `trees` reads. With loads_all_trees these load all
+    trees of a small plan at once, which pays for trials that need most of them."""
 
     def __init__(
-        self, workplace: Workplace, planned: PlannedTrace, keeps_trees: bool = False
+        self, workplace: Workplace, planned: PlannedTrace, *, loads_all_trees: bool = False
     ) -> None:
         """Nothing is read or started here, only when it is needed."""
         self.workplace = workplace
@@ -74,12 +74,12 @@ class Trials:
         self.acknowledged_lines = workplace.acknowledged_lines
         self.planned = planned
         self.plan = planned.plan
-        self.trees = PlanTrees(self.program, planned, self.guard, keeps_all=keeps_trees)
+        self.trees = PlanTrees(self.program, planned, self.guard, loads_all=loads_all_trees)
 
     def with_plan(self, planned: PlannedTrace, program: Crashfs) -> Trials:
         """Trials of another plan, such as that of a recovery, with the same COMMAND and workplace,
-        but with trees that another program makes. They keep the trees."""
-        return Trials(replace(self.workplace, program=program), planned, keeps_trees=True)
+        but with trees that another program makes. They load all trees at once."""
+        return Trials(replace(self.workplace, program=program), planned, loads_all_trees=True)
 
     def new_checker(self) -> Checker:
         """A checker for COMMAND, or for the function in its place, with the environment that this
@@ -92,9 +92,10 @@ class Trials:
         )
 
     def archive_layout(self, folder: str) -> Archive:
-        """A layout that makes states below a folder, each in a directory of its own, from the kept
-        trees if these are enough. Errors as in PlanTrees.kept."""
-        return Archive(self.program, self.planned, folder, self.guard.environment, self.trees.kept)
+        """A layout that makes states below a folder, each in a directory of its own, from the
+        loaded trees if these are enough. Errors as in PlanTrees.loaded."""
+        environment, loaded = self.guard.environment, self.trees.loaded
+        return Archive(self.program, self.planned, folder, environment, loaded)
 
     def new_layout(self, is_for_many: bool = False) -> Layout:
         """A new layout, below the guard's directory or, with --serve, that of server_layout(). If
@@ -126,13 +127,13 @@ class Trials:
     ) -> Outcome:
         """The outcome of a state, by a run of COMMAND or from the cache. `attempt`, a number below
         ATTEMPTS, says which of the state's outcomes in the cache it is. next_numbers are those of
-        the states whose trees are needed next, see PlanTrees.keep(). Exceptions as there and in
+        the states whose trees are needed next, see PlanTrees.load(). Exceptions as there and in
         pass_cached_outcomes(), new_layout() and run_workers()."""
         number = state.number
         outcomes: Dict[int, Outcome] = {}
         if self.pass_cached_outcomes({number}, outcomes.__setitem__, attempt):
             if self.options.serve is None:
-                self.trees.keep([number], next_numbers)
+                self.trees.load([number], next_numbers)
             self.run_workers(self.new_layout(), {number}, outcomes.__setitem__, attempt)
         return outcomes[number]
 

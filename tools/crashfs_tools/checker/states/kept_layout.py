@@ -13,20 +13,22 @@ from crashfs_tools.common.program import Crashfs
 
 from .changes import read_changes
 from .kept_tree import KeptTree
-from .layout import Archive, with_all_wanted
+from .layout import Layout, with_all_wanted
 from .plan import PlannedTrace, Request
 
 
-class KeptLayout(Archive):
-    """Lays all states out in one directory of each process that calls states(). kept_tree is that
-    of this process, None before the call."""
+class KeptLayout(Layout):
+    """Lays all states out below a folder, in one directory of each process that calls states().
+    kept_tree is that of this process, None before the call."""
 
     def __init__(
         self, program: Crashfs, planned: PlannedTrace, folder: str, environment: Dict[str, str]
     ) -> None:
-        """Asks the program for the start tree; ProgramFault if it fails."""
-        super().__init__(program, planned, folder, environment, kept={})
-        words = [*planned.parts[0].options_without_picks, '--state', '0']
+        """Asks the program, which gets the environment, for the start tree; ProgramFault if it
+        fails."""
+        self.program, self.planned = program, planned
+        self.folder, self.environment = folder, environment
+        words = [*planned.parts[0].options.without_picks, '--state', '0']
         with program.open_archive(words, environment) as members:
             self.start: Entries = dict(members)
         self.kept_tree: Optional[KeptTree] = None

@@ -59,14 +59,14 @@ class Layout(ABC):
 @dataclass
 class Archive(Layout):
     """Lays states out below a folder, which must exist, each as a directory whose name is the
-    state's number. The environment is that of the program. kept has trees of the plan that are in
+    state's number. The environment is that of the program. loaded has trees of the plan that are in
     memory, maybe none: if it has those of all states that are wanted, the program isn't started."""
 
     program: Crashfs
     planned: PlannedTrace
     folder: str
     environment: Dict[str, str]
-    kept: TreesByState
+    loaded: TreesByState
 
     @contextmanager
     def laid_out(self, number: int, directory: str) -> Iterator[None]:
@@ -82,13 +82,13 @@ class Archive(Layout):
         if a directory can't be made or filled: a part of it stays. ProgramFault if the program
         fails and, after the other states, if it lacks one."""
         first_numbers = {number: self.planned.plan.state(number).same for number in wanted}
-        if not self.kept.keys() >= set(first_numbers.values()):
+        if not self.loaded.keys() >= set(first_numbers.values()):
             yield from read_trees(
                 self.program, self.planned, wanted, self.environment, self.make_directory
             )
             return
         for number in sorted(wanted):
-            yield number, self.make_directory(number, self.kept[first_numbers[number]])
+            yield number, self.make_directory(number, self.loaded[first_numbers[number]])
 
     def make_directory(self, number: int, tree: Iterable[Member]) -> str:
         """Makes the directory of a state, with its tree, and returns the directory's path, which

@@ -39,6 +39,6 @@ def missing_set(members: int) -> int:
     return prefix_set(members.bit_length()) & ~members
 
 
-def first_lacking(members: int) -> Optional[int]:
-    """The first place that a set lacks before its last member; None if it lacks none."""
+def first_missing(members: int) -> Optional[int]:
+    """The first place of a set's missing_set(); None if that is empty."""
     return next(places_of(missing_set(members)), None)

@@ -5,7 +5,7 @@ from __future__ import annotations
 from dataclasses import dataclass
 from typing import Dict, Iterable, Iterator, List, NamedTuple, Optional, Sequence, Tuple
 
-from .place_sets import missing_set, places_of, prefix_set, set_of, size_of
+from .place_sets import first_missing, missing_set, places_of, prefix_set, set_of, size_of
 
 
 class PlanError(Exception):
@@ -131,11 +131,11 @@ class Needs:
 
     def is_prefix_or_hole(self, members: int) -> bool:
         """Whether an allowed set is that of a prefix or of a hole of the plan."""
-        missing = missing_set(members)
-        first_missing = next(places_of(missing), None)
-        if first_missing is None:
+        missing = first_missing(members)
+        if missing is None:
             return True
-        return missing == self.set_needing(first_missing) & prefix_set(members.bit_length())
+        lost_set = self.set_needing(missing) & prefix_set(members.bit_length())
+        return missing_set(members) == lost_set
 
     def is_allowed(self, members: int) -> bool:
         """Whether a set has all that its members need, so that a crash may leave it."""
@@ -221,11 +221,11 @@ class Plan:
         return self.listed[: self.all_states.families] if self.all_states else self.listed
 
     @property
-    def first_and_last_prefix(self) -> List[State]:
+    def first_and_last_prefix(self) -> Tuple[State, State]:
         """The shortest and the longest prefix that may be tried; one twice if there is no other.
         The plan must have prefixes."""
         prefixes = [state for state in self.states if state.family == 'prefix']
-        return [prefixes[0], prefixes[-1]]
+        return prefixes[0], prefixes[-1]
 
     def has_state(self, number: int) -> bool:
         """Whether a state of this number is listed."""
@@ -265,21 +265,28 @@ class Plan:
         return missing_set(self.kept[state.number])
 
 
+class PlanOptions(NamedTuple):
+    """What names a plan for the program: the options for its trace and its families, and the path
+    of its file of picks, which is empty if it has none. Without the picks the prefixes and holes
+    have the same numbers, but the program needn't read that file."""
+
+    without_picks: List[str]
+    picks_path: str = ''
+
+    @property
+    def with_picks(self) -> List[str]:
+        """All options: that for the picks, if there are any, comes last."""
+        return [*self.without_picks, *(['--picks', self.picks_path] if self.picks_path else [])]
+
+
 class Part(NamedTuple):
     """The states of a plan from the number `first` to before `end`. options name them for the
     program, in which the first of them has the number first_in_program."""
 
-    options: List[str]
+    options: PlanOptions
     first: int
     end: int
     first_in_program: int
-
-    @property
-    def options_without_picks(self) -> List[str]:
-        """The options without the file of picks: by these the program gives the prefixes and holes
-        of the part the same numbers, but needn't read the picks."""
-        end = self.options.index('--picks') if '--picks' in self.options else None
-        return self.options[:end]
 
 
 class Request(NamedTuple):
@@ -315,8 +322,8 @@ class PlannedTrace:
     def files(self) -> List[str]:
         """The paths of the files that the plan is made from: the trace, which is the user's own
         file unless the session is in windows, and the picks of the parts."""
-        option_pairs = (pair for part in self.parts for pair in zip(part.options, part.options[1:]))
-        return [self.trace, *(path for option, path in option_pairs if option == '--picks')]
+        picks_paths = (part.options.picks_path for part in self.parts)
+        return [self.trace, *filter(None, picks_paths)]
 
     def requests(self, numbers: Iterable[int]) -> Iterator[Request]:
         """Yields a request for each part that has some of the states of these numbers, in the order
@@ -329,7 +336,7 @@ class PlannedTrace:
                 has_picks = any(
                     self.plan.state(number).family == 'pick' for number in numbers_of_part
                 )
-                options = part.options if has_picks else part.options_without_picks
+                options = part.options.with_picks if has_picks else part.options.without_picks
                 number_offset = part.first - part.first_in_program
                 ranges = ranges_text(number - number_offset for number in numbers_of_part)
                 yield Request([*options, '--states', ranges], number_offset)

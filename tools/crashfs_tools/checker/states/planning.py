@@ -16,7 +16,17 @@ from crashfs_tools.common.program import Crashfs, ProgramFault, is_plan_too_larg
 
 from .all_sets import AllSets, ReadingSets, all_sets
 from .place_sets import places_of, size_of
-from .plan import AllStates, Needs, Offsets, Part, Plan, PlannedTrace, SetProfiles, State
+from .plan import (
+    AllStates,
+    Needs,
+    Offsets,
+    Part,
+    Plan,
+    PlannedTrace,
+    PlanOptions,
+    SetProfiles,
+    State,
+)
 from .plan_trees import is_small
 from .read_plan import read_plan
 
@@ -111,7 +121,7 @@ class Planner:
         try:
             return ReadingSets(trace)
         except ReadingFault as fault:
-            self.run_program(['list', '--trace', trace, '--json'])
+            self.list_plan(PlanOptions(['--trace', trace]))
             raise Refused(f'{trace}: the second reading refuses it: {fault}') from fault
 
     def plan_all_states(
@@ -180,7 +190,7 @@ class Planner:
         the parts of write_parts(). The second reading finds equal states of different parts.
         Refused or TooLarge if the program refuses a part; OSError as write_parts()."""
         options_of_parts = self.write_parts(trace, picks_of_parts)
-        listings = [self.run_program(['list', *options, '--json']) for options in options_of_parts]
+        listings = [self.list_plan(options) for options in options_of_parts]
         plan = read_plan(listings[0], offsets, listings[1:])
         if len(options_of_parts) > 1:
             from .joining import joined_states
@@ -189,19 +199,20 @@ class Planner:
         parts = make_parts(plan, options_of_parts, [len(sets) for sets in picks_of_parts])
         return PlannedTrace(trace, parts, plan, offsets)
 
-    def write_parts(self, trace: str, picks_of_parts: Sequence[Sequence[int]]) -> List[List[str]]:
+    def write_parts(self, trace: str, picks_of_parts: Sequence[Sequence[int]]) -> List[PlanOptions]:
         """Writes a file of picks for each part of a plan, and returns the options that name each
         part. Every part has the prefixes; only the first one has the holes. Without any pick there
         is one part, and no file. OSError if a file can't be written."""
         first_options = ['--trace', trace, *([] if self.options.prefixes else ['--holes'])]
         if not any(picks_of_parts):
-            return [first_options]
-        options_of_parts = []
-        for number, sets in enumerate(picks_of_parts):
-            path = self.write_picks(trace, f'.picks{number or ""}', sets)
-            own_options = first_options if number == 0 else ['--trace', trace]
-            options_of_parts.append([*own_options, '--picks', path])
-        return options_of_parts
+            return [PlanOptions(first_options)]
+        return [
+            PlanOptions(
+                first_options if number == 0 else ['--trace', trace],
+                self.write_picks(trace, f'.picks{number or ""}', sets),
+            )
+            for number, sets in enumerate(picks_of_parts)
+        ]
 
     def plan_sets(self, planned: PlannedTrace, sets: Iterable[int]) -> PlannedTrace:
         """A plan of the same trace as `planned`, with only the prefixes and these sets, each once,
@@ -209,14 +220,14 @@ class Planner:
         trace replaces the file of picks: then the states of this plan can't be made any more.
         Refused or TooLarge if the program refuses the plan; OSError as write_picks()."""
         path = self.write_picks(planned.trace, '.sets', dict.fromkeys(sets))
-        options = ['--trace', planned.trace, '--picks', path]
-        plan = read_plan(self.run_program(['list', *options, '--json']), planned.offsets)
+        options = PlanOptions(['--trace', planned.trace], path)
+        plan = read_plan(self.list_plan(options), planned.offsets)
         return PlannedTrace(planned.trace, make_parts(plan, [options], []), plan, planned.offsets)
 
     def plan_prefixes(self, trace: str) -> Plan:
         """A plan of only the prefixes of a trace: the options aren't looked at. TooLarge if the
         trace has more micro-operations than the program takes; Refused for another fault."""
-        return read_plan(self.run_program(['list', '--trace', trace, '--json']))
+        return read_plan(self.list_plan(PlanOptions(['--trace', trace])))
 
     def family_sets(self, reading_sets: ReadingSets) -> List[int]:
         """The sets of --lost and --files, if the options ask for them and, if they ask for all
@@ -250,14 +261,14 @@ class Planner:
             file.writelines(f'{list(places_of(members))}\n' for members in sets)
         return path
 
-    def run_program(self, words: List[str]) -> str:
-        """Runs a command of the program, of which words[0] is the name, and returns what it prints.
-        If its status isn't 0, or it can't be started: TooLarge if the plan would be too large, else
-        Refused, as make_refusal() says."""
+    def list_plan(self, options: PlanOptions) -> str:
+        """What the program's `list --json` prints of the plan with these options, as read_plan()
+        reads it. If it fails: TooLarge or Refused, as make_refusal() says."""
         try:
+            words = ['list', *options.with_picks, '--json']
             return self.program.output_of(words, self.guard.environment)
         except ProgramFault as fault:
-            raise self.make_refusal(words[0], fault) from fault
+            raise self.make_refusal('list', fault) from fault
 
     def make_refusal(self, command: str, fault: ProgramFault) -> Refused:
         """Makes of a fault of the program a TooLarge, if a plan would be too large, or a Refused,
@@ -304,7 +315,9 @@ def find_sets_of_all_states(
     ]
 
 
-def make_parts(plan: Plan, options_of_parts: List[List[str]], pick_counts: List[int]) -> List[Part]:
+def make_parts(
+    plan: Plan, options_of_parts: List[PlanOptions], pick_counts: List[int]
+) -> List[Part]:
     """The parts of a plan, each with its options and the range of its states. pick_counts has how
     many picks each part has; it may be empty if there is one part. The first part has all states
     but the picks of the others. Each further part has only picks: in the program its prefixes come

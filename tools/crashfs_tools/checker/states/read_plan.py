@@ -37,9 +37,6 @@ class PlanReader:
     session. Call add_part() for each part, the first one first."""
 
     offsets: Offsets
-    # Of the part that is read: whether it is the first, and what is added to its numbers.
-    is_first: bool = True
-    number_offset: int = 0
     operations: List[PlannedMicroOperation] = field(default_factory=list)
     states: List[State] = field(default_factory=list)
     needs: List[int] = field(default_factory=list)
@@ -50,35 +47,33 @@ class PlanReader:
 
     def add_part(self, listing: str) -> None:
         """Adds the states of a part, from what `list --json` printed, and the operations if it is
-        the first part: all parts have the same. In the program the picks of each further part begin
+        the first part: all parts have the same. Of a further part only picks are added: its
+        prefixes are those of the first part. In the program the picks of each further part begin
         with the same number; here they get the numbers that follow those of the states so far.
         PlanError for a line of another form."""
-        self.is_first = not self.states
-        self.number_offset = 0 if self.is_first else len(self.states) - len(self.operations) - 1
+        is_first = not self.states
+        number_offset = 0 if is_first else len(self.states) - len(self.operations) - 1
         for line in listing.rstrip('\n').split('\n'):
             try:
                 fields = json.loads(line)
                 if 'op' not in fields:
-                    self.add_state(fields)
-                elif self.is_first:
+                    if is_first or fields['kind'] == 'pick':
+                        self.add_state(fields, number_offset)
+                elif is_first:
                     self.operations.append(parse_operation(fields, self.offsets))
                     self.needs.append(set_of(fields['needs']))
             except LINE_FAULTS as error:
                 raise PlanError(f'crashfs list printed: {line}') from error
 
-    def add_state(self, fields: Dict[str, Any]) -> None:
-        """Adds the state of a line, with a number that is unique among all parts. Of a further part
-        only picks are added: its prefixes are those of the first part. One of LINE_FAULTS for
-        fields of another form; ValueError also if a profile isn't among those of the first state,
-        or if only some states have profiles."""
-        if not self.is_first and fields['kind'] != 'pick':
-            return
+    def add_state(self, fields: Dict[str, Any], number_offset: int) -> None:
+        """Adds the state of a line. Its number in its part plus number_offset is unique among all
+        parts; a prefix has the same number in each. One of LINE_FAULTS for fields of another form;
+        ValueError also if a profile isn't among those of the first state, or if only some states
+        have profiles."""
         state = parse_state(fields, self.offsets)
-        # A prefix has the same number in each part.
-        same_offset = self.number_offset if fields['same'] > len(self.operations) else 0
-        self.states.append(
-            state._replace(number=state.number + self.number_offset, same=state.same + same_offset)
-        )
+        is_same_as_prefix = fields['same'] <= len(self.operations)
+        same = state.same + (0 if is_same_as_prefix else number_offset)
+        self.states.append(state._replace(number=state.number + number_offset, same=same))
         if 'profiles' in fields:
             self.profile_names = self.profile_names or tuple(fields['profiles'])
             self.profile_bits.append(set_of(map(self.profile_names.index, fields['profiles'])))

@@ -221,7 +221,7 @@ class Windows:
         if these tools, which apply the operations themselves, have another tree there: then `steps`
         has moved. Errors as in Crashfs.tree_with_root(): then it hasn't."""
         prefix = self.session.places[step] - previous.planned.offsets.operations
-        words = [*previous.planned.parts[0].options_without_picks, '--state', str(prefix)]
+        words = [*previous.planned.parts[0].options.without_picks, '--state', str(prefix)]
         start_tree = self.planner.program.tree_with_root(words, self.planner.guard.environment)
         steps.advance_to(step, start_tree)
         if start_tree != steps.tree.entries:
