@@ -12,6 +12,7 @@ from __future__ import annotations
 import os
 import stat
 import time
+from dataclasses import dataclass, field
 from typing import Dict, Iterator, List, Mapping, NamedTuple, Optional, Set, Tuple, Union
 
 from crashfs_tools.common.entry import Entry
@@ -55,6 +56,16 @@ class LaidFile(NamedTuple):
     attributes: List[str]
 
 
+@dataclass
+class Change:
+    """A change of a directory to a tree, while it is made: the paths of the tree that are there
+    already, at first only the root's, and the modes that directories have meanwhile, by path."""
+
+    tree: Mapping[str, Entry]
+    remaining_paths: Set[str] = field(default_factory=lambda: {''})
+    modes: Dict[str, int] = field(default_factory=dict)
+
+
 class Unchangeable(Exception):
     """A directory can't be changed to a tree: one in it has another owner or other extended
     attributes than a new one, or it has a mount, or something that can't be removed."""
@@ -74,9 +85,6 @@ class KeptTree:
         self.is_whole = False
         # The files as they were written, by path.
         self.files: Dict[str, LaidFile] = {}
-        # Of the change that is made: the paths that are there, and the modes of directories.
-        self.remaining_paths: Set[str] = set()
-        self.modes: Dict[str, int] = {}
         # When COMMAND started, in nanoseconds of the clock of files.
         self.command_start = 0
         # Whether the file system's times show each store, and which extended attributes and which
@@ -132,76 +140,79 @@ class KeptTree:
         the new one."""
         if self.mounts.points_below(self.directory):
             raise Unchangeable
-        self.remaining_paths, self.modes = {''}, {}
-        self.open_up('', self.directory, None, os.lstat(self.directory))
+        change = Change(tree)
+        self.open_up(change, '', self.directory, None, os.lstat(self.directory))
         with open_to_fill(self.directory) as root:
-            self.clear(root, '', tree)
-            self.fill(root, tree)
+            self.clear(change, root, '')
+            self.fill(change, root)
 
-    def fill(self, root: int, tree: Mapping[str, Entry]) -> None:
+    def fill(self, change: Change, root: int) -> None:
         """Makes the entries of the tree whose paths aren't in remaining_paths, below the open
         directory `root`: files and directories, then symbolic links. Then sets the modes of
         directories whose mode isn't that of the tree. After an OSError the rest isn't made."""
-        self.files = {path: self.files[path] for path in self.remaining_paths if path in self.files}
-        for path, entry in tree.items():
-            if path not in self.remaining_paths:
-                self.make_entry(root, path, entry)
+        remaining_paths, modes = change.remaining_paths, change.modes
+        self.files = {path: self.files[path] for path in remaining_paths if path in self.files}
+        for path, entry in change.tree.items():
+            if path not in remaining_paths:
+                self.make_entry(change, root, path, entry)
         # Until now no symbolic link is there: nothing was made or changed through one.
-        make_links(symbolic_links(tree), root)
-        wanted_modes = ((path, tree[path].mode) for path in self.modes)
-        set_modes([(path, mode) for path, mode in wanted_modes if mode != self.modes[path]], root)
+        make_links(symbolic_links(change.tree), root)
+        wanted_modes = ((path, change.tree[path].mode) for path in modes)
+        set_modes([(path, mode) for path, mode in wanted_modes if mode != modes[path]], root)
 
-    def clear(self, folder: int, path: str, tree: Mapping[str, Entry]) -> None:
+    def clear(self, change: Change, folder: int, path: str) -> None:
         """Removes from a directory, which is open as `folder` and at `path` in the tree, all that
         the tree doesn't have or must have made again, and all symbolic links, at any depth. Adds
-        the paths of what stays to remaining_paths. Unchangeable if a directory can't be removed, or
-        hasn't the owner and attributes of a new one; OSError if anything else can't be removed or
-        changed."""
+        the paths of what stays to remaining_paths of the change. Unchangeable if a directory can't
+        be removed, or hasn't the owner and attributes of a new one; OSError if anything else can't
+        be removed or changed."""
         if attribute_names(folder) != self.attributes:
             raise Unchangeable
         with os.scandir(folder) as entries:
             found_entries = list(entries)
         for entry in found_entries:
             entry_path = f'{path}/{entry.name}' if path else entry.name
-            wanted_entry = tree.get(entry_path)
+            wanted_entry = change.tree.get(entry_path)
             status = entry.stat(follow_symlinks=False)
             if not stat.S_ISDIR(status.st_mode):
                 if self.keep_file(folder, entry_path, wanted_entry, status):
-                    self.remaining_paths.add(entry_path)
+                    change.remaining_paths.add(entry_path)
                 else:
                     os.unlink(entry.name, dir_fd=folder)
             elif wanted_entry is None or not wanted_entry.is_directory:
                 if not remove_tree(entry.name, folder, self.directory + TRASH_ENDING):
                     raise Unchangeable
             else:
-                self.clear_directory(folder, entry.name, entry_path, status, tree)
+                self.clear_directory(change, folder, entry.name, entry_path, status)
 
     def clear_directory(
-        self, folder: int, name: str, path: str, status: os.stat_result, tree: Mapping[str, Entry]
+        self, change: Change, folder: int, name: str, path: str, status: os.stat_result
     ) -> None:
-        """Clears a directory that the tree has too, and adds it to remaining_paths. `name` is its
-        name in the open directory `folder`, `path` its whole path in the tree. Unchangeable and
-        OSError as in clear()."""
-        self.open_up(path, name, folder, status)
+        """Clears a directory that the tree has too, and adds it to remaining_paths of the change.
+        `name` is its name in the open directory `folder`, `path` its whole path in the tree.
+        Unchangeable and OSError as in clear()."""
+        self.open_up(change, path, name, folder, status)
         directory = os.open(name, FOLDER, dir_fd=folder)
         try:
-            self.clear(directory, path, tree)
+            self.clear(change, directory, path)
         finally:
             os.close(directory)
-        self.remaining_paths.add(path)
+        change.remaining_paths.add(path)
 
-    def open_up(self, path: str, name: str, folder: Optional[int], status: os.stat_result) -> None:
+    def open_up(
+        self, change: Change, path: str, name: str, folder: Optional[int], status: os.stat_result
+    ) -> None:
         """Gives a directory the rights that changes need, if it lacks them, and notes the mode that
-        it has then in `modes`, by its path in the tree. `name` is its name in the open directory
-        `folder`, or its absolute path if `folder` is None. OSError if the mode can't be set,
-        Unchangeable if owner and group aren't those of a new directory."""
+        it has then in `modes` of the change, by its path in the tree. `name` is its name in the
+        open directory `folder`, or its absolute path if `folder` is None. OSError if the mode can't
+        be set, Unchangeable if owner and group aren't those of a new directory."""
         if (status.st_uid, status.st_gid) not in self.owners:
             raise Unchangeable
         mode = stat.S_IMODE(status.st_mode)
         if mode & FILLED_MODE != FILLED_MODE:
             set_folder_mode(name, FILLED_MODE, folder)
             mode = FILLED_MODE
-        self.modes[path] = mode
+        change.modes[path] = mode
 
     def keep_file(
         self, folder: int, path: str, wanted_entry: Optional[Entry], status: os.stat_result
@@ -280,14 +291,14 @@ class KeptTree:
             and laid_file.signature[:RIGHTS] == signature_of(status)[:RIGHTS]
         )
 
-    def make_entry(self, root: int, path: str, entry: Entry) -> None:
+    def make_entry(self, change: Change, root: int, path: str, entry: Entry) -> None:
         """Makes the file or directory of a path below the open directory `root`, and notes it in
-        `files` or `modes`. Nothing is made for a symbolic link. FileExistsError if something is at
-        the path; after another OSError a file may have a part of its bytes."""
+        `files`, or in `modes` of the change. Nothing is made for a symbolic link. FileExistsError
+        if something is at the path; after another OSError a file may have a part of its bytes."""
         if entry.data is None:
             if entry.is_directory:
                 os.mkdir(path, FILLED_MODE, dir_fd=root)
-                self.modes[path] = FILLED_MODE
+                change.modes[path] = FILLED_MODE
             return
         file = os.open(path, NEW_FILE, entry.mode, dir_fd=root)
         try:
