@@ -78,6 +78,11 @@ class Options:
     function: Optional[RecoveryFunction] = None
 
     @property
+    def recovery_name(self) -> str:
+        """What the lines of a check call the recovery: `COMMAND`, unless it is a function."""
+        return 'COMMAND' if self.function is None else 'the recovery'
+
+    @property
     def has_families_only_if_given(self) -> bool:
         """Whether the families --lost and --files are tried only if they are given. This is so with
         --quick and --prefixes, and with --serve, whose plan is that of the server."""

@@ -39,7 +39,7 @@ class OutcomeCache:
         """Reads the file. A file that isn't there, or that read_cache_file() doesn't accept, counts
         as empty. Nothing is written before save()."""
         self.path = os.path.join(folder, f'outcomes-{name}.json')
-        self.earlier_outcomes: Dict[str, List[str]] = read_cache_file(self.path)
+        self.earlier_outcomes: Dict[str, Any] = read_cache_file(self.path)
         self.used_outcomes: Dict[str, List[str]] = {}
         self.dropped_keys: Set[str] = set()
         self.hits = 0

@@ -75,7 +75,7 @@ class FirstTrials:
         """A new Refused for an outcome that is BAD: the first line of its text has the tree, the
         state and the cause, then come those of hints_on_cause(), and `hints` last. It isn't raised
         yet."""
-        name = 'COMMAND' if self.is_command else 'the recovery'
+        name = self.trials.options.recovery_name
         first_line = f'{name} fails in {tree_name}, {LOSSLESS} ({state_text}): {outcome.cause}'
         own_hints = self.hints_on_cause(outcome.cause, tree_name)
         return Refused('\n'.join([first_line, *own_hints, *hints]))
@@ -94,6 +94,7 @@ class FirstTrials:
                 f'use {os.path.abspath(word)}'
                 for word in relative_words
             ]
+        # What shells and programs print, and a shell's status, if a program isn't found.
         if 'not found' in cause or 'No such file' in cause or cause == 'status 127':
             return ['does COMMAND run something that is neither on PATH nor an absolute path?']
         question = 'is COMMAND stricter than the session, or does it look for files elsewhere?'

@@ -18,10 +18,9 @@ def total_loss_question(trials: Trials) -> str:
     line_count = len(trials.acknowledged_lines.texts)
     if not line_count or not passes_in_start_tree(trials, line_count):
         return ''
-    name = 'COMMAND' if trials.options.function is None else 'the recovery'
     has_start_files = bool(trials.trees.of_state(trials.plan.first))
     hint = ', or was all there before' if has_start_files else ' for what was acknowledged'
-    return f'{name} passes even if the whole session is lost: does it look{hint}?'
+    return f'{trials.options.recovery_name} passes even if the whole session is lost: does it look{hint}?'
 
 
 def passes_in_start_tree(trials: Trials, line_count: int) -> bool:
@@ -31,5 +30,6 @@ def passes_in_start_tree(trials: Trials, line_count: int) -> bool:
     start = trials.plan.listed[0]._replace(says=line_count)
     plan = trials.plan.with_states([start], None, SetProfiles())
     start_trials = Trials(trials.workplace, replace(trials.planned, plan=plan))
+    # The start tree is loaded there already.
     start_trials.trees = trials.trees
     return start_trials.try_state(start).result == GOOD

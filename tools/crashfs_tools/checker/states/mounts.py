@@ -13,8 +13,8 @@ from crashfs_tools.common.command import Refused
 from .layout import Layout
 
 NEEDS = "--serve needs root, the kernel's 9p, and a server with --client linux --ready --again"
-# No mount of a server that answers takes so long.
-SECONDS = 60
+# A mount or unmount is killed after so long: none of a server that answers takes it.
+COMMAND_SECONDS = 60
 
 
 class Mounts(Layout):
@@ -94,7 +94,7 @@ def unmount(directory: str) -> None:
 def run_on_directory(words: List[str], directory: str, environment: Dict[str, str]) -> str:
     """Runs a command about a directory, in a session of its own, so that Ctrl-C doesn't end it.
     Returns an empty text if the command succeeds, else a line that says why it doesn't, without the
-    directory's name: also if there is no such command, or if it is killed after SECONDS. OSError if
+    directory's name: also if there is no such command, or if it is killed after COMMAND_SECONDS. OSError if
     it can't be started for another reason."""
     try:
         finished = subprocess.run(
@@ -103,14 +103,14 @@ def run_on_directory(words: List[str], directory: str, environment: Dict[str, st
             stdout=subprocess.DEVNULL,
             stderr=subprocess.PIPE,
             env=environment,
-            timeout=SECONDS,
+            timeout=COMMAND_SECONDS,
             start_new_session=True,
             check=False,
         )
     except FileNotFoundError:
         return f'there is no {words[0]}'
     except subprocess.TimeoutExpired:
-        return f'{words[0]} had not ended after {SECONDS} seconds'
+        return f'{words[0]} had not ended after {COMMAND_SECONDS} seconds'
     if finished.returncode == 0:
         return ''
     lines = finished.stderr.decode('utf-8', 'replace').strip().splitlines()
