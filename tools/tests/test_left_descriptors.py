@@ -7,6 +7,7 @@ import unittest
 from contextlib import contextmanager, redirect_stdout
 from unittest import mock
 
+from crashfs_tools.checker.running.workers import StateWorkers
 from crashfs_tools.common import removal
 from crashfs_tools.common.forked_reading import ForkedReading
 from crashfs_tools.common.guard import Guard
@@ -53,6 +54,16 @@ def start_guard():
     Guard('guard', may_reap=False).__enter__()
 
 
+@contextmanager
+def one_worker():
+    """A function that starts a process of a check, which ends at once."""
+    workers = StateWorkers(mock.Mock(), mock.Mock(), 1, mock.Mock())
+    try:
+        yield lambda: workers.start_worker([0], {0: 0})
+    finally:
+        workers.end(lambda spared: None)
+
+
 class LeftDescriptors(unittest.TestCase):
     def setUp(self):
         # Modules that the first reading imports may keep files open.
@@ -70,6 +81,12 @@ class LeftDescriptors(unittest.TestCase):
         for start in (start_reading, start_guard):
             with self.subTest(start=start.__name__), mock.patch('os.fork', side_effect=no_process):
                 self.assert_fails_and_leaves_none(start, errno.EAGAIN)
+
+    def test_a_worker_that_can_not_be_forked_leaves_no_pipe_open(self):
+        no_process = OSError(errno.EAGAIN, os.strerror(errno.EAGAIN))
+        with one_worker() as start, mock.patch('os.fork', side_effect=no_process):
+            self.descriptors = open_descriptors()
+            self.assert_fails_and_leaves_none(start, errno.EAGAIN)
 
     def test_a_failed_pipe_leaves_no_other_pipe_open(self):
         for start in (start_reading, start_guard):

@@ -2,6 +2,7 @@
 
 import errno
 import io
+import json
 import os
 import signal
 import subprocess
@@ -27,11 +28,18 @@ from crashfs_tools.checker.running.runner import (
     Outcome,
 )
 from crashfs_tools.checker.running.trials import Trials
-from crashfs_tools.checker.running.workers import PIECE_BYTES, StateWorkers, Worker
+from crashfs_tools.checker.running.workers import (
+    PIECE_BYTES,
+    StateWorkers,
+    Worker,
+    fault_fields,
+    fault_from_fields,
+)
 from crashfs_tools.checker.states.layout import Layout
 from crashfs_tools.common import descendants
+from crashfs_tools.common.command import Refused
 from crashfs_tools.common.guard import Guard
-from crashfs_tools.common.program import Crashfs
+from crashfs_tools.common.program import UNKNOWN_OPTION, Crashfs, ProgramFault
 from crashfs_tools.common.signals import TimeUp
 
 from .support import FAKE, PATIENCE, long_time
@@ -237,6 +245,20 @@ class Reapers(InRuns):
                     workers.end(lambda spared: None)
         self.assertEqual(raised.exception.filename, '/link\udcff')
 
+    def test_a_fault_of_a_worker_keeps_its_type_and_its_text(self):
+        for fault, wanted in [
+            (OSError(errno.ENOENT, 'gone', '/x'), FileNotFoundError(errno.ENOENT, 'gone', '/x')),
+            (OSError(errno.EMFILE, 'too many'), OSError(errno.EMFILE, 'too many')),
+            (ProgramFault(UNKNOWN_OPTION, b'line\nmore'), ProgramFault(UNKNOWN_OPTION, b'line')),
+            (LeftRunning('left'), Refused('left')),
+            (OSError('no number'), RuntimeError("OSError('no number')")),
+            (KeyError('key'), RuntimeError("KeyError('key')")),
+        ]:
+            with self.subTest(repr(fault)):
+                found = fault_from_fields(json.loads(json.dumps(fault_fields(fault))))
+                self.assertEqual((type(found), str(found)), (type(wanted), str(wanted)))
+                self.assertEqual(getattr(found, 'status', 0), getattr(fault, 'status', 0))
+
     def test_what_can_not_be_ended_takes_the_answer_of_all_later_states(self):
         word = long_time()
         self.write('runs', '')
@@ -273,7 +295,7 @@ class Unkillable(InStore, InRuns):
         self.long = f'5.{long_time()[4:]}'
         self.addCleanup(lambda: [os.kill(one, signal.SIGKILL) for one in processes(self.long)])
         patches: List[Any] = [
-            mock.patch('crashfs_tools.checker.running.runner.kill_group'),
+            mock.patch('os.killpg'),
             mock.patch.object(descendants, 'kill_with_group'),
             mock.patch.object(descendants, 'ENDING_SECONDS', 0.3),
         ]

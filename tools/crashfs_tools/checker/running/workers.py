@@ -7,6 +7,7 @@ import json
 import os
 import signal
 import time
+from contextlib import ExitStack
 from dataclasses import dataclass, replace
 from functools import partial
 from typing import Any, Callable, Dict, List, NoReturn, Set
@@ -15,15 +16,17 @@ from crashfs_tools.checker.states.layout import Layout
 from crashfs_tools.common.command import Refused, ending_text
 from crashfs_tools.common.descendants import become_reaper
 from crashfs_tools.common.guard import end_processes_with_token, with_token
-from crashfs_tools.common.streams import poll_for_input
+from crashfs_tools.common.streams import open_pipe, poll_for_input
 from crashfs_tools.common.program import ProgramFault
 from crashfs_tools.common.signals import STOPS, stop_signals_blocked
 
 from .progress import TooSlow
 from .runner import BAD, GOOD, GOOD_OUTCOME, POLL_SECONDS, CheckEnded, Checker, Outcome, reap_child
 
-# How long processes have to undo what they laid out before they are killed.
-ENDING_SECONDS = 5
+# How long workers have to undo what they laid out before they are killed.
+UNDO_SECONDS = 5.0
+# end() looks so often whether workers have ended.
+END_POLL_SECONDS = 0.01
 PIECE_BYTES = 1 << 16
 # A process sends its outcomes after so long.
 SENT_SECONDS = 0.05
@@ -147,11 +150,12 @@ class StateWorkers:
     def start_worker(self, share: List[int], line_counts: Dict[int, int]) -> None:
         """Forks a process for a share of the states, and adds it to `workers`. The signals of STOPS
         do nothing in that process: only end() ends it early. OSError if the system has no room for
-        a process, or too many files are open."""
-        reader, writer = os.pipe()
+        a process, or too many files are open: then no pipe stays open."""
         # A signal waits meanwhile: the new process takes none as this one does.
-        with stop_signals_blocked() as old_mask:
+        with ExitStack() as opened, stop_signals_blocked() as old_mask:
+            reader, writer = open_pipe(opened)
             process = os.fork()
+            opened.pop_all()
             if process == 0:
                 for stop_signal in STOPS:
                     if signal.getsignal(stop_signal) is not signal.SIG_IGN:
@@ -161,8 +165,8 @@ class StateWorkers:
                 # So that it doesn't wait for room in a pipe that nobody reads.
                 os.close(reader)
                 self.run_worker(share, line_counts, writer)
-        os.close(writer)
-        self.workers.append(Worker(process, reader))
+            os.close(writer)
+            self.workers.append(Worker(process, reader))
 
     def run_worker(self, share: List[int], line_counts: Dict[int, int], pipe: int) -> NoReturn:
         """What the new process does: tries the states of its share, ascending, and sends the
@@ -236,16 +240,16 @@ class StateWorkers:
     def end(self, end_processes: Callable[[Set[int]], object]) -> None:
         """Ends all processes, and closes the pipe of life_pipe; call it once. Calls end_processes()
         again and again to end their commands: that function must spare the processes whose numbers
-        it gets. Processes that still run after ENDING_SECONDS are killed. on_outcome gets what they
+        it gets. Processes that still run after UNDO_SECONDS are killed. on_outcome gets what they
         still send. After an exception some may be left, which end by themselves."""
         os.close(self.life_writer)
-        deadline = time.monotonic() + ENDING_SECONDS
+        deadline = time.monotonic() + UNDO_SECONDS
         while self.workers:
             end_processes({worker.process for worker in self.workers})
             for worker in list(self.workers):
                 self.end_worker(worker, is_late=time.monotonic() > deadline)
             if self.workers:
-                time.sleep(0.01)
+                time.sleep(END_POLL_SECONDS)
         os.close(self.life_pipe)
 
     def end_worker(self, worker: Worker, *, is_late: bool) -> None:
@@ -281,8 +285,9 @@ def fault_fields(fault: BaseException) -> Dict[str, Any]:
         return {'fault': 'os', 'what': [fault.errno, fault.strerror, path]}
     if isinstance(fault, ProgramFault):
         return {'fault': 'program', 'what': [fault.status, str(fault)]}
-    kind = 'refused' if isinstance(fault, Refused) else 'other'
-    return {'fault': kind, 'what': [str(fault) if kind == 'refused' else repr(fault)]}
+    if isinstance(fault, Refused):
+        return {'fault': 'refused', 'what': [str(fault)]}
+    return {'fault': 'other', 'what': [repr(fault)]}
 
 
 def fault_from_fields(fields: Dict[str, Any]) -> Exception:
