@@ -41,7 +41,7 @@ class TriedNowhere(Trials):
         )
         found: Any = options
         nothing: Any = None
-        super().__init__(Workplace(found, nothing, nothing, nothing, Progress()), planned)
+        super().__init__(Workplace(found, nothing, nothing, nothing, Progress(None)), planned)
         self.order: List[Set[int]] = []
 
     def new_layout(self, is_for_many: bool = False) -> Any:

@@ -62,6 +62,7 @@ class Runs(InRuns):
             ('echo a; echo b >&2; exit 1', BAD, 'b'),
             ('pwd; exit 1', BAD, '.'),
             ('test $CRASHFS_STATE = 7 && kill -9 $$', BAD, 'ended by SIGKILL'),
+            ('echo a; kill -40 $$', BAD, 'ended by signal 40: a'),
         ]:
             outcome = self.run_once(script)
             self.assertEqual((outcome.result, outcome.cause), (result, cause), script)

@@ -9,7 +9,7 @@ from crashfs_tools.checker.checked_trace import NUMBER_OF_END
 from crashfs_tools.checker.findings.read_trees import entries_of
 from crashfs_tools.checker.report.report import CheckReport
 from crashfs_tools.checker.report.text import ReportText
-from crashfs_tools.checker.running.results import Head, Results, known_states
+from crashfs_tools.checker.running.results import Head, Results, find_numbers_before
 from crashfs_tools.checker.states.place_sets import places_of
 from crashfs_tools.checker.states.plan import Offsets, PlannedTrace
 from crashfs_tools.checker.states.planning import Planner
@@ -118,7 +118,7 @@ class InWindows(InStore):
         windows = self.made(text, size, quick)
         results = []
         for planned in windows.all_planned():
-            known = known_states(results[-1].plan, planned.plan) if results else {}
+            known = find_numbers_before(results[-1].plan, planned.plan) if results else {}
             results.append(Results(planned.plan, numbers_before=known))
         for name in os.listdir(self.temporary):
             os.unlink(os.path.join(self.temporary, name))
@@ -252,7 +252,7 @@ class Cuts(InWindows):
         windows, results = self.windows(text, 8)
         self.assertEqual([one.plan.first_place for one in results], [0, 4, 8, 12])
         self.assertEqual(
-            [(one.line, one.tried) for one in windows.cut_off[:5]],
+            [(one.line, one.tried_count) for one in windows.cut_off[:5]],
             [(2, 7), (3, 6), (4, 5), (5, 4), (6, 7)],
         )
         lines = parse_trace_text(text).operations

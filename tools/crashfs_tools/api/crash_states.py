@@ -11,7 +11,7 @@ from typing import Dict, Iterable, Iterator, List, Optional
 
 from crashfs_tools.checker.checked_trace import CheckedTrace, refuse_unreadable
 from crashfs_tools.checker.options import NAME, Options
-from crashfs_tools.checker.running.results import Results, known_states
+from crashfs_tools.checker.running.results import Results, find_numbers_before
 from crashfs_tools.checker.states.layout import lay_out, read_trees
 from crashfs_tools.checker.states.plan import Plan, PlannedTrace
 from crashfs_tools.common.archive import Member, members_of_tree, tree_of_members
@@ -89,7 +89,7 @@ def states(
         checked_trace = CheckedTrace.read(options, program, guard)
         last_plan: Optional[Plan] = None
         for planned in checked_trace.all_planned():
-            numbers_before = known_states(last_plan, planned.plan) if last_plan else {}
+            numbers_before = find_numbers_before(last_plan, planned.plan) if last_plan else {}
             yield from states_of_window(
                 checked_trace, planned, Results(planned.plan, numbers_before=numbers_before)
             )

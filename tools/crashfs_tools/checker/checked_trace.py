@@ -77,13 +77,13 @@ class CheckedTrace:
         options: Options, program: Crashfs, guard: Guard, progress: Optional[Progress] = None
     ) -> CheckedTrace:
         """Reads the trace that the options must name, and asks the program whether it takes traces
-        of this version: if not, the second reading takes its place. Without `progress` a new one is
-        shown on standard error. Exceptions as in read_trace_file() and
+        of this version: if not, the second reading takes its place. Without `progress` none is
+        shown. Exceptions as in read_trace_file() and
         Crashfs.program_for_version()."""
         assert options.trace is not None
         path, text, mode = read_trace_file(options.trace, guard)
         program = program.program_for_version(trace_version(text))
-        planner, progress = Planner(options, program, guard), progress or Progress()
+        planner, progress = Planner(options, program, guard), progress or Progress(None)
         return CheckedTrace(options, path, text, mode, program, guard, planner, progress)
 
     def all_planned(self) -> Iterator[PlannedTrace]:

@@ -14,7 +14,7 @@ from crashfs_tools.checker.report.report import CheckReport
 from crashfs_tools.checker.running.first_trials import FirstTrials
 from crashfs_tools.checker.running.progress import Progress
 from crashfs_tools.checker.running.recoveries import FunctionRecovery
-from crashfs_tools.checker.running.results import AllResults, Head, Results, known_states
+from crashfs_tools.checker.running.results import AllResults, Head, Results, find_numbers_before
 from crashfs_tools.checker.running.runner import do_nothing
 from crashfs_tools.checker.running.total_loss import total_loss_question
 from crashfs_tools.checker.running.trials import Trials
@@ -123,9 +123,7 @@ class Check:
         window = self.last_window
         self.head.has_rest = window is not None and not window.trials.planned.is_last
         if self.trace.windows is not None:
-            self.head.cut_off = [
-                (cut_off.line, cut_off.tried) for cut_off in self.trace.windows.cut_off
-            ]
+            self.head.cut_off = self.trace.windows.cut_off
         self.report.not_done = list(self.options_not_done())
         try:
             if self.head.stopped == TIME_LIMIT and window is not None:
@@ -171,7 +169,7 @@ class Check:
         trials, as in Trials.try_all(). Before the trials it is Refused if --resume has another
         window here; for the first window other errors as in prepare_first_window()."""
         previous, planned = self.last_window, trials.planned
-        numbers_before = known_states(previous.trials.plan, planned.plan) if previous else {}
+        numbers_before = find_numbers_before(previous.trials.plan, planned.plan) if previous else {}
         results = Results(planned.plan, numbers_before=numbers_before)
         if self.earlier_results is not None:
             self.add_earlier_outcomes(results, self.earlier_results.windows)

@@ -50,7 +50,7 @@ def carry_out(options: Options) -> int:
             from .show_state import show_state
 
             return show_state(options, guard)
-        checked = check_trace(options, guard, Progress())
+        checked = check_trace(options, guard, Progress(sys.stderr))
     status = write_and_print(options, Report(checked.report, checked.mode))
     if checked.exception is not None:
         raise checked.exception

@@ -31,7 +31,7 @@ def show_state(options: Options, guard: Guard) -> int:
     there is no such state; other exceptions as in open_trace(), CheckedTrace.all_planned(),
     record_recovery() and try_and_show(). Options for a whole check, such as --fail-fast or --cache,
     are ignored."""
-    with open_trace(options, guard, Progress()) as trace:
+    with open_trace(options, guard, Progress(None)) as trace:
         assert options.state is not None
         number, recovery_number = options.state
         trials = trace.trials_with_state(number)
@@ -79,7 +79,7 @@ def lay_out_for_user(trials: Trials, state: State) -> Tuple[str, str]:
     try:
         ((_, directory),) = trials.archive_layout(folder).states({state.number})
         acknowledged = os.path.join(folder, f'says-{state.says}')
-        write_text(acknowledged, trials.acknowledged_lines.text(state.says))
+        write_text(acknowledged, trials.acknowledged_lines.text(0, state.says))
         return directory, acknowledged
     except BaseException:
         remove_tree(folder)

@@ -156,12 +156,15 @@ def end_process(status: int) -> NoReturn:
 def ending_text(status: int) -> str:
     """How a process ended, as `was ended by SIGKILL` or `ended with status 1`, from its status as
     Popen has it: negative for a signal."""
-    if status >= 0:
-        return f'ended with status {status}'
+    return f'ended with status {status}' if status >= 0 else f'was ended by {signal_text(-status)}'
+
+
+def signal_text(number: int) -> str:
+    """The name of a signal, or `signal 40` for one that has no name, as most real-time signals."""
     try:
-        return f'was ended by {signal.Signals(-status).name}'
+        return signal.Signals(number).name
     except ValueError:
-        return f'was ended by signal {-status}'
+        return f'signal {number}'
 
 
 def last_line(output: str) -> str:

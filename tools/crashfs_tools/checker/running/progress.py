@@ -3,7 +3,6 @@ take: whether all of them can be tried."""
 
 from __future__ import annotations
 
-import sys
 import time
 from typing import Callable, Optional, TextIO
 
@@ -59,11 +58,10 @@ class Progress:
     that of the part."""
 
     def __init__(
-        self, stream: Optional[TextIO] = sys.stderr, clock: Callable[[], float] = time.monotonic
+        self, stream: Optional[TextIO], clock: Callable[[], float] = time.monotonic
     ) -> None:
         """If the stream is no terminal, the first line comes EVERY_SECONDS after this call. `clock`
-        returns seconds. The default stream is what sys.stderr was when this module was
-        imported."""
+        returns seconds."""
         self.stream = stream
         self.clock = clock
         self.report_time = clock()

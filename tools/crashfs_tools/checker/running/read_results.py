@@ -9,6 +9,7 @@ from typing import Any, Callable, Dict, FrozenSet, List, Optional, Tuple, TypeVa
 from crashfs_tools.checker.options import Shard
 from crashfs_tools.checker.states.plan import (
     AllStates,
+    CutOff,
     PlannedMicroOperation,
     Needs,
     Plan,
@@ -67,7 +68,7 @@ def parse_head(fields: Dict[str, Any]) -> Head:
         parse_boolean(fields['unproved']),
         {line.number: line for line in lines},
         parse_text(fields['stopped']),
-        [parse_pair(item) for item in fields['cut_off']],
+        [CutOff(*parse_pair(item)) for item in fields['cut_off']],
         parse_boolean(fields.get('has_rest', False)),
         parse_integer(fields.get('refused_version', 0)),
     )

@@ -1,16 +1,14 @@
-"""What came of a check, window by window, and as JSON, which shards are merged from."""
+"""What came of a check, window by window, and as JSON."""
 
 from __future__ import annotations
 
-import os
-import shlex
-from dataclasses import dataclass, field, replace
+from dataclasses import dataclass, field
 from functools import cached_property
 from typing import Any, Dict, FrozenSet, Iterable, List, Optional, Set, Tuple
 
 from crashfs_tools.checker.options import Shard
-from crashfs_tools.checker.states.plan import Plan, Trial
-from crashfs_tools.common.command import Refused
+from crashfs_tools.checker.states.place_sets import prefix_set
+from crashfs_tools.checker.states.plan import CutOff, Plan, Trial
 from crashfs_tools.common.trace_lines import TraceLine
 
 from .runner import NO_ANSWER, Outcome
@@ -22,8 +20,8 @@ FORMAT = 3
 class Head:
     """What a report is of. `lines` are those of the trace's operations; `stopped` says what ended
     the check early, if anything did. cut_off has the lines whose loss was not tried to the
-    session's end, each with how many later micro-operations it was tried for; has_rest says whether
-    the session goes on after the last window that was begun. refused_version is that of a trace
+    session's end; has_rest says whether the session goes on after the last window that was begun.
+    refused_version is that of a trace
     which only the second reading takes, or 0."""
 
     trace: str
@@ -33,7 +31,7 @@ class Head:
     unproved: bool = False
     lines: Dict[int, TraceLine] = field(default_factory=dict)
     stopped: str = ''
-    cut_off: List[Tuple[int, int]] = field(default_factory=list)
+    cut_off: List[CutOff] = field(default_factory=list)
     has_rest: bool = False
     refused_version: int = 0
 
@@ -53,7 +51,7 @@ class Head:
             'shard': [self.shard.part, self.shard.parts],
             'stopped': self.stopped,
             'has_rest': self.has_rest,
-            'cut_off': [list(pair) for pair in self.cut_off],
+            'cut_off': [list(cut_off) for cut_off in self.cut_off],
             'lines': [list(line) for line in self.lines.values()],
         }
 
@@ -169,7 +167,7 @@ class Results:
         them."""
         return {
             'first': self.plan.first,
-            'all_states': self.plan.all_states and list(self.plan.all_states),
+            'all_states': None if self.plan.all_states is None else list(self.plan.all_states),
             'profiles': list(self.plan.profiles),
             'chosen': None if self.chosen_numbers is None else sorted(self.chosen_numbers),
             'seconds': round(self.seconds_per_state, 4) if self.is_part else 0,
@@ -206,99 +204,18 @@ def outcome_fields(outcomes: Dict[int, Outcome]) -> Dict[str, List[str]]:
     return {str(number): list(outcome) for number, outcome in sorted(outcomes.items())}
 
 
-def known_states(plan_before: Plan, plan: Plan) -> Dict[int, int]:
-    """The numbers of the states of a plan that the plan of the window before has too, each with the
-    number of the first state there that has the same set. A set of a window counts as having all
-    that comes before the window."""
+def find_numbers_before(plan_before: Plan, plan: Plan) -> Dict[int, int]:
+    """For each state of a window's plan that plan_before, that of the window before, has too: by
+    its number the number of the first state there that has the same set. A set of a window counts
+    as having all that comes before the window."""
     shift = plan.first_place - plan_before.first_place
-    numbers_before = {
+    earlier_set = prefix_set(shift)
+    number_by_set = {
         plan_before.kept[state.number]: state.number for state in reversed(plan_before.states)
     }
-    numbers = {}
+    numbers_before = {}
     for state in plan.states:
-        number = numbers_before.get(plan.kept[state.number] << shift | (1 << shift) - 1)
-        if number is not None:
-            numbers[state.number] = number
-    return numbers
-
-
-def refuse_wrong_shards(parts: List[int], count: int) -> None:
-    """Refused unless each of the shards 1 to `count` is given exactly once. `parts` has the numbers
-    of the given shards."""
-    for part in range(1, count + 1):
-        times = parts.count(part)
-        if times != 1:
-            raise Refused(
-                f'shard {part}/{count} ' + (f'was given {times} times' if times else 'is missing')
-            )
-
-
-def refuse_different_commands(commands: List[List[str]]) -> None:
-    """Refused unless all commands have equal words; only the directories of their programs may
-    differ. There must be at least one command."""
-    first, *others = (
-        [os.path.basename(words[0]), *words[1:]] if words else [] for words in commands
-    )
-    for other in others:
-        if other != first:
-            both = ' and '.join(map(shlex.join, (first, other)))
-            raise Refused(f'the reports are of different COMMANDs: {both}')
-
-
-def merge_shards(shards: List[AllResults]) -> AllResults:
-    """The results of all shards of one check as one. The windows are those of a shard with the
-    most, which are changed: they get the outcomes and second runs of all. The head is that of
-    merged_head(). not_done is that of all; options_with_findings is dropped. A shard that was
-    stopped may have fewer windows. Refused if a shard is missing, given twice, or of another
-    check; ValueError if there are no shards."""
-    longest = max(shards, key=lambda shard: len(shard.windows))
-    refuse_other_reports(longest, shards)
-    for shard in shards:
-        longest.add_outcomes(shard)
-    not_done = dict.fromkeys(line for shard in shards for line in shard.not_done)
-    return AllResults(merged_head(longest, shards), longest.windows, not_done=tuple(not_done))
-
-
-def refuse_other_reports(longest: AllResults, shards: List[AllResults]) -> None:
-    """Refused unless reports are all shards of one check, each given once. `longest` is one of
-    those with the most windows."""
-    for shard in shards:
-        refuse_different_checks(longest, shard)
-    refuse_different_commands([shard.head.command for shard in shards])
-    refuse_wrong_shards([shard.head.shard.part for shard in shards], longest.head.shard.parts)
-
-
-def merged_head(longest: AllResults, shards: List[AllResults]) -> Head:
-    """One head for all shards of a check, from that of `longest`: a shard with the most windows,
-    which must have the outcomes of all by now. The head is unproved if one shard's is, and has_rest
-    if that of a shard with the most windows has. Its `stopped` is that of the first stopped shard,
-    or says that a window lacks outcomes."""
-    heads = [shard.head for shard in shards]
-    stopped = next((head.stopped for head in heads if head.stopped), '')
-    if not stopped and not all(window.is_whole for window in longest.windows):
-        stopped = 'a part without all outcomes'
-    return replace(
-        longest.head,
-        shard=Shard(),
-        unproved=any(head.unproved for head in heads),
-        refused_version=max(head.refused_version for head in heads),
-        has_rest=any(
-            shard.head.has_rest for shard in shards if len(shard.windows) == len(longest.windows)
-        ),
-        stopped=stopped,
-    )
-
-
-def refuse_different_checks(first: AllResults, other: AllResults) -> None:
-    """Refused unless two reports are shards of one check: their traces and numbers of shards are
-    equal, and so are plans and profiles of the windows that both have. `first` must have at least
-    as many windows as `other`."""
-    first_windows, other_windows = (
-        [window.identity() for window in results.windows[: len(other.windows)]]
-        for results in (first, other)
-    )
-    first_check, other_check = (
-        (results.head.digest, results.head.shard.parts) for results in (first, other)
-    )
-    if first_windows != other_windows or first_check != other_check:
-        raise Refused('the reports are not shards of one check')
+        number_before = number_by_set.get(plan.kept[state.number] << shift | earlier_set)
+        if number_before is not None:
+            numbers_before[state.number] = number_before
+    return numbers_before

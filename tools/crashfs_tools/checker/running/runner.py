@@ -12,7 +12,7 @@ from itertools import accumulate
 from typing import Callable, Dict, List, NamedTuple, Optional, Set
 
 from crashfs_tools.common import descendants
-from crashfs_tools.common.command import Refused, ending_text, last_line
+from crashfs_tools.common.command import Refused, last_line, signal_text
 from crashfs_tools.common.mount_table import MountTable
 from crashfs_tools.common.streams import poll_for_input
 from crashfs_tools.common.trace_lines import without_numbers
@@ -80,11 +80,11 @@ class AcknowledgedLines:
             with open(os.open(own_path, LINES_FILE), 'wb') as lines:
                 lines.truncate(self.file_sizes[min(count, self.line_count)])
                 lines.seek(0, os.SEEK_END)
-                lines.write(self.text(count, self.line_count).encode())
+                lines.write(self.text(self.line_count, count).encode())
         self.line_count = count
         return own_path
 
-    def text(self, end: int, begin: int = 0) -> str:
+    def text(self, begin: int, end: int) -> str:
         """The lines from place `begin` to before place `end` as one text, each with its line feed;
         an empty text if there are none."""
         return ''.join(f'{text}\n' for text in self.texts[begin:end])
@@ -201,7 +201,7 @@ class Checker:
             has_exited = end is End.EXITED
         finally:
             # Until it is waited for, no other group has its number.
-            kill_group(process)
+            descendants.try_to_kill(os.killpg, process)
             # Only what has ended is waited for without limit: a kill may be refused.
             status = reap_child(process) if has_exited else 0
             self.end_left_processes(earlier_children, descendants.ENDING_SECONDS)
@@ -311,18 +311,18 @@ class ProcessWait:
         for descriptor in self.descriptors:
             poll.register(descriptor, select.POLLIN)
 
-    def wait(self, seconds: float) -> Set[Optional[int]]:
+    def wait(self, seconds: float) -> Set[int]:
         """Waits at most `seconds`. Returns the descriptors that are ready, also of those that the
         poll object had already; maybe none. If something was printed, one piece of it is read; at
         the end of the output's pipe, the pipe is unregistered."""
         if self.process_descriptor is None:
             seconds = min(seconds, LOOK_SECONDS)
-        ready: Set[Optional[int]] = {descriptor for descriptor, _ in self.poll.poll(seconds * 1000)}
+        ready = {descriptor for descriptor, _ in self.poll.poll(seconds * 1000)}
         if self.output.read_end in ready and not self.output.read_piece():
             self.unregister(self.output.read_end)
         return ready
 
-    def has_ended(self, ready: Set[Optional[int]]) -> bool:
+    def has_ended(self, ready: Set[int]) -> bool:
         """Whether the process has ended; `ready` must be what wait() returned last. The process
         isn't reaped here, and must not have been reaped before."""
         if self.process_descriptor is not None:
@@ -367,8 +367,8 @@ def failure_cause(status: int, printed: str) -> str:
     cause = last_line(printed)[:CAUSE_CHARACTERS]
     if status > 0:
         return cause or f'status {status}'
-    signal_text = ending_text(status).replace('was ', '')
-    return f'{signal_text}: {cause}' if cause else signal_text
+    ending = f'ended by {signal_text(-status)}'
+    return f'{ending}: {cause}' if cause else ending
 
 
 def refuse_left_processes(left_processes: Dict[int, str]) -> None:
@@ -377,8 +377,3 @@ def refuse_left_processes(left_processes: Dict[int, str]) -> None:
     if left_processes:
         names = descendants.processes_text(left_processes)
         raise LeftRunning(f'a process that COMMAND left could not be ended: {names}')
-
-
-def kill_group(group: int) -> None:
-    """Kills the processes of a process group, except those that this user may not kill."""
-    descendants.try_to_kill(os.killpg, group)

@@ -265,7 +265,7 @@ class Trials:
         return numbers
 
     def try_all(self, results: Results, after_each: Callable[[], None] = do_nothing) -> bool:
-        """Tries the states of the shard that have no outcome yet, as try_left() does. If all crash
+        """Tries the states of the shard that have no outcome yet, as try_remaining() does. If all crash
         states are asked for, but are too many or too slow, only the families and what was drawn are
         chosen in the results. Returns whether each state to try has an outcome: with --fail-fast
         some may lack one."""
@@ -276,28 +276,28 @@ class Trials:
         is_bounded = plan.all_states is not None and results.chosen_numbers is None
         most_seconds = self.options.most_seconds if is_bounded else float('inf')
         try:
-            self.try_left(results, after_each, most_seconds)
+            self.try_remaining(results, after_each, most_seconds)
         except TooSlow:
             # The outcome by which it is known may be the first failure.
             if not self.is_ended_by_failure:
                 results.choose(states_in_batches(results, has_all=False))
-                self.try_left(results, after_each, float('inf'))
+                self.try_remaining(results, after_each, float('inf'))
         return self.wanted_numbers(results) <= set(results.outcomes)
 
-    def try_left(
+    def try_remaining(
         self, results: Results, after_each: Callable[[], None], most_seconds: float
     ) -> None:
         """Tries the states of the shard that have no outcome yet, adds each outcome to the results,
         and then calls after_each. Sets seconds_per_state of the results by the pace, also after an
         exception. Exceptions as in try_states() and wanted_numbers()."""
-        left_numbers = self.wanted_numbers(results) - set(results.outcomes)
+        remaining_numbers = self.wanted_numbers(results) - set(results.outcomes)
 
         def keep_outcome(number: int, outcome: Outcome) -> None:
             """Keeps an outcome, before after_each may raise an exception."""
             results.outcomes[number] = outcome
             after_each()
 
-        batches = self.divide_in_batches(results, left_numbers)
+        batches = self.divide_in_batches(results, remaining_numbers)
         try:
             self.try_states(batches, keep_outcome, most_seconds)
         finally:

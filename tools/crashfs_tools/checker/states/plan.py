@@ -73,6 +73,14 @@ class Offsets(NamedTuple):
         return max(numbers, default=None)
 
 
+class CutOff(NamedTuple):
+    """A line that was still pending at the end of the last window that has it: its loss was tried
+    with only the first tried_count micro-operations after it."""
+
+    line: int
+    tried_count: int
+
+
 class AllStates(NamedTuple):
     """What is known of all crash states of a trace. sets: how many sets its rules allow, None if
     they are too many to be counted. are_listed: whether the plan has each different state; it has

@@ -19,7 +19,7 @@ from crashfs_tools.common.command import Refused, write_text
 
 from .all_sets import ReadingSets
 from .place_sets import places_of, size_of
-from .plan import Offsets, Plan, PlannedTrace
+from .plan import CutOff, Offsets, Plan, PlannedTrace
 from .planning import Planner, TooLarge
 from .steps import Session, Steps
 
@@ -29,15 +29,6 @@ LARGEST = limits.MICRO_OPERATIONS - 1
 FEWER = 8
 # A window ends at this part of it at the earliest, so that all its crash states can be tried.
 LEAST_PART = 4
-
-
-@dataclass(frozen=True)
-class CutOff:
-    """A line that was still pending at the end of the last window that has it. Its loss was tried
-    with only the `tried` micro-operations after it."""
-
-    line: int
-    tried: int
 
 
 @dataclass
