@@ -56,6 +56,16 @@ class Choices(InFolder):
             with self.subTest(refusal):
                 self.assertIsNone(self.sets(Program(refusal=refusal), TRACE).different_sets(9))
 
+    def test_a_count_is_one_number(self) -> None:
+        sets = self.sets(Program(), TRACE)
+        for lines, count in ((['12'], 12), (None, None), ([str(1 << 1024)], 1 << 1024)):
+            with mock.patch.object(sets, 'printed_lines', return_value=lines):
+                self.assertEqual(sets.count_sets(), count)
+        for line in ('', '-1', '[]', '²', '1 2'):
+            with mock.patch.object(sets, 'printed_lines', return_value=[line]):
+                with self.subTest(line), self.assertRaisesRegex(PlanError, 'crashfs picks printed'):
+                    sets.count_sets()
+
     def test_a_line_that_is_no_set_is_refused(self) -> None:
         self.assertEqual(parse_set('[0,2]'), 0b101)
         for line in ('', '5', '{"a":1}', '{}', '""', '[-1]', '[[0]]', f'[{10**30}]', '[' * 100_000):

@@ -20,7 +20,12 @@ from crashfs_tools.checker.running.cache import (
     read_cache_file,
     write_cache_file,
 )
-from crashfs_tools.checker.running.command_files import command_name, digest_of_file, opened_paths
+from crashfs_tools.checker.running.command_files import (
+    command_name,
+    digest_of_file,
+    interpreters,
+    opened_paths,
+)
 from crashfs_tools.checker.running.runner import BAD, GOOD, NO_ANSWER, Outcome
 from crashfs_tools.common.command import Refused
 
@@ -154,6 +159,21 @@ class Files(InFolder):
             '7 execve("/bin/sh", ["sh", "O_WRONLY"], 0x7ffe /* 3 vars */) = 0\n',
         ]
         self.assertEqual(list(opened_paths(lines)), ['/O_WRONLY.conf', '/bin/sh'])
+
+    def test_the_interpreters_of_a_script_are_followed_up_to_four(self) -> None:
+        chain = [self.write(f'script{number}', '') for number in range(7)]
+        for script, interpreter in zip(chain, chain[1:]):
+            Path(script).write_text(f'#! {interpreter} -x\n')
+        self.assertEqual(list(interpreters(chain[0])), chain[1:5])
+        self.assertEqual(list(interpreters(chain[4])), chain[5:])
+        for first_line, found in (
+            ('#!/bin/none', ['/bin/none']),
+            ('#!/bin/none\n#!/bin/other', ['/bin/none']),
+            ('#!sh', []),
+            ('#!', []),
+            ('no script', []),
+        ):
+            self.assertEqual(list(interpreters(self.write('script', first_line))), found)
 
     def test_a_large_file_is_not_in_memory_as_a_whole(self) -> None:
         os.truncate(self.write('large', 'x'), 1 << 26)

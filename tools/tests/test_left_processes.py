@@ -245,6 +245,28 @@ class Reapers(InRuns):
                     workers.end(lambda spared: None)
         self.assertEqual(raised.exception.filename, '/link\udcff')
 
+    def test_a_worker_that_does_not_end_in_time_is_killed(self):
+        layout = OneState(self.path('state'))
+        begun = self.path('begun')
+
+        def lay_out_slowly(*_):
+            os.mkdir(begun)
+            time.sleep(PATIENCE)
+
+        workers = StateWorkers(self.checker('true'), layout, 1, mock.Mock())
+        with mock.patch.object(layout, 'laid_out', lay_out_slowly):
+            workers.start_workers({0: 0})
+        (worker,) = workers.workers
+        self.wait_until(lambda: os.path.exists(begun), 'the process has begun')
+        spared = mock.Mock()
+        begin_time = time.monotonic()
+        with mock.patch('crashfs_tools.checker.running.workers.UNDO_SECONDS', 0.2):
+            workers.end(spared)
+        self.assertLess(time.monotonic() - begin_time, PATIENCE / 2)
+        self.assertEqual(workers.workers, [])
+        self.assertRaises(ChildProcessError, os.waitpid, worker.process, 0)
+        spared.assert_called_with({worker.process})
+
     def test_a_fault_of_a_worker_keeps_its_type_and_its_text(self):
         for fault, wanted in [
             (OSError(errno.ENOENT, 'gone', '/x'), FileNotFoundError(errno.ENOENT, 'gone', '/x')),

@@ -16,6 +16,7 @@ from crashfs_tools.checker.running.runner import (
     AcknowledgedLines,
     CheckEnded,
     Checker,
+    failure_cause,
 )
 from crashfs_tools.common.command import Refused
 
@@ -67,6 +68,17 @@ class Runs(InRuns):
             outcome = self.run_once(script)
             self.assertEqual((outcome.result, outcome.cause), (result, cause), script)
         self.assertEqual(sorted(os.listdir(self.folder)), ['state', 'tmp'])
+
+    def test_a_cause_is_the_last_line_cut_after_the_name_of_a_signal(self):
+        for status, printed, cause in [
+            (1, 'first\nlast  \n\n', 'last'),
+            (1, ' \n', 'status 1'),
+            (3, 'a' * 201, 'a' * 200),
+            (-9, '', 'ended by SIGKILL'),
+            (-11, 'last', 'ended by SIGSEGV: last'),
+            (-40, 'was\n', 'ended by signal 40: was'),
+        ]:
+            self.assertEqual(failure_cause(status, printed), cause)
 
     def test_what_is_printed_has_a_limit_and_its_end_is_kept(self):
         for script, outcome in [

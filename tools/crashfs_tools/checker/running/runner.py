@@ -117,7 +117,7 @@ class Ending(NamedTuple):
 
 
 def do_nothing() -> None:
-    """Does nothing: the callback of those that need none."""
+    """Does nothing: a callback for callers that need none."""
 
 
 @dataclass

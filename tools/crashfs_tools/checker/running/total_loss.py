@@ -3,10 +3,6 @@ session acknowledged is lost: if it passes there too, the report asks why."""
 
 from __future__ import annotations
 
-from dataclasses import replace
-
-from crashfs_tools.checker.states.plan import SetProfiles
-
 from .runner import GOOD
 from .trials import Trials
 
@@ -20,7 +16,8 @@ def total_loss_question(trials: Trials) -> str:
         return ''
     has_start_files = bool(trials.trees.of_state(trials.plan.first))
     hint = ', or was all there before' if has_start_files else ' for what was acknowledged'
-    return f'{trials.options.recovery_name} passes even if the whole session is lost: does it look{hint}?'
+    name = trials.options.recovery_name
+    return f'{name} passes even if the whole session is lost: does it look{hint}?'
 
 
 def passes_in_start_tree(trials: Trials, line_count: int) -> bool:
@@ -28,8 +25,4 @@ def passes_in_start_tree(trials: Trials, line_count: int) -> bool:
     if no crash leaves that. The plan of the trials must begin with the start tree. Exceptions as in
     Trials.try_state()."""
     start = trials.plan.listed[0]._replace(says=line_count)
-    plan = trials.plan.with_states([start], None, SetProfiles())
-    start_trials = Trials(trials.workplace, replace(trials.planned, plan=plan))
-    # The start tree is loaded there already.
-    start_trials.trees = trials.trees
-    return start_trials.try_state(start).result == GOOD
+    return trials.with_states([start]).try_state(start).result == GOOD

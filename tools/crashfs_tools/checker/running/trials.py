@@ -21,7 +21,7 @@ from typing import (
 from crashfs_tools.checker.address import Address
 from crashfs_tools.checker.options import Options
 from crashfs_tools.checker.states.layout import Archive, Layout
-from crashfs_tools.checker.states.plan import PlannedTrace, State
+from crashfs_tools.checker.states.plan import PlannedTrace, SetProfiles, State
 from crashfs_tools.checker.states.plan_trees import PlanTrees
 from crashfs_tools.common.command import TEXT, Refused
 from crashfs_tools.common.guard import Guard
@@ -80,6 +80,14 @@ class Trials:
         """Trials of another plan, such as that of a recovery, with the same COMMAND and workplace,
         but with trees that another program makes. They load all trees at once."""
         return Trials(replace(self.workplace, program=program), planned, loads_all_trees=True)
+
+    def with_states(self, listed: List[State]) -> Trials:
+        """Trials of a plan that lists only these states, whose numbers must follow the first one of
+        this plan, with the trees that they have in this one."""
+        plan = self.plan.with_states(listed, None, SetProfiles())
+        trials = Trials(self.workplace, replace(self.planned, plan=plan))
+        trials.trees = self.trees
+        return trials
 
     def new_checker(self) -> Checker:
         """A checker for COMMAND, or for the function in its place, with the environment that this
@@ -265,10 +273,10 @@ class Trials:
         return numbers
 
     def try_all(self, results: Results, after_each: Callable[[], None] = do_nothing) -> bool:
-        """Tries the states of the shard that have no outcome yet, as try_remaining() does. If all crash
-        states are asked for, but are too many or too slow, only the families and what was drawn are
-        chosen in the results. Returns whether each state to try has an outcome: with --fail-fast
-        some may lack one."""
+        """Tries the states of the shard that have no outcome yet, as try_remaining() does. If all
+        crash states are asked for, but are too many or too slow, only the families and what was
+        drawn are chosen in the results. Returns whether each state to try has an outcome: with
+        --fail-fast some may lack one."""
         plan = results.plan
         if plan.all_states is not None and not plan.has_all_states:
             results.choose(states_in_batches(results, has_all=False))

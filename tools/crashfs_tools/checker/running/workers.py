@@ -247,17 +247,18 @@ class StateWorkers:
         while self.workers:
             end_processes({worker.process for worker in self.workers})
             for worker in list(self.workers):
-                self.end_worker(worker, is_late=time.monotonic() > deadline)
+                if time.monotonic() > deadline:
+                    os.kill(worker.process, signal.SIGKILL)
+                self.drop_if_ended(worker)
             if self.workers:
                 time.sleep(END_POLL_SECONDS)
         os.close(self.life_pipe)
 
-    def end_worker(self, worker: Worker, *, is_late: bool) -> None:
-        """Handles what a process has sent and, if the process has ended, closes its pipe and drops
-        it from `workers`. If is_late is set, the process is killed and waited for first."""
-        if is_late:
-            os.kill(worker.process, signal.SIGKILL)
-        has_ended = os.waitpid(worker.process, 0 if is_late else os.WNOHANG)[0]
+    def drop_if_ended(self, worker: Worker) -> None:
+        """Handles what a process has sent by now and, if it has ended, closes its pipe and drops it
+        from `workers`. Doesn't wait."""
+        # Asked first: a process that ends after this may still send lines.
+        has_ended = os.waitpid(worker.process, os.WNOHANG)[0]
         self.read_last_lines(worker)
         if has_ended:
             os.close(worker.pipe)

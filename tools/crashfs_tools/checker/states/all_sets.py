@@ -19,6 +19,7 @@ from typing import (
     Tuple,
 )
 
+from crashfs_tools.common.command import parse_number
 from crashfs_tools.common.program import (
     Crashfs,
     ProgramFault,
@@ -122,12 +123,17 @@ class ProgramSets:
 
     def count_sets(self) -> Optional[int]:
         """How many sets the rules allow: by the second reading if that has found sets already, else
-        by the program. None if they are too many to count, or if the program prints no number.
-        ProgramFault also if the program doesn't know the option."""
+        by the program. None if they are too many to count. PlanError if the program prints no
+        number, ProgramFault also if it doesn't know the option."""
         if self.are_read:
             return self.reading_sets.count_sets()
         lines = self.printed_lines(COUNT_OPTIONS)
-        return int(lines[0]) if lines and lines[0].strip().isdigit() else None
+        if lines is None:
+            return None
+        count = parse_number(' '.join(lines))
+        if count is None:
+            raise PlanError(f'crashfs picks printed: {" ".join(lines)}')
+        return count
 
     def different_sets(self, most: int, profile: str = '') -> Optional[List[int]]:
         """Asks `picks --every --different`. The second reading answers if the program doesn't know

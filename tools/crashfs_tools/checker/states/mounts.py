@@ -94,8 +94,8 @@ def unmount(directory: str) -> None:
 def run_on_directory(words: List[str], directory: str, environment: Dict[str, str]) -> str:
     """Runs a command about a directory, in a session of its own, so that Ctrl-C doesn't end it.
     Returns an empty text if the command succeeds, else a line that says why it doesn't, without the
-    directory's name: also if there is no such command, or if it is killed after COMMAND_SECONDS. OSError if
-    it can't be started for another reason."""
+    directory's name: also if there is no such command, or if it is killed after COMMAND_SECONDS.
+    OSError if it can't be started for another reason."""
     try:
         finished = subprocess.run(
             words,
