@@ -9,7 +9,7 @@ from typing import Any, List
 from unittest import mock
 
 from crashfs_tools.checker.states import plan_trees
-from crashfs_tools.checker.states.layout import Archive
+from crashfs_tools.checker.states.layout import ArchiveLayout
 from crashfs_tools.checker.states.plan import PlannedTrace
 from crashfs_tools.checker.states.plan_trees import PlanTrees
 from crashfs_tools.common.command import Refused
@@ -89,7 +89,7 @@ class Archived(Listing):
         planned = self.planned(STORE)
         program, trees = Crashfs(FAKE, is_unproved=True), self.loaded_trees(planned)
         # No program is started for trees that are loaded.
-        layout = Archive(Crashfs('/none'), planned, self.temporary, {}, trees)
+        layout = ArchiveLayout(Crashfs('/none'), planned, self.temporary, {}, trees)
         for state in planned.plan.listed:
             ((number, directory),) = layout.states({state.number})
             (request,) = planned.requests([state.number])

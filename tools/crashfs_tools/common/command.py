@@ -176,8 +176,8 @@ def last_line(output: str) -> str:
 
 def error_text(error: OSError, unnamed_file: str) -> str:
     """An OSError that has a number, as a text: the file that it names, and why. If it names none,
-    the text begins with what failed as in FAILED_CALLS or, for other numbers, with unnamed_file: the
-    file that was written or read."""
+    the text begins with what failed as in FAILED_CALLS or, for other numbers, with unnamed_file:
+    the file that was written or read."""
     subject = error.filename or FAILED_CALLS.get(error.errno or 0, unnamed_file)
     return f'{subject}: {error.strerror}'
 

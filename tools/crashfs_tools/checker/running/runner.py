@@ -21,11 +21,14 @@ from .output import MOST_BYTES, Output
 from .recoveries import StateRecovery, StandardStreams
 
 GOOD, BAD, NO_ANSWER = 'good', 'bad', 'no answer'
+# So much of a cause, and of the end of what was printed, is kept.
 CAUSE_CHARACTERS = 200
 OUTPUT_CHARACTERS = 2_000
+# No wait is longer: a signal that comes as it begins is handled only after it.
 POLL_SECONDS = 0.5
 # A command that takes longer lets others know what is known so far.
 SLOW_SECONDS = 0.01
+# Without descriptors of processes it is asked so often whether one has ended.
 LOOK_SECONDS = 0.002
 # COMMAND may put a symbolic link in the place of this file.
 LINES_FILE = os.O_WRONLY | os.O_NOFOLLOW | os.O_CLOEXEC
@@ -160,10 +163,10 @@ class Checker:
 
     def run(self, number: int, says: int, directory: str) -> Outcome:
         """Runs the recovery in a state's directory with the first `says` acknowledged lines, ends
-        what it leaves running, and unmounts what it leaves mounted. No answer if it is late, prints
-        too much or leaves a mount that stays; nor, here and in later states, while left_processes
-        has any. In the output the directory is `.`. Refused or OSError if it can't be started,
-        CheckEnded if the check ends meanwhile."""
+        what it leaves running, and unmounts what it leaves mounted. The outcome is NO_ANSWER if it
+        is late, prints too much or leaves a mount that stays. It is that too, in this and in later
+        states, as long as left_processes has any. In the output the directory is `.`. Refused or
+        OSError if the recovery can't be started, CheckEnded if the check ends meanwhile."""
         if self.left_processes:
             self.end_left_processes(descendants.child_processes() - set(self.left_processes))
         if self.left_processes:

@@ -20,7 +20,7 @@ from typing import (
 
 from crashfs_tools.checker.address import Address
 from crashfs_tools.checker.options import Options
-from crashfs_tools.checker.states.layout import Archive, Layout
+from crashfs_tools.checker.states.layout import ArchiveLayout, Layout
 from crashfs_tools.checker.states.plan import PlannedTrace, SetProfiles, State
 from crashfs_tools.checker.states.plan_trees import PlanTrees
 from crashfs_tools.common.command import TEXT, Refused
@@ -99,11 +99,11 @@ class Trials:
             recovery, self.options.timeout, self.guard.environment, self.acknowledged_lines
         )
 
-    def archive_layout(self, folder: str) -> Archive:
+    def archive_layout(self, folder: str) -> ArchiveLayout:
         """A layout that makes states below a folder, each in a directory of its own, from the
         loaded trees if these are enough. Errors as in PlanTrees.loaded."""
         environment, loaded = self.guard.environment, self.trees.loaded
-        return Archive(self.program, self.planned, folder, environment, loaded)
+        return ArchiveLayout(self.program, self.planned, folder, environment, loaded)
 
     def new_layout(self, is_for_many: bool = False) -> Layout:
         """A new layout, below the guard's directory or, with --serve, that of server_layout(). If

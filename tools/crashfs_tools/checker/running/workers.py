@@ -124,7 +124,6 @@ class StateWorkers:
         """Those of `workers` whose pipe has something to read, or is at its end. Waits at most
         POLL_SECONDS for one, and may return none."""
         workers = {worker.pipe: worker for worker in self.workers}
-        # A signal that comes as a wait begins is handled only after it: so each wait is short.
         ready = poll_for_input(*workers).poll(POLL_SECONDS * 1000)
         return [workers[pipe] for pipe, _ in ready]
 

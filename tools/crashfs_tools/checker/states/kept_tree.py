@@ -99,7 +99,7 @@ class KeptTree:
         make_again()."""
         if self.is_whole:
             try:
-                self.change(tree)
+                self.make_changes(tree)
                 return
             except (OSError, Unchangeable):
                 pass
@@ -116,7 +116,7 @@ class KeptTree:
         status = os.lstat(self.directory)
         # The group may be that of the directory around it.
         self.owners = {(status.st_uid, status.st_gid), (os.geteuid(), os.getegid())}
-        self.change(tree)
+        self.make_changes(tree)
         self.is_whole = True
         time.sleep(TICK_SECONDS)
 
@@ -133,7 +133,7 @@ class KeptTree:
         if not remove_tree(self.directory):
             self.directory = unused_path(self.directory)
 
-    def change(self, tree: Mapping[str, Entry]) -> None:
+    def make_changes(self, tree: Mapping[str, Entry]) -> None:
         """Changes in the directory, which must be there, what differs from the tree; the umask is 0
         meanwhile. make_again() must have found its owners and attributes. Unchangeable, or an
         OSError, if something can't be changed: the directory may then have neither the old tree nor

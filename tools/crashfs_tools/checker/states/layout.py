@@ -57,7 +57,7 @@ class Layout(ABC):
 
 
 @dataclass
-class Archive(Layout):
+class ArchiveLayout(Layout):
     """Lays states out below a folder, which must exist, each as a directory whose name is the
     state's number. The environment is that of the program. loaded has trees of the plan that are in
     memory, maybe none: if it has those of all states that are wanted, the program isn't started."""
