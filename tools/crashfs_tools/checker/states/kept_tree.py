@@ -57,7 +57,7 @@ class LaidFile(NamedTuple):
 
 
 @dataclass
-class Change:
+class TreeChange:
     """A change of a directory to a tree, while it is made: the paths of the tree that are there
     already, at first only the root's, and the modes that directories have meanwhile, by path."""
 
@@ -140,13 +140,13 @@ class KeptTree:
         the new one."""
         if self.mounts.points_below(self.directory):
             raise Unchangeable
-        change = Change(tree)
+        change = TreeChange(tree)
         self.open_up(change, '', self.directory, None, os.lstat(self.directory))
         with open_to_fill(self.directory) as root:
             self.clear(change, root, '')
             self.fill(change, root)
 
-    def fill(self, change: Change, root: int) -> None:
+    def fill(self, change: TreeChange, root: int) -> None:
         """Makes the entries of the tree whose paths aren't in remaining_paths, below the open
         directory `root`: files and directories, then symbolic links. Then sets the modes of
         directories whose mode isn't that of the tree. After an OSError the rest isn't made."""
@@ -160,7 +160,7 @@ class KeptTree:
         wanted_modes = ((path, change.tree[path].mode) for path in modes)
         set_modes([(path, mode) for path, mode in wanted_modes if mode != modes[path]], root)
 
-    def clear(self, change: Change, folder: int, path: str) -> None:
+    def clear(self, change: TreeChange, folder: int, path: str) -> None:
         """Removes from a directory, which is open as `folder` and at `path` in the tree, all that
         the tree doesn't have or must have made again, and all symbolic links, at any depth. Adds
         the paths of what stays to remaining_paths of the change. Unchangeable if a directory can't
@@ -186,7 +186,7 @@ class KeptTree:
                 self.clear_directory(change, folder, entry.name, entry_path, status)
 
     def clear_directory(
-        self, change: Change, folder: int, name: str, path: str, status: os.stat_result
+        self, change: TreeChange, folder: int, name: str, path: str, status: os.stat_result
     ) -> None:
         """Clears a directory that the tree has too, and adds it to remaining_paths of the change.
         `name` is its name in the open directory `folder`, `path` its whole path in the tree.
@@ -200,7 +200,12 @@ class KeptTree:
         change.remaining_paths.add(path)
 
     def open_up(
-        self, change: Change, path: str, name: str, folder: Optional[int], status: os.stat_result
+        self,
+        change: TreeChange,
+        path: str,
+        name: str,
+        folder: Optional[int],
+        status: os.stat_result,
     ) -> None:
         """Gives a directory the rights that changes need, if it lacks them, and notes the mode that
         it has then in `modes` of the change, by its path in the tree. `name` is its name in the
@@ -291,7 +296,7 @@ class KeptTree:
             and laid_file.signature[:RIGHTS] == signature_of(status)[:RIGHTS]
         )
 
-    def make_entry(self, change: Change, root: int, path: str, entry: Entry) -> None:
+    def make_entry(self, change: TreeChange, root: int, path: str, entry: Entry) -> None:
         """Makes the file or directory of a path below the open directory `root`, and notes it in
         `files`, or in `modes` of the change. Nothing is made for a symbolic link. FileExistsError
         if something is at the path; after another OSError a file may have a part of its bytes."""
