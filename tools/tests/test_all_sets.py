@@ -47,7 +47,7 @@ class Choices(InFolder):
     def test_the_program_lists_the_states_of_a_trace_of_version_3(self) -> None:
         program = Program()
         sets = self.sets(program, TRACE)
-        self.assertFalse(sets.are_read)
+        self.assertFalse(sets.are_from_reading)
         self.assertEqual(sets.different_sets(9), [0b00, 0b11])
         self.assertEqual(program.asked, [['--every', '--different', '--most', '9']])
 
@@ -91,7 +91,7 @@ class Choices(InFolder):
     def test_the_second_reading_lists_those_of_older_traces(self) -> None:
         program = Program()
         sets = self.sets(program, [H1, *TRACE[1:]])
-        self.assertTrue(sets.are_read)
+        self.assertTrue(sets.are_from_reading)
         self.assertEqual(len(sets.different_sets(9) or []), 4)
         self.assertEqual(program.asked, [])
 
@@ -99,7 +99,7 @@ class Choices(InFolder):
         program = Program(lacks=['--different', '--count', '--sample'])
         sets = self.sets(program, TRACE)
         self.assertEqual(len(sets.different_sets(9) or []), 4)
-        self.assertTrue(sets.are_read)
+        self.assertTrue(sets.are_from_reading)
         self.assertEqual(sets.count_sets(), 4)
         self.assertEqual(len(sets.drawn_sets(7, 1) or []), 7)
         self.assertNotIn(['--every', '--count'], program.asked)
@@ -108,28 +108,28 @@ class Choices(InFolder):
         program = Program(lacks=['--sample'], refusal='more than 9 sets')
         sets = self.sets(program, TRACE)
         self.assertIsNone(sets.different_sets(9))
-        self.assertFalse(sets.are_read)
+        self.assertFalse(sets.are_from_reading)
         self.assertEqual(len(sets.drawn_sets(7, 1) or []), 7)
-        self.assertTrue(sets.are_read)
+        self.assertTrue(sets.are_from_reading)
 
     def test_the_second_reading_lists_those_of_a_large_start(self) -> None:
         lines = [TRACE[0], START, *TRACE[1:]]
         for most, is_read in ((12, False), (11, True)):
             with self.subTest(most), mock.patch.object(choices, 'START_BYTES', most):
-                self.assertEqual(self.sets(Program(), lines).are_read, is_read)
+                self.assertEqual(self.sets(Program(), lines).are_from_reading, is_read)
 
     def test_the_program_lists_those_of_another_profile(self) -> None:
         program = Program()
         sets = self.sets(program, TRACE)
         self.assertEqual(sets.different_sets(9, 'ordered'), [0b00, 0b11])
         asked = ['--every', '--different', '--most', '9', '--profile', 'ordered']
-        self.assertEqual((program.asked, sets.are_read), ([asked], False))
+        self.assertEqual((program.asked, sets.are_from_reading), ([asked], False))
 
     def test_those_of_another_profile_that_it_can_not_list_are_read(self) -> None:
         for program in (Program(lacks=['--profile']), Program(refusal='too many sets to compare')):
             sets = self.sets(program, TRACE)
             self.assertEqual(len(sets.different_sets(9, 'ordered') or []), 4)
-            self.assertTrue(sets.are_read)
+            self.assertTrue(sets.are_from_reading)
 
 
 if __name__ == '__main__':

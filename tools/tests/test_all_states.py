@@ -128,7 +128,7 @@ class AllListed(Listing):
         for program, is_read in ((FAKE, False), (self.without_every(), True)):
             planned = self.planned(text, program=program)
             assert planned.plan.all_states is not None
-            self.assertEqual(planned.plan.all_states.are_read, is_read)
+            self.assertEqual(planned.plan.all_states.are_from_reading, is_read)
             self.assertEqual(set(self.trials(text, planned)), wanted_trials(text))
 
     def without_every(self) -> str:

@@ -9,7 +9,7 @@ from dataclasses import replace
 from unittest import mock
 
 from crashfs_tools.checker.states import kept_tree
-from crashfs_tools.checker.states.kept_tree import KeptTree
+from crashfs_tools.checker.states.kept_tree import KeptTree, file_system_type
 from crashfs_tools.common.entry import Entry
 from crashfs_tools.common.file_bytes import read_file_bytes
 from crashfs_tools.common.sparse import SparseBytes
@@ -277,6 +277,23 @@ class Kept(InFolder):
         with mock.patch.object(kept, 'make_again') as made:
             kept.change_to(TREE)
         made.assert_called_once_with(TREE)
+
+    def test_the_type_of_a_file_system_is_that_of_the_last_mount_of_its_device(self):
+        self.assertEqual(file_system_type('/proc'), 'proc')
+        self.assertRaises(FileNotFoundError, file_system_type, '/none')
+        device = os.stat(self.folder).st_dev
+        mount = f'36 35 {os.major(device)}:{os.minor(device)} / /mnt rw - {{}} /dev/root rw\n'
+        other = '37 35 0:0 / /other rw - tmpfs tmpfs rw\n'
+        for lines, wanted in (
+            (other, ''),
+            (mount.format('ext4') + other, 'ext4'),
+            (mount.format('ext4') + mount.format('overlay'), 'overlay'),
+            ('36 35\n', ''),
+        ):
+            with mock.patch('builtins.open', mock.mock_open(read_data=lines)):
+                self.assertEqual(file_system_type(self.folder), wanted)
+        with mock.patch('builtins.open', side_effect=PermissionError):
+            self.assertEqual(file_system_type(self.folder), '')
 
     def test_a_file_that_is_another_one_is_written_again(self):
         """Also if its times say nothing."""

@@ -101,7 +101,7 @@ class StateCounts:
     @property
     def is_by_second_reading(self) -> bool:
         """Whether the second reading, not the program, found which crash states a window has."""
-        return any(window is not None and window.are_read for window in self.all_states)
+        return any(window is not None and window.are_from_reading for window in self.all_states)
 
     @property
     def set_count(self) -> Optional[int]:

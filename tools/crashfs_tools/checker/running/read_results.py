@@ -170,7 +170,7 @@ def parse_all_states(value: Any, plan_numbers: range) -> Optional[AllStates]:
     states must be among the numbers of the plan's states. ValueError for anything else."""
     if value is None:
         return None
-    sets, are_listed, are_read, most_states, families, drawn = parse_record(
+    sets, are_listed, are_from_reading, most_states, families, drawn = parse_record(
         value,
         parse_count_or_none,
         parse_boolean,
@@ -181,7 +181,7 @@ def parse_all_states(value: Any, plan_numbers: range) -> Optional[AllStates]:
     )
     if not all(parse_integer(number) in plan_numbers for number in drawn):
         raise ValueError('no state of the plan')
-    return AllStates(sets, are_listed, are_read, most_states, families, tuple(drawn))
+    return AllStates(sets, are_listed, are_from_reading, most_states, families, tuple(drawn))
 
 
 def parse_count_or_none(value: Any) -> Optional[int]:

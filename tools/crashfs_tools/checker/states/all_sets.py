@@ -51,7 +51,7 @@ class AllSets(Protocol):
     for are too many."""
 
     @property
-    def are_read(self) -> bool:
+    def are_from_reading(self) -> bool:
         """Whether the second reading found the sets, or some of them. This is known after
         different_sets() and, if sets are drawn, drawn_sets()."""
 
@@ -103,7 +103,7 @@ class ProgramSets:
         self.program = program
         self.environment = environment
         self.reading_sets = reading_sets
-        self.are_read = False
+        self.are_from_reading = False
         # Commands that run and whose output isn't read yet, by their options.
         self.running: Dict[Tuple[str, ...], RunningProgram] = {}
 
@@ -125,7 +125,7 @@ class ProgramSets:
         """How many sets the rules allow: by the second reading if that has found sets already, else
         by the program. None if they are too many to count. PlanError if the program prints no
         number, ProgramFault also if it doesn't know the option."""
-        if self.are_read:
+        if self.are_from_reading:
             return self.reading_sets.count_sets()
         lines = self.printed_lines(COUNT_OPTIONS)
         if lines is None:
@@ -137,9 +137,9 @@ class ProgramSets:
 
     def different_sets(self, most: int, profile: str = '') -> Optional[List[int]]:
         """Asks `picks --every --different`. The second reading answers if the program doesn't know
-        an option, or if a profile is named and has too many sets for the program: are_read is True
-        from then on, and a profile that the trace doesn't have is a ReadingFault. Returns None as
-        AllSets.different_sets() says."""
+        an option, or if a profile is named and has too many sets for the program: are_from_reading
+        is True from then on, and a profile that the trace doesn't have is a ReadingFault. Returns
+        None as AllSets.different_sets() says."""
         profile_options = ['--profile', profile] if profile else []
         try:
             sets = self.printed_sets([*different_options(most), *profile_options])
@@ -148,18 +148,18 @@ class ProgramSets:
         except ProgramFault as fault:
             if not fault.is_unknown_option:
                 raise
-        self.are_read = True
+        self.are_from_reading = True
         return self.reading_sets.different_sets(most, profile)
 
     def drawn_sets(self, count: int, seed: int) -> Optional[List[int]]:
         """Asks `picks --sample`. The second reading answers if the program doesn't know that
-        option: are_read is True from then on."""
+        option: are_from_reading is True from then on."""
         try:
             return self.printed_sets(['--sample', str(count), '--seed', str(seed)])
         except ProgramFault as fault:
             if not fault.is_unknown_option:
                 raise
-        self.are_read = True
+        self.are_from_reading = True
         return self.reading_sets.drawn_sets(count, seed)
 
     def printed_sets(self, options: List[str]) -> Optional[List[int]]:
@@ -211,7 +211,7 @@ class ReadingSets:
     lacks an acknowledged line and has something after it: a program prints a line before it
     continues."""
 
-    are_read = True
+    are_from_reading = True
 
     def __init__(self, trace: str) -> None:
         """Reads the file of a trace. OSError if it can't be read, ReadingFault if the trace has a

@@ -84,13 +84,13 @@ class CutOff(NamedTuple):
 class AllStates(NamedTuple):
     """What is known of all crash states of a trace. sets: how many sets its rules allow, None if
     they are too many to be counted. are_listed: whether the plan has each different state; it has
-    them if these are at most `most`. are_read: whether the second reading found the sets. families:
-    so many of the plan's first states are those of families. drawn: the numbers of the states that
-    were drawn at random, in their order."""
+    them if these are at most `most`. are_from_reading: whether the second reading found the sets.
+    families: so many of the plan's first states are those of families. drawn: the numbers of the
+    states that were drawn at random, in their order."""
 
     sets: Optional[int]
     are_listed: bool
-    are_read: bool = False
+    are_from_reading: bool = False
     most: int = 0
     families: int = 0
     drawn: Tuple[int, ...] = ()

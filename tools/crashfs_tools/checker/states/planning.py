@@ -146,7 +146,7 @@ class Planner:
         all_states = AllStates(
             sets=all_crash_sets.count_sets(),
             are_listed=different_sets is not None,
-            are_read=all_crash_sets.are_read,
+            are_from_reading=all_crash_sets.are_from_reading,
             most=self.options.most_states,
             families=prefixes_and_holes + len(family_sets),
             drawn=numbers_of_sets(planned.plan, drawn_sets) if drawn_sets else (),
