@@ -178,7 +178,8 @@ def report_written_trace(
 
 def print_error(error: Exception, out: str, outcome: str) -> None:
     """Prints a line on an error, with `outcome`: whether the trace is written to the path `out`. An
-    OSError that names no file is of `out`; an error of another type is an internal one."""
+    OSError is printed as error_text(), of `out` if it names no file; an error of another type is an
+    internal one."""
     if isinstance(error, OSError):
         print_text(f'{error_text(error, out)}; {outcome}')
     else:
