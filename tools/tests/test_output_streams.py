@@ -118,6 +118,19 @@ class Lines(unittest.TestCase):
             ['one'],
         )
 
+    def test_a_duplicate_of_standard_error_acknowledges_something_only_if_it_is_named(self):
+        log = ['1 dup(2</dev/tty>) = 5</dev/tty>', '1 write(5</dev/tty>, "one\n", 4) = 4']
+        self.assertEqual((lines_of(log), lines_of(log, ['5'])), ([], ['one']))
+
+    def test_two_descriptors_of_a_device_are_two_streams_and_of_a_pipe_one(self):
+        for shown, wanted in (('/dev/pts/0', ['two', 'one']), ('pipe:[8]', ['ontwo', 'e'])):
+            calls = ['close(5)', 'close(6)']
+            texts = ((5, 'on'), (6, 'two\n'), (5, 'e\n'))
+            calls += [f'write({number}<{shown}>, "{text}", 9)' for number, text in texts]
+            sizes = (0, 0, *(len(text) for _, text in texts))
+            log = [f'1 {call} = {size}' for call, size in zip(calls, sizes)]
+            self.assertEqual(lines_of(log, ['5', '6']), wanted)
+
     def test_lines_of_another_descriptor(self):
         log = [
             '1 write(6<pipe:[8]>, "one\r\n", 5) = 5',

@@ -36,6 +36,11 @@ TROUBLES: List[Tuple[str, List[str], List[str]]] = [
         ('/: syncfs by a file outside the directory is left out', [], [f'1 syncfs({shown}) = 0'])
         for shown in ('3</etc/x>', '3<pipe:[7]>')
     ],
+    (
+        '/f: splice: its bytes come from a file that is not followed; its later bytes',
+        FILE,
+        [OPEN_F, '1 splice(2<pipe:[6]>, NULL, 3</d/f>, NULL, 9, 0) = 9'],
+    ),
     ('/: io_submit: what is done by it is not in the log', [], ['1 io_submit(0x7f, 1, [{}]) = 1']),
     (
         '/f: a file of O_TMPFILE that was synced before it had this name',
