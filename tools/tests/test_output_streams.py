@@ -59,6 +59,9 @@ class Lines(unittest.TestCase):
         change, part = '1 mkdir("a", 0777) = 0', '1 write(1<pipe:[7]>, "on", 2) = 2'
         recording = output_of([change, part, part, '1 write(1<pipe:[7]>, "\n", 1) = 1'])
         self.assertEqual(recording.streams.inherited_streams[1].most_gaps, 0)
+        line = [part, change, '1 write(1<pipe:[7]>, "e\n", 2) = 2']
+        recording = output_of([*line, *(call.replace('a', 'b') for call in line)])
+        self.assertEqual(recording.streams.inherited_streams[1].most_gaps, 1)
 
     def test_a_write_that_is_an_acknowledgement_is_noted_only_if_it_is_changed(self):
         accepted = '1 accept4(3<socket:[1]>, NULL, NULL, 0) = 4<socket:[8]>'

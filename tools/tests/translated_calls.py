@@ -311,6 +311,12 @@ CASES = [
         ['mkdir /a', 'unlink /f'],
     ),
     (
+        'a working directory by a path through too many links is left again',
+        [StartSymlink('/l', 'u', 'u', 'l')],
+        ['1 chdir("l") = 0', '1 chdir("/d") = 0', '1 mkdir("a", 0755) = 0'],
+        ['mkdir /a'],
+    ),
+    (
         'a file that is renamed to a path that strace cut is removed',
         FILE,
         ['1 rename("f", "/e"...) = 0'],

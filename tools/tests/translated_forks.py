@@ -32,6 +32,25 @@ FORKS = [
         ],
         ['write /f 0 J'],
     ),
+    *[
+        (
+            f'memory that a child of {fork.partition("(")[0]} shares with its parent, or not',
+            FILE,
+            [
+                OPEN_F,
+                '1 mmap(NULL, 4096, PROT_READ, MAP_SHARED, 3</d/f>, 0) = 0x7f0000001000',
+                f'1 {fork} = 2',
+                '2 munmap(0x7f0000001000, 4096) = 0',
+                '1 msync(0x7f0000001000, 4096, MS_SYNC) = 0',
+            ],
+            wanted,
+        )
+        for fork, wanted in (
+            ('vfork()', []),
+            ('clone(child_stack=0x7f, flags=CLONE_VM)', []),
+            ('fork()', ['fsyncrange /f 0 4096']),
+        )
+    ],
     (
         'an exec ends what a process shares with others: descriptors and working directory',
         FILE,
