@@ -13,8 +13,8 @@ from .sparse import SparseBytes
 BLOCKS, ORDERED, JOURNAL = 'blocks', 'ordered', 'journal'
 PROFILES = (BLOCKS, ORDERED)
 BLOCK_SIZES = (512, 1_024, 2_048, 4_096)
-# The version that the recorder writes, unless the session needs a newer one.
-WRITTEN_VERSION = 3
+# The version that the recorder writes, unless the session needs a newer one, and the newest one.
+WRITTEN_VERSION, NEWEST_VERSION = 3, 4
 
 
 @dataclass(frozen=True)

@@ -7,11 +7,11 @@ import os
 import pwd
 import stat
 from dataclasses import dataclass, field
-from typing import Callable, Dict, List, Tuple, Union
+from typing import Callable, Dict, List, Optional, Tuple, Union
 
 from crashfs_tools.common import limits
 from crashfs_tools.common.file_bytes import read_file_bytes
-from crashfs_tools.common.trace import Header, Start, StartSymlink
+from crashfs_tools.common.trace import NEWEST_VERSION, SINCE, Header, Start, StartSymlink
 from crashfs_tools.common.tree import path_fault
 
 # Returns whether a path of the directory is ignored.
@@ -19,17 +19,15 @@ IsIgnored = Callable[[str], bool]
 ScannedEntry = Union[Start, StartSymlink]
 # The bits of a mode that a trace has: the rights of owner, group and others.
 PERMISSIONS = 0o777
-# The newest version of a trace.
-NEWEST = 4
 
 
 @dataclass
 class Scan:
     """The entries of a directory, each after its own directory. links has the first path of a file
-    by each of its further paths. omissions has the path of each entry that no trace can have, with
-    the reason. notes has the path of each entry that has something which no trace has, and which
-    changes no verdict on a crash state, with what it has. By path, extra_mode_bits has the bits of
-    modes beyond 777, and attributes the extended attributes, of the entries that have some."""
+    by each of its further paths. omissions has paths of entries that no trace can have, each with
+    the reason; notes has paths of entries, each with something of the entry that no trace has, and
+    that changes no verdict on a crash state. By path, extra_mode_bits has the bits of modes beyond
+    777, and attributes the extended attributes, of the entries that have some."""
 
     header: Header
     entries: List[ScannedEntry] = field(default_factory=list)
@@ -57,15 +55,15 @@ def group_name(number: int) -> str:
         return f'g{number}'
 
 
-def scan_directory(top: str, is_ignored: IsIgnored, version: int = NEWEST) -> Scan:
-    """What traces of a version can have of the directory `top`, and what they can't. Ignored paths,
-    and what is below them, are left out. A file that also has a name outside the directory, or an
-    ignored one, is noted. OSError if the directory isn't there, or if an entry can't be read or is
-    removed meanwhile."""
+def scan_directory(top: str, is_ignored: IsIgnored, version: Optional[int] = None) -> Scan:
+    """What traces of a version, or of the newest one (None), can have of the directory `top`, and
+    what they can't. Ignored paths, and what is below them, are left out. A file that also has a
+    name outside the directory, or an ignored one, is noted. OSError if the directory isn't there,
+    or if an entry can't be read or is removed meanwhile."""
     status = os.stat(top)
     owner, group = user_name(status.st_uid), group_name(status.st_gid)
     header = Header(owner, group, status.st_mode & PERMISSIONS)
-    scanner = Scanner(top, is_ignored, version, header)
+    scanner = Scanner(top, is_ignored, version or NEWEST_VERSION, header)
     scanner.scan_below('')
     for inode, path in scanner.first_paths.items():
         if scanner.unseen_names[inode] > 0:
@@ -122,7 +120,7 @@ class Scanner:
         that was removed meanwhile."""
         if stat.S_ISDIR(status.st_mode):
             return ''
-        if stat.S_ISLNK(status.st_mode) and self.version >= NEWEST:
+        if stat.S_ISLNK(status.st_mode) and self.version >= SINCE[StartSymlink]:
             return target_fault(os.readlink(self.top + path))
         if not stat.S_ISREG(status.st_mode):
             return name_of_omitted_kind(status.st_mode)

@@ -15,12 +15,13 @@ from crashfs_tools.common.printable import escape_unprintable
 from crashfs_tools.common.program import Crashfs
 from crashfs_tools.common.signals import Stopped, raise_on_stop_signals
 from crashfs_tools.common.streams import prepare_standard_streams
+from crashfs_tools.common.trace import NEWEST_VERSION
 from crashfs_tools.common.whole_files import read_umask, write_whole_file
 
 from . import stacks, strace_run, summary
 from .begin_after import LateStart
 from .arguments import LogError
-from .directory import NEWEST, Scan, group_name, scan_directory, user_name
+from .directory import Scan, group_name, scan_directory, user_name
 from .log_filter import LogFilter
 from .live_files import LiveFiles, StartConditions, no_target
 from .log_stream import LogStream
@@ -38,7 +39,7 @@ from .translate import Translator
 NOTHING_WRITTEN = 1
 # What the lines of errors end with.
 WRITTEN, NOT_WRITTEN = 'the trace is written', 'no trace is written'
-NEW_VERSION = f'the trace has version {NEWEST} (%s): crashfs before 0.2 does not read it'
+NEW_VERSION = f'the trace has version {NEWEST_VERSION} (%s): crashfs before 0.2 does not read it'
 LATE_START = 'it begins after an acknowledged line: what was not yet synced then counts as durable'
 
 
@@ -145,7 +146,7 @@ def record(options: RecordOptions) -> int:
     options = prepared_options(options)
     # A wrong --crashfs is refused before COMMAND runs.
     Crashfs.find(options.crashfs)
-    start_scan = scan_directory(options.directory, options.is_ignored, options.version or NEWEST)
+    start_scan = scan_directory(options.directory, options.is_ignored, options.version)
     recording = Recording(start_scan.header, trace_settings(options))
     files = files_at_start(
         recording,

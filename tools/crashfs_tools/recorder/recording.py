@@ -11,6 +11,7 @@ from crashfs_tools.common.trace import (
     BLOCK_SIZES,
     BLOCKS,
     JOURNAL,
+    NEWEST_VERSION,
     WRITTEN_VERSION,
     Chmod,
     Creat,
@@ -29,7 +30,7 @@ from crashfs_tools.common.trace import (
 )
 from crashfs_tools.common.tree import Tree, least_file_size
 
-from .directory import NEWEST, PERMISSIONS
+from .directory import PERMISSIONS
 from .output_streams import DEFAULT_DESCRIPTORS, OutputStream, OutputStreams, SayEach
 from .strace_log import Call
 
@@ -136,7 +137,9 @@ class Recording:
         version = self.settings.version or WRITTEN_VERSION
         self.trace = Trace(header, version=version, profile=profile, block=block)
         self.tree = Tree(header.owner, header.group, header.mode, block, version, profile)
-        self.version_reason = f'--trace-version {NEWEST}' if version >= NEWEST else ''
+        self.version_reason = (
+            f'--trace-version {NEWEST_VERSION}' if version >= NEWEST_VERSION else ''
+        )
         for trouble in self.troubles.values():
             trouble.lines.clear()
         if profile == JOURNAL:
@@ -186,14 +189,14 @@ class Recording:
     def may_have_newest_version(self) -> bool:
         """Whether the trace has the newest version, or gets it for an operation that needs it.
         False if --trace-version names an older one."""
-        return self.trace.version >= NEWEST or self.settings.version is None
+        return self.trace.version >= NEWEST_VERSION or self.settings.version is None
 
     def use_newest_version(self, reason: str) -> bool:
         """Gives the trace and its tree the newest version, for this reason, unless they have it
         already, or --trace-version names an older one. Returns whether they have it now."""
-        if self.trace.version < NEWEST and self.may_have_newest_version:
-            self.set_version(NEWEST, reason)
-        return self.trace.version >= NEWEST
+        if self.trace.version < NEWEST_VERSION and self.may_have_newest_version:
+            self.set_version(NEWEST_VERSION, reason)
+        return self.trace.version >= NEWEST_VERSION
 
     def set_version(self, version: int, reason: str) -> None:
         """Gives the trace and its tree a version, and sets version_reason, which must be

@@ -23,7 +23,7 @@ from .comparison import (
     lines_on_new_notes,
     lines_on_new_omissions,
 )
-from .directory import NEWEST, Scan, scan_directory
+from .directory import Scan, scan_directory
 from .options import RecordOptions
 from .output_streams import ERRORS, OutputStream
 from .recording import Recording, Trouble
@@ -170,7 +170,7 @@ def compare_directory(
     the directory can't be read, that is a line, and nothing is compared. Errors as
     read_last_state()."""
     try:
-        at_end = scan_directory(options.directory, options.is_ignored, options.version or NEWEST)
+        at_end = scan_directory(options.directory, options.is_ignored, options.version)
     except OSError as error:
         return DirectoryComparison(lines=[f'{error.filename}: {error.strerror}: {NOT_COMPARED}'])
     last_state, reader_name = read_last_state(options, recording)
