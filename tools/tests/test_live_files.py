@@ -158,6 +158,19 @@ class Paths(unittest.TestCase):
                 troubles = self.files.recording.troubles.values()
                 self.assertEqual([trouble.where for trouble in troubles], wanted)
 
+    def test_a_pipe_that_was_standard_output_is_it_for_other_processes_too(self) -> None:
+        first, second = self.open_files()
+        streams = self.files.recording.streams
+        write = call('write', '6<pipe:[9]>')
+        self.assertIsNone(self.files.find_output_stream(second, write))
+        for descriptor, number in (('2<pipe:[9]>', 2), ('1<pipe:[9]>', 1)):
+            stream = self.files.find_output_stream(first, call('write', descriptor))
+            self.assertIs(stream, streams.inherited_streams[number])
+        self.assertIs(self.files.find_output_stream(second, write), streams.inherited_streams[1])
+        self.assertIsNone(self.files.find_output_stream(first, call('write', '5</d/f>')))
+        splice = call('splice', '5</d/f>', 'NULL', '1<pipe:[9]>')
+        self.assertIs(self.files.find_output_stream(first, splice, 2), streams.inherited_streams[1])
+
 
 class Changes(unittest.TestCase):
     def setUp(self) -> None:

@@ -1,10 +1,14 @@
 """Where calls of several threads stand."""
 
 import unittest
+from typing import List, Optional, Set, Tuple
 
 from crashfs_tools.common.trace import Start
+from crashfs_tools.recorder.arguments import NO_DESCRIPTOR
+from crashfs_tools.recorder.call_order import changed_paths, paths_in_arguments
+from crashfs_tools.recorder.strace_log import Call
 
-from .support import operations_of
+from .support import as_strace, operations_of
 
 START = [Start('/f', 'u', 'u', 0o644, b'hello'), Start('/g', 'u', 'u', 0o644, b'')]
 OPENS = [
@@ -222,6 +226,47 @@ CASES = [
         ['fsync /', 'rename /f /h'],
     ),
 ]
+
+
+# (the arguments of a call, the paths in them)
+PATHS: List[Tuple[List[str], Optional[Set[str]]]] = [
+    ([], set()),
+    (['0755'], set()),
+    (['"/d/a"'], {'/d/a', '/d'}),
+    (['"/a"'], {'/a', '/'}),
+    (['"a"', '0755'], None),
+    (['"/d/a"...'], None),
+    (['0x7ffc', '"/d/a"'], {'/d/a', '/d'}),
+    (['AT_FDCWD</d>', '"a"'], {'/d/a', '/d'}),
+    (['AT_FDCWD', '"a"'], None),
+    (['3</d/s>', '"../a/./b/"'], {'/d/a/b', '/d/a'}),
+    (['3</d/s>', '"/e/a"'], {'/e/a', '/e'}),
+    (['3</d/s>', '"a"', '4</d/t>', '"b"'], {'/d/s/a', '/d/s', '/d/t/b', '/d/t'}),
+    (['"/d/a"', '"b"'], None),
+]
+# (a call that changes something, the paths of the files whose syncs cover that)
+CHANGED_PATHS: List[Tuple[str, List[str], Optional[Set[str]]]] = [
+    ('write', ['3</d/f>', '"a"', '1'], {'/d/f'}),
+    ('write', ['3<pipe:[7]>', '"a"', '1'], set()),
+    ('copy_file_range', ['3</d/f>', 'NULL', '4</d/g>', 'NULL', '9', '0'], {'/d/g'}),
+    ('tee', ['3</d/f>', '4</d/g>', '9', '0'], {'/d/g'}),
+    ('setxattr', ['"/d/f"', '"user.a"', '"1"', '1', '0'], {'/d/f', '/d'}),
+    ('rename', ['"/d/f"', '"/d/s/g"'], {'/d/f', '/d', '/d/s/g', '/d/s'}),
+    ('rename', ['"f"', '"/d/s/g"'], None),
+]
+
+
+class Paths(unittest.TestCase):
+    def test_paths_in_arguments_come_with_their_directories(self):
+        for words, wanted in PATHS:
+            with self.subTest(words):
+                self.assertEqual(paths_in_arguments(list(map(as_strace, words))), wanted)
+
+    def test_changed_paths_are_those_that_a_sync_covers(self):
+        for name, words, wanted in CHANGED_PATHS:
+            with self.subTest(name, words=words):
+                call = Call(7, name, list(map(as_strace, words)), 0, NO_DESCRIPTOR, 1, 1)
+                self.assertEqual(changed_paths(call), wanted)
 
 
 class Order(unittest.TestCase):

@@ -165,6 +165,7 @@ def parse_messages(word: str) -> Optional[bytes]:
     strace shows no message. None if strace cut one, or doesn't show how much of one was sent.
     LogError as in parse_bytes()."""
     sent_bytes = b''
+    # Each message is shown as `{msg_hdr={.. msg_iov=[..] ..}, msg_len=5}`.
     for message in word.split('msg_hdr=')[1:]:
         data, length = parse_vector(message), re.search(r'msg_len=(\d+)', message)
         if data is None or length is None:

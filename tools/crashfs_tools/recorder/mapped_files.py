@@ -55,11 +55,11 @@ MAPPED = re.compile(
 
 @dataclass
 class FileCopy:
-    """The bytes of the mapped files that changed since the copy before, by their numbers.
-    line_number is that of the log's last line that had been read. thread is the one that was
-    stopped, NO_THREAD for the copy at the end. is_alone means that its process has no other thread,
-    and that no thread ran while the copy before was made; the copy at the end has it too.
-    shared_numbers has the files that other processes may have mapped too."""
+    """A copy of the mapped files: bytes_by_number has the bytes of each file that changed since the
+    copy before, by the file's number. line_number is that of the log's last line that had been
+    read. thread is the one that was stopped, NO_THREAD for the copy at the end. is_alone means that
+    its process has no other thread, and that no thread ran while the copy before was made; the copy
+    at the end has it too. shared_numbers has the files that other processes may have mapped too."""
 
     line_number: int
     thread: int
