@@ -64,12 +64,12 @@ RIGHT_CHANGES = {
     'chown32',
     'lchown32',
 }
-# An access control list sets the mode.
-LIST_CHANGES = {'setxattr', 'lsetxattr', 'fsetxattr'}
+# An extended attribute may be an access control list, which sets the mode.
+ATTRIBUTE_CHANGES = {'setxattr', 'lsetxattr', 'fsetxattr'}
 # The changes of a descriptor's file: of its bytes, and others.
 DESCRIPTOR_CHANGES = DATA_CHANGES | {'fchmod', 'fchown', 'fchown32', 'fsetxattr'}
 # No open is among the changes, though one may make or truncate a file.
-CHANGES = DESCRIPTOR_CHANGES | NAME_CHANGES | RIGHT_CHANGES | LIST_CHANGES
+CHANGES = DESCRIPTOR_CHANGES | NAME_CHANGES | RIGHT_CHANGES | ATTRIBUTE_CHANGES
 OPENS = {'open', 'openat', 'openat2', 'creat'}
 # Placed where they begin: from there on another thread may get the number of the descriptor.
 CLOSES = {'close', 'close_range'}
@@ -233,7 +233,7 @@ def changed_paths(change: Call) -> Optional[Set[str]]:
         path = change.descriptor(TARGET_INDEXES.get(change.name, 0)).path
         return set() if path is None else {path}
     # After its path, a setxattr has strings that are no paths.
-    words = change.arguments[:1] if change.name in LIST_CHANGES else change.arguments
+    words = change.arguments[:1] if change.name in ATTRIBUTE_CHANGES else change.arguments
     return paths_in_arguments(words)
 
 

@@ -21,7 +21,7 @@ FOLLOWING_CALLS = (
 def may_be_change(call: Call) -> bool:
     """Whether a cut call may have changed more than extended attributes, by its name: an open may
     make or truncate a file."""
-    changes = call_order.CHANGES - call_order.LIST_CHANGES
+    changes = call_order.CHANGES - call_order.ATTRIBUTE_CHANGES
     return call.name in changes or call.name in call_order.OPENS
 
 

@@ -30,8 +30,9 @@ class Rule:
         and a `#` at the beginning, are ordinary characters."""
         is_negated = pattern.startswith('!')
         body = pattern[1:] if is_negated else pattern
+        names = body.strip('/')
         # A slash in a set ends no name.
-        if not body.strip('/') or '//' in body.strip('/') and '[' not in body:
+        if not names or '//' in names and '[' not in names:
             raise ValueError(f'`{pattern}` has an empty name')
         is_of_directories = body.endswith('/')
         body = body.rstrip('/')
@@ -98,9 +99,9 @@ def translate_stars(pattern: str, position: int) -> Tuple[str, int]:
     one star does: any characters but a slash."""
     after_stars = pattern[position:].lstrip('*')
     end = len(pattern) - len(after_stars)
-    is_after_slash = pattern[:position][-1:] in ('', '/')
-    is_before_slash = not after_stars or after_stars.startswith(('/', '\\/'))
-    is_whole_name = is_after_slash and is_before_slash
+    is_first_in_name = position == 0 or pattern[position - 1] == '/'
+    is_last_in_name = not after_stars or after_stars.startswith(('/', '\\/'))
+    is_whole_name = is_first_in_name and is_last_in_name
     if end - position == 1 or not is_whole_name:
         return '[^/]*', end
     return ('(?:.*/)?', end + 1) if after_stars[:1] == '/' else ('.*', end)
@@ -133,6 +134,7 @@ def translate_item(pattern: str, item: re.Match[str]) -> str:
         if item['name'] not in CLASSES:
             raise ValueError(f'{pattern}: {item[0]} is no class of letters')
         return CLASSES[item['name']]
+    # Without a backslash before it.
     first, last = item['first'][-1], (item['last'] or '')[-1:]
     return re.escape(first) + (f'-{re.escape(last)}' if first < last else '')
 

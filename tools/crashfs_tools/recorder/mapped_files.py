@@ -48,6 +48,7 @@ STOPPING_CALLS = (
 )
 # The thread of a copy for which none was stopped.
 NO_THREAD = 0
+# A call that maps a file as shared: its thread, the descriptor, and the path that strace shows.
 MAPPED = re.compile(
     r'^(\d+) +mmap2?\([^,]*, \d+, [^,]*, [^,]*MAP_SHARED[^,]*, (\d+)<((?:\\x[0-9a-f]{2})+)>'
 )
