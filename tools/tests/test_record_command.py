@@ -21,6 +21,18 @@ m[0:1] = b'y'
 os.write(1, b'told\\n')
 """
 
+# What is written by vmsplice comes after what is stored before it.
+STORE_AND_SPLICE = """
+import ctypes, mmap, os
+f = os.open('map', os.O_RDWR | os.O_CREAT, 0o600)
+os.ftruncate(f, 4096)
+m = mmap.mmap(f, 4096)
+m[0:1] = b'y'
+class Vector(ctypes.Structure):
+    _fields_ = [('base', ctypes.c_char_p), ('length', ctypes.c_size_t)]
+ctypes.CDLL(None).vmsplice(1, ctypes.byref(Vector(b'told\\n', 5)), 1, 0)
+"""
+
 
 class InRecordings(InFolder):
     def setUp(self):
@@ -307,6 +319,16 @@ class Records(InRecordings):
             ],
         )
         self.assert_nothing_left()
+
+    @needs_version_3
+    def test_with_mapped_each_call_that_writes_comes_after_the_stores_before_it(self):
+        script = self.write('mapped.py', STORE_AND_SPLICE)
+        ran = self.record(f'{sys.executable} {script}', '--mapped')
+        self.assertEqual(ran.returncode, 0, ran.stderr)
+        self.assertEqual(
+            [line.partition(',')[2] for line in self.operations()[2:]],
+            ['"path":"/map","offset":0,"text":"y"}', '"text":"told"}'],
+        )
 
     def test_without_mapped_a_mapping_is_a_trouble(self):
         script = self.write('mapped.py', STORE_MAPPED)

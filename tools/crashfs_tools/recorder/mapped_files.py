@@ -1,5 +1,5 @@
 """Copies of files that are mapped for writing: strace sees no stores, so the program is stopped
-at each call that syncs, writes or prints, and the files are read."""
+at each of STOPPING_CALLS, and the files are read."""
 
 from __future__ import annotations
 
@@ -10,41 +10,15 @@ from typing import Dict, Iterable, List, Optional, Set, Tuple
 
 from crashfs_tools.common.file_bytes import Bytes, read_file_bytes
 
-from . import arguments, stopped_processes
+from . import arguments, call_order, stopped_processes
 from .directory import IsIgnored
 
-STOPPING_CALLS = (
-    'msync',
-    'fsync',
-    'fdatasync',
-    'sync',
-    'syncfs',
-    'write',
-    'pwrite64',
-    'writev',
-    'pwritev',
-    'pwritev2',
-    'sendto',
-    'sendmsg',
-    'sendfile',
-    'splice',
-    'ftruncate',
-    'truncate',
-    'ftruncate64',
-    'truncate64',
-    'fallocate',
-    'rename',
-    'renameat',
-    'renameat2',
-    'link',
-    'linkat',
-    'unlink',
-    'unlinkat',
-    'mmap',
-    'mmap2',
-    'munmap',
-    'mremap',
-    'copy_file_range',
+# The calls after which the files are read: those that sync, write, change a name, or map.
+STOPPING_CALLS = sorted(
+    call_order.SYNCS
+    | call_order.DATA_CHANGES
+    | call_order.NAME_CHANGES
+    | {'mmap', 'mmap2', 'munmap', 'mremap'}
 )
 # The thread of a copy for which none was stopped.
 NO_THREAD = 0
