@@ -74,7 +74,7 @@ OPENS = {'open', 'openat', 'openat2', 'creat'}
 # Placed where they begin: from there on another thread may get the number of the descriptor.
 CLOSES = {'close', 'close_range'}
 SYNCS = {'fsync', 'fdatasync', 'msync', 'sync', 'syncfs'}
-# The index of the argument with the descriptor that a call changes, unless it is 0.
+# What target_index() returns, unless it is 0.
 TARGET_INDEXES = {'copy_file_range': 2, 'splice': 2, 'tee': 1}
 
 # Directly before all that is placed at a line of the log, and at that line.
@@ -230,11 +230,17 @@ def changed_paths(change: Call) -> Optional[Set[str]]:
     paths_in_arguments() returns. None if not all paths are known; empty if the change is of no
     file, as a write to a pipe. LogError if a path isn't as strace writes it."""
     if change.name in DESCRIPTOR_CHANGES:
-        path = change.descriptor(TARGET_INDEXES.get(change.name, 0)).path
+        path = change.descriptor(target_index(change)).path
         return set() if path is None else {path}
     # After its path, a setxattr has strings that are no paths.
     words = change.arguments[:1] if change.name in ATTRIBUTE_CHANGES else change.arguments
     return paths_in_arguments(words)
+
+
+def target_index(change: Call) -> int:
+    """The index of the argument with the descriptor whose file a call of DESCRIPTOR_CHANGES
+    changes."""
+    return TARGET_INDEXES.get(change.name, 0)
 
 
 def paths_in_arguments(words: List[str]) -> Optional[Set[str]]:

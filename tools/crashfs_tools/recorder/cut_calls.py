@@ -63,7 +63,7 @@ def targets_by_descriptor(files: LiveFiles, process: Process, call: Call) -> Lis
     """The name of the stream, or the path of the file, that a call of DESCRIPTOR_CHANGES would
     change, as a list of one. Empty if the file is outside the directory or ignored, or if strace
     shows no path of the descriptor."""
-    index = call_order.TARGET_INDEXES.get(call.name, 0)
+    index = call_order.target_index(call)
     stream = files.find_output_stream(process, call, index)
     if stream is not None:
         return [stream.name]

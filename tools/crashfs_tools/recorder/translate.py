@@ -153,7 +153,7 @@ class Translator:
             return self.files.node_argument(process, call, 0)
         if call.name not in call_order.DATA_CHANGES:
             return None
-        target = call.descriptor(call_order.TARGET_INDEXES.get(call.name, 0))
+        target = call.descriptor(call_order.target_index(call))
         return node_of(process.open_file(target))
 
     def add_stores(
