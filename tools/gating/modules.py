@@ -55,11 +55,11 @@ def result_of_tests(name: str, tests: PassCounter) -> ModuleResult:
     return ModuleResult(name, tests.testsRun, tests.passed, failed, skips)
 
 
-def run_here(name: str, result_path: Path) -> int:
-    """Runs a module in this process and writes its result, without the output, to a file, as JSON.
-    Returns 0, also if a test fails or the module can't be imported. At SIGABRT the process ends
-    without a result, and prints on standard error what each of its threads was doing. OSError if
-    the file can't be written. The folder tools/ must be on Python's path."""
+def run_here(name: str, result_path: Path) -> None:
+    """Runs a module in this process and writes its result, without the output, to a file, as JSON,
+    also if a test fails or the module can't be imported. At SIGABRT the process ends without a
+    result, and prints on standard error what each of its threads was doing. OSError if the file
+    can't be written. The folder tools/ must be on Python's path."""
     # No timer of faulthandler: a process that a test forks could not start one of its own.
     faulthandler.enable()
     tests = unittest.defaultTestLoader.loadTestsFromName(name)
@@ -67,7 +67,6 @@ def run_here(name: str, result_path: Path) -> int:
     assert isinstance(counted, PassCounter)
     result = result_of_tests(name, counted)
     result_path.write_text(json.dumps(asdict(result)), encoding='utf-8')
-    return 0
 
 
 def wait_or_abort(child: subprocess.Popen[bytes]) -> None:

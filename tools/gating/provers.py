@@ -5,40 +5,50 @@ from __future__ import annotations
 import os
 from collections import defaultdict
 from dataclasses import dataclass
+from enum import Enum
 from pathlib import Path
 from typing import Dict, Iterator, List, Optional
 
-from crashfs_tools.common.descendants import all_processes, parent_process, read_stat_fields
+from crashfs_tools.common.descendants import all_processes, parent_process, read_process_stat
 
+# Clock ticks in a second, and bytes in a page, as the system counts them.
 TICKS = os.sysconf('SC_CLK_TCK')
 PAGE = os.sysconf('SC_PAGE_SIZE')
+
+
+class Kind(Enum):
+    """What a prover works on, in the order of the columns of gate-times, with their names."""
+
+    PROOF = 'proof'
+    TESTS = 'tests'
+    EDITS = 'edits'
+    PROGRAMS = 'programs'
 
 
 @dataclass(frozen=True)
 class Prover:
     """A process that proves: its number, when it began, in seconds after the system did, how many
     processor seconds it and its ended children took, its memory in bytes, its crate, and what it
-    works on, as kind_of_work() returns it."""
+    works on."""
 
     number: int
     start_time: float
     seconds: float
     memory: int
     crate: str
-    kind: str
+    kind: Kind
 
 
-def kind_of_work(words: List[str], folder: str) -> str:
-    """What a prover with these words of its command line works on in a folder: `tests`, `programs`,
-    `edits` or `proof`. A must-fail edit is tried in a copy of its crate, outside a folder
-    `crates`."""
+def kind_of_work(words: List[str], folder: str) -> Kind:
+    """What a prover with these words of its command line works on in a folder. A must-fail edit is
+    tried in a copy of its crate, outside a folder `crates`."""
     if '--test' in words:
-        return 'tests'
+        return Kind.TESTS
     if '--crate-checked' in words:
-        return 'programs'
+        return Kind.PROGRAMS
     if words[1:2] == ['check'] and '/crates/' not in folder:
-        return 'edits'
-    return 'proof'
+        return Kind.EDITS
+    return Kind.PROOF
 
 
 def read_prover(number: int) -> Optional[Prover]:
@@ -49,16 +59,14 @@ def read_prover(number: int) -> Optional[Prover]:
         if not words[0].endswith('/rattle') or '--crate-name' not in words:
             return None
         folder = os.readlink(f'/proc/{number}/cwd')
-        stat_fields = read_stat_fields(number)
+        stat = read_process_stat(number)
     except OSError:
         return None
-    # The times are in clock ticks, and the memory is in pages.
     return Prover(
         number=number,
-        start_time=int(stat_fields[19]) / TICKS,
-        # Its own time, and that of the children that have ended.
-        seconds=sum(int(field) for field in stat_fields[11:15]) / TICKS,
-        memory=int(stat_fields[21]) * PAGE,
+        start_time=stat.start_ticks / TICKS,
+        seconds=stat.processor_ticks / TICKS,
+        memory=stat.memory_pages * PAGE,
         crate=words[words.index('--crate-name') + 1],
         kind=kind_of_work(words, folder),
     )

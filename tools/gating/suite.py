@@ -17,9 +17,8 @@ from concurrent.futures import ThreadPoolExecutor
 from pathlib import Path
 from typing import Iterator, List, Optional, Sequence
 
-from .modules import ModuleResult, run_here, run_module
+from .modules import TOOLS, ModuleResult, run_here, run_module
 
-TOOLS = Path(__file__).resolve().parent.parent
 # What takes a second or two each, and needs no program.
 QUICK = (
     'archive',
@@ -91,42 +90,35 @@ def skip_reasons(results: Sequence[ModuleResult]) -> List[str]:
     return [reason for result in results for reason in result.skips]
 
 
-def count_skipped_for_program(reasons: Sequence[str]) -> int:
-    """How many of the tests that were skipped for these reasons need `crashfs`: their reasons have
-    this word."""
-    return sum('crashfs' in reason for reason in reasons)
+def count_skipped_for_program(results: Sequence[ModuleResult]) -> int:
+    """How many tests of these modules were skipped because `crashfs` isn't built: their reasons
+    have its name."""
+    return sum('crashfs' in reason for reason in skip_reasons(results))
 
 
-def summary_line(results: Sequence[ModuleResult], *, needs_program: bool) -> str:
+def summary_line(results: Sequence[ModuleResult]) -> str:
     """What unittest counted: the tests that ran, skipped ones among them; the failures, one for
-    each failed subtest; and the skips, with their reasons, the commonest first. If needs_program is
-    set and tests were skipped for lack of `crashfs`, the end of the line counts these as a
-    fault."""
+    each failed subtest; and the skips, with their reasons, the commonest first."""
     skips = skip_reasons(results)
     run, failed = sum(result.run for result in results), sum(result.failed for result in results)
     line = f'{run} run, {failed} failed, {len(skips)} skipped'
     if skips:
         reasons = Counter(skips).most_common()
         line += f' ({"; ".join(f"{count}: {reason}" for reason, count in reasons)})'
-    wrong_skips = count_skipped_for_program(skips) if needs_program else 0
-    if wrong_skips:
-        line += f'; {wrong_skips} must not be skipped, as crashfs is built'
     return line
 
 
-def has_passed(results: Sequence[ModuleResult], *, needs_program: bool) -> bool:
-    """Whether at least one test passed and none failed; with needs_program also whether none was
-    skipped for lack of `crashfs`."""
-    skips = skip_reasons(results)
-    is_complete = not (needs_program and count_skipped_for_program(skips))
+def has_passed(results: Sequence[ModuleResult]) -> bool:
+    """Whether at least one test passed and none failed; skipped ones don't count."""
     has_failed = any(result.failed for result in results)
-    return is_complete and not has_failed and any(result.passed for result in results)
+    return not has_failed and any(result.passed for result in results)
 
 
 def main(words: Optional[List[str]] = None) -> int:
     """Runs the tests that the words ask for; None means the words of the command line. The tests
     print on standard error; then a line on standard output counts them. Returns 0 if has_passed(),
-    else 1; with --module and --result what run_here() does. A wrong word and --help end the program
+    else 1; with --program also 1 if tests were skipped because `crashfs` isn't built. With --module
+    and --result it only calls run_here(), and returns 0. A wrong word and --help end the program
     (SystemExit)."""
     parser = argparse.ArgumentParser(prog='gating.suite', description=__doc__)
     parser.add_argument('--program', action='store_true', help='crashfs is built')
@@ -135,11 +127,14 @@ def main(words: Optional[List[str]] = None) -> int:
     parser.add_argument('--result', type=Path, help='the file for the result, as JSON')
     options = parser.parse_args(words)
     if options.module and options.result:
-        return run_here(options.module, options.result)
+        run_here(options.module, options.result)
+        return 0
     names = modules_to_run(is_quick=options.quick)
     results = run_modules(names, count_at_once(os.cpu_count() or 1))
-    print(f"tools' tests: {summary_line(results, needs_program=options.program)}", flush=True)
-    return 0 if has_passed(results, needs_program=options.program) else 1
+    wrong_skips = count_skipped_for_program(results) if options.program else 0
+    fault = f'; {wrong_skips} must not be skipped, as crashfs is built' if wrong_skips else ''
+    print(f"tools' tests: {summary_line(results)}{fault}", flush=True)
+    return 0 if has_passed(results) and not wrong_skips else 1
 
 
 if __name__ == '__main__':

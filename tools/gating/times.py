@@ -12,7 +12,7 @@ from dataclasses import dataclass, field
 from pathlib import Path
 from typing import Dict, List, Optional, Tuple
 
-from .provers import Prover, provers_below
+from .provers import Kind, Prover, provers_below
 
 ABOUT = """\
 Samples the provers below a process until it gets SIGTERM or SIGINT, or the process ends, and prints
@@ -20,7 +20,6 @@ the processor time of each crate, by kind: proof, tests, must-fail edits, progra
 
 It runs beside the gate and has no part in its verdict. It reads /proc, so it needs Linux. What a
 prover takes between the last sample and its end is missed, so the sums are a little low."""
-KINDS = ('proof', 'tests', 'edits', 'programs')
 
 
 @dataclass
@@ -46,7 +45,8 @@ class Share:
         self.memory = max(self.memory, sum(prover.memory for prover in group))
 
 
-Shares = Dict[Tuple[str, str], Share]
+# By crate and kind.
+Shares = Dict[Tuple[str, Kind], Share]
 
 
 def add_sample(shares: Shares, groups: List[List[Prover]], now: float) -> None:
@@ -63,7 +63,7 @@ def crate_row(crate: str, shares: Shares) -> List[str]:
     nothing of the crate."""
     crate_shares = {kind: share for (name, kind), share in shares.items() if name == crate}
     seconds = [
-        sum(crate_shares[kind].seconds.values()) if kind in crate_shares else 0.0 for kind in KINDS
+        sum(crate_shares[kind].seconds.values()) if kind in crate_shares else 0.0 for kind in Kind
     ]
     longest_wall = max(
         wall for share in crate_shares.values() for wall in share.wall_seconds.values()
@@ -80,7 +80,8 @@ def format_table(shares: Shares, wall_seconds: float) -> str:
     seconds_by_crate: Dict[str, float] = defaultdict(float)
     for (crate, _), share in shares.items():
         seconds_by_crate[crate] += sum(share.seconds.values())
-    rows = [['crate', *KINDS, 'all', 'longest wall', 'most MB']]
+    kinds = [kind.value for kind in Kind]
+    rows = [['crate', *kinds, 'all', 'longest wall', 'most MB']]
     crates = sorted(seconds_by_crate, key=lambda crate: -seconds_by_crate[crate])
     rows += [crate_row(crate, shares) for crate in crates]
     minutes = sum(seconds_by_crate.values()) / 60

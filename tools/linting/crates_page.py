@@ -108,7 +108,7 @@ def crate_page_faults(page: str, uses: Dict[str, List[str]]) -> List[str]:
 
 def architecture_faults() -> List[str]:
     """The sentences of crate_page_faults() for ARCHITECTURE, each after the page's name. IndexError
-    as there, Refused as in read_uses(); OSError if the page can't be read."""
+    as crate_page_faults(), Refused as in read_uses(); OSError if the page can't be read."""
     page = (TOP / 'docs' / 'internals' / 'ARCHITECTURE.md').read_text('utf-8')
     faults = crate_page_faults(page, read_uses(TOP))
     return [f'docs/internals/ARCHITECTURE.md: {fault}' for fault in faults]

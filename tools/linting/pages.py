@@ -1,4 +1,5 @@
-"""Whether what is made from the sources is as they are, and whether they say what it needs."""
+"""Whether the files that are made from the sources are up to date, and whether the sources have all
+that the lists of tests and edits need."""
 
 from __future__ import annotations
 

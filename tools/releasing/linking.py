@@ -12,7 +12,7 @@ KNOWN_WARNING = "Using 'getaddrinfo' in statically linked applications"
 
 
 class LinkFault(Exception):
-    """The linker's status and what it printed."""
+    """The program can't be linked: the text says why, and has what the linker printed."""
 
 
 def kit_folder() -> Path:

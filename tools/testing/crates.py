@@ -31,7 +31,7 @@ class Crate(NamedTuple):
     name: str
     test_count: int
     line_count: int
-    gate_tests: Dict[str, str] = {}
+    gate_tests: Dict[str, str]
 
 
 def crates_with_tests() -> List[Crate]:

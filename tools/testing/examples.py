@@ -17,7 +17,6 @@ from .outcome import Outcome
 TOP = Path(__file__).resolve().parents[2]
 EXAMPLES = TOP / 'examples'
 CRATE = TOP / 'crates' / 'crashfs'
-NEEDS_PROGRAM = 'the replies to its scripts need `crashfs` (tools/build)'
 # What `rt try --cases` prints of a case: the name of its file, and the output of the program.
 CASE = re.compile(r'^== (\S+)\n(.*?)^case=', re.M | re.S)
 
@@ -81,19 +80,15 @@ def count_scripts(outcome: Outcome, program_words: List[str]) -> None:
         count_example(outcome, f'{name}.replies', ended.printed)
 
 
-def run_examples(*, has_rt: bool) -> Outcome:
+def run_examples() -> Outcome:
     """Runs the examples by the program, if Crashfs.find() finds one, and returns their outcome.
-    Without it only the lists are run, by the second reading: the scripts are for run_scripts() if
-    there is the toolchain (has_rt), and counted as not run if not. OSError if an example's file of
-    expected output is missing."""
+    Without it only the lists are run, by the second reading: the scripts are for run_scripts().
+    OSError if an example's file of expected output is missing."""
     outcome, program = Outcome('examples'), Crashfs.find(None)
     program_words = [program.path] if program else [sys.executable, '-S', READING]
     count_lists(outcome, program_words)
     if program:
         count_scripts(outcome, program_words)
-    elif not has_rt:
-        script_count = sum(map(len, example_scripts().values()))
-        outcome.not_run.append(f'{script_count} examples: {NEEDS_PROGRAM}')
     return outcome
 
 
@@ -112,7 +107,7 @@ def run_by_toolchain(files: ScriptFiles, names: List[str]) -> str:
 def run_scripts(files: ScriptFiles, names: List[str]) -> Outcome:
     """Runs scripts over these files as run_by_toolchain() does, and returns their outcome. A script
     of which nothing is printed fails; the outcome's output is then the end of all that was printed.
-    OSError as there, or if a file of expected output is missing."""
+    OSError as run_by_toolchain(), or if a file of expected output is missing."""
     outcome = Outcome(f'scripts over {files.trace}')
     printed = run_by_toolchain(files, names)
     replies = dict(CASE.findall(printed))

@@ -18,6 +18,7 @@ from .examples import run_examples, run_scripts, example_scripts
 from .outcome import Outcome
 from .tools_tests import run_tools_tests
 
+NEEDS_PROGRAM = 'the replies to its scripts need `crashfs` (tools/build)'
 DESCRIPTION = """\
 Runs all tests that need no proofs: those of the tools, the examples, and with the toolchain (`rt`
 on PATH) those of each crate by `rt try --test`, as many crates at once as there are processors and
@@ -41,10 +42,15 @@ def parts_with_rt() -> Dict[str, Part]:
 
 
 def not_run_lines_without_rt() -> List[str]:
-    """A line, with the reason, that counts the tests of all crates, which aren't run without the
-    toolchain. OSError as crates_with_tests()."""
+    """A line, with the reason, for each thing that isn't run without the toolchain: the tests of
+    all crates, and the scripts of the examples if Crashfs.find() finds no program. OSError as
+    crates_with_tests()."""
     test_count = sum(crate.test_count for crate in crates_with_tests())
-    return [f'the {test_count} tests of the crates: they need `rt`, the command of the toolchain']
+    lines = [f'the {test_count} tests of the crates: they need `rt`, the command of the toolchain']
+    if Crashfs.find(None) is None:
+        script_count = sum(map(len, example_scripts().values()))
+        lines.append(f'{script_count} examples: {NEEDS_PROGRAM}')
+    return lines
 
 
 def not_run_lines_with_rt() -> List[str]:
@@ -59,9 +65,7 @@ def run_all_parts(*, has_rt: bool, count: int) -> Iterator[Outcome]:
     come first, side by side, since they take the least time; then, with `rt`, the parts of
     parts_with_rt(), `count` at once. These aren't run if one of the first two raises an exception,
     which ends the iterator, as in run_parts()."""
-    yield from run_parts(
-        {'tools': run_tools_tests, 'examples': partial(run_examples, has_rt=has_rt)}, 2
-    )
+    yield from run_parts({'tools': run_tools_tests, 'examples': run_examples}, 2)
     if has_rt:
         yield from run_parts(parts_with_rt(), count)
 

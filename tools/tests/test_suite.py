@@ -7,11 +7,12 @@ import os
 import signal
 import time
 import unittest
+from contextlib import redirect_stdout
 from typing import List
 from unittest import mock
 
 from gating.modules import ModuleResult, PassCounter, result_of_tests, run_module
-from gating.suite import count_at_once, has_passed, run_modules, summary_line
+from gating.suite import count_at_once, has_passed, main, run_modules, summary_line
 
 from .support import PATIENCE, InFolder
 
@@ -41,7 +42,7 @@ class SuiteTests(InFolder):
         self.assertEqual(sorted(asked[:3]) + asked[3:], ['right', 'slow', 'wrong', 'slow', 'wrong'])
         failed = {result.name: result.failed for result in results}
         self.assertEqual(failed, {'right': 0, 'slow': 0, 'wrong': 1})
-        self.assertFalse(has_passed(results, needs_program=False))
+        self.assertFalse(has_passed(results))
         again = 'slow failed beside others: again, alone\nslow\n'
         self.assertEqual(printed.getvalue()[: 17 + len(again)], f'right\nslow\nwrong\n{again}')
 
@@ -58,17 +59,25 @@ class SuiteTests(InFolder):
             ModuleResult('b', run=2, passed=1, skips=['x']),
         ]
         line = '5 run, 1 failed, 3 skipped (2: x; 1: no crashfs)'
-        self.assertEqual(summary_line(results, needs_program=False), line)
-        self.assertFalse(has_passed(results[1:] + results[:1], needs_program=False))
-        self.assertTrue(has_passed(results[1:], needs_program=True))
-        without_program = ModuleResult('c', run=2, passed=1, skips=['no crashfs'])
-        self.assertFalse(has_passed([without_program], needs_program=True))
-        self.assertFalse(has_passed([ModuleResult('none')], needs_program=False))
+        self.assertEqual(summary_line(results), line)
+        self.assertFalse(has_passed(results[1:] + results[:1]))
+        self.assertTrue(has_passed(results[1:]))
+        self.assertFalse(has_passed([ModuleResult('none')]))
+
+    def test_with_the_program_no_test_is_skipped_for_lack_of_it(self) -> None:
+        skipped = ModuleResult('a', run=3, passed=1, skips=['crashfs is not built', 'x'])
+        line = "tools' tests: 3 run, 0 failed, 2 skipped (1: crashfs is not built; 1: x)"
+        fault = '; 1 must not be skipped, as crashfs is built'
+        for words, end, status in ((['--program'], fault, 1), ([], '', 0)):
+            with mock.patch('gating.suite.run_modules', return_value=[skipped]):
+                with redirect_stdout(io.StringIO()) as printed:
+                    self.assertEqual(main(words), status)
+            self.assertEqual(printed.getvalue(), f'{line}{end}\n')
 
     def test_a_run_in_which_every_test_was_skipped_has_not_passed(self) -> None:
         results = [ModuleResult('a', run=3, skips=['x'] * 3), ModuleResult('b')]
-        self.assertFalse(has_passed(results, needs_program=False))
-        self.assertTrue(has_passed([*results, ModuleResult('c', 1, 1)], needs_program=False))
+        self.assertFalse(has_passed(results))
+        self.assertTrue(has_passed([*results, ModuleResult('c', 1, 1)]))
 
     def test_skipped_tests_are_no_passed_ones_whatever_skips_them(self) -> None:
         class Right(unittest.TestCase):
@@ -95,7 +104,7 @@ class SuiteTests(InFolder):
         result = result_of_tests('m', runner.run(suite))
         self.assertEqual((result.run, result.passed, result.failed), (3, 1, 0))
         self.assertEqual(sorted(result.skips), ['class', 'decorated', 'part', 'part', 'part'])
-        self.assertTrue(has_passed([result], needs_program=False))
+        self.assertTrue(has_passed([result]))
 
     def test_a_module_is_run_and_one_that_is_not_there_fails(self) -> None:
         result = run_module('tests.test_order')

@@ -44,7 +44,7 @@ class Crates(unittest.TestCase):
 
     def test_what_passed_is_not_printed(self) -> None:
         found = crates.outcome_of_crate(
-            Crate('low', 2, 9), OK + 'test tests::a::two ... FAILED\nwhy\n'
+            Crate('low', 2, 9, {}), OK + 'test tests::a::two ... FAILED\nwhy\n'
         )
         lines = ['low: results of 2 of 2 tests', 'test tests::a::two ... FAILED', 'why']
         self.assertEqual(found.output.splitlines(), lines)
@@ -134,16 +134,17 @@ class Examples(InFolder):
 
     def test_without_a_program_the_lists_are_those_of_the_second_reading(self) -> None:
         with mock.patch.object(examples.Crashfs, 'find', return_value=None):
-            alone, with_rt = run_examples(has_rt=False), run_examples(has_rt=True)
-        self.assertEqual((alone.passed, alone.failed, len(alone.not_run)), (2, 0, 1))
-        self.assertEqual((with_rt.passed, with_rt.failed, with_rt.not_run), (2, 0, []))
-        self.assertIn('4 examples', alone.not_run[0])
+            found, not_run = run_examples(), main.not_run_lines_without_rt()
+        self.assertEqual((found.passed, found.failed), (2, 0))
+        self.assertRegex(not_run[0], '^the [0-9]+ tests of the crates: ')
+        self.assertRegex(not_run[1], '^4 examples: ')
 
     def test_with_a_program_it_prints_all_examples(self) -> None:
         path = self.write('crashfs', '#!/bin/sh\necho another list\n', 0o755)
         with mock.patch.object(examples.Crashfs, 'find', return_value=examples.Crashfs(path)):
-            found = run_examples(has_rt=False)
-        self.assertEqual((found.passed, found.failed, found.not_run), (0, 6, []))
+            found, not_run = run_examples(), main.not_run_lines_without_rt()
+        self.assertEqual((found.passed, found.failed), (0, 6))
+        self.assertEqual(len(not_run), 1)
 
 
 class AtOnce(unittest.TestCase):

@@ -11,13 +11,13 @@ import threading
 import unittest
 from typing import List
 
-from gating.provers import Prover, process_and_ancestors, kind_of_work, provers_below
+from gating.provers import Kind, Prover, process_and_ancestors, kind_of_work, provers_below
 from gating.times import Share, Shares, add_sample, sample_until_end, format_table
 
 from .support import PATIENCE, TOOLS, InFolder
 
 
-def prover(number: int, seconds: float, crate: str = 'a', kind: str = 'proof') -> Prover:
+def prover(number: int, seconds: float, crate: str = 'a', kind: Kind = Kind.PROOF) -> Prover:
     return Prover(number, 10.0, seconds, 5_000_000, crate, kind)
 
 
@@ -31,10 +31,10 @@ def catches(process: int, number: int) -> bool:
 class Sums(unittest.TestCase):
     def test_a_prover_is_of_the_kind_that_its_words_say(self) -> None:
         for words, folder, kind in (
-            (['rattle', 'check'], '/x/crates/a', 'proof'),
-            (['rattle', 'check'], '/tmp/a', 'edits'),
-            (['rattle', 'build', '--test'], '/x/crates/a', 'tests'),
-            (['rattle', 'build', '--crate-checked'], '/x/crates/a', 'programs'),
+            (['rattle', 'check'], '/x/crates/a', Kind.PROOF),
+            (['rattle', 'check'], '/tmp/a', Kind.EDITS),
+            (['rattle', 'build', '--test'], '/x/crates/a', Kind.TESTS),
+            (['rattle', 'build', '--crate-checked'], '/x/crates/a', Kind.PROGRAMS),
         ):
             self.assertEqual(kind_of_work(words, folder), kind)
 
@@ -45,7 +45,9 @@ class Sums(unittest.TestCase):
     def test_the_table_sums_by_crate_and_the_largest_is_first(self) -> None:
         shares: Shares = {}
         add_sample(shares, [[prover(1, 2.0)], [prover(2, 1.0, 'b')]], 12.0)
-        add_sample(shares, [[prover(1, 4.0), prover(3, 1.0)], [prover(4, 9.0, 'b', 'edits')]], 16.0)
+        add_sample(
+            shares, [[prover(1, 4.0), prover(3, 1.0)], [prover(4, 9.0, 'b', Kind.EDITS)]], 16.0
+        )
         self.assertEqual(
             format_table(shares, 60.0).splitlines(),
             [

@@ -10,8 +10,7 @@ from dataclasses import dataclass
 from pathlib import Path
 from typing import Callable, List, Mapping, Optional, Sequence, Union
 
-from crashfs_tools.common.command import Refused
-from crashfs_tools.common.program import code_to_run
+from crashfs_tools.common.command import Refused, code_to_run
 
 from .reports import PathLike
 

@@ -1,5 +1,6 @@
-"""What the commands share: the command line's two halves, --version, finding COMMAND and saying how
-it ended, and the lines that a command prints of itself."""
+"""What the commands share: the command line's two halves, --version, running a command of this
+package by its module, finding COMMAND and saying how it ended, and the lines that a command prints
+of itself."""
 
 from __future__ import annotations
 
@@ -18,6 +19,8 @@ from crashfs_tools import VERSION
 
 from .streams import flushed_output
 
+# The folder that has this package.
+LIBRARY = os.path.dirname(os.path.dirname(os.path.dirname(os.path.realpath(__file__))))
 # How every file of text is read and written.
 TEXT: Dict[str, Any] = {'encoding': 'utf-8', 'errors': 'surrogateescape', 'newline': '\n'}
 
@@ -122,6 +125,16 @@ def version_text(command: str) -> str:
     return f'{command} {VERSION} (commit {built.COMMIT}, kit {built.KIT})'
 
 
+def code_to_run(module: str) -> str:
+    """Code for `python -c` that calls the main() of a module of this package, such as
+    `recorder.main`, with the words after the code. The status is the one that main() returns; for
+    None it is 0."""
+    return (
+        f'import sys; sys.path.insert(0, {LIBRARY!r}); '
+        f'from crashfs_tools.{module} import main; sys.exit(main(sys.argv[1:]))'
+    )
+
+
 def with_program_path(command: List[str]) -> List[str]:
     """COMMAND, which must not be empty, with the absolute path of its program: so it can be started
     in another directory. A name with a slash is a path from this directory; any other is looked up
@@ -195,7 +208,7 @@ def print_line(program: str, text: str) -> None:
 
 
 def shorten(text: str) -> str:
-    """The same text if it has at most LINE_CHARACTERS; else its beginning and its end, half as many
-    characters each, with `...` between them."""
+    """The same text if it has at most LINE_CHARACTERS. Else its beginning and its end, of half so
+    many characters each, with ` ... ` between them."""
     half = LINE_CHARACTERS // 2
     return text if len(text) <= LINE_CHARACTERS else f'{text[:half]} ... {text[-half:]}'

@@ -10,7 +10,7 @@ from __future__ import annotations
 import os
 import signal
 import time
-from typing import AbstractSet, Callable, Dict, Iterable, Iterator, List, Set
+from typing import AbstractSet, Callable, Dict, Iterable, Iterator, NamedTuple, Set
 
 PR_SET_PDEATHSIG, PR_SET_CHILD_SUBREAPER = 1, 36
 # The name of a process that cleans up after another one, and then ends by itself.
@@ -48,7 +48,7 @@ def set_process_option(option: int, value: int) -> bool:
 def child_processes(process: int = 0) -> Set[int]:
     """The children of a process, or of this one (0), also those that have ended but weren't waited
     for; one may be missing if others end meanwhile. Empty if the process is gone. If the kernel has
-    no lists of children, it reads all processes."""
+    no lists of children, all processes are read."""
     folder = f'/proc/{process or "self"}/task'
     try:
         list_paths = [f'{folder}/{task}/children' for task in os.listdir(folder)]
@@ -86,17 +86,36 @@ def parent_process(process: int) -> int:
     """The parent of a process. 0 if the process is gone, or has no parent that this process can
     see."""
     try:
-        return int(read_stat_fields(process)[1])
+        return read_process_stat(process).parent
     except OSError:
         return 0
 
 
-def read_stat_fields(process: int) -> List[str]:
-    """The fields of /proc/PROCESS/stat from the third on, the state: field N, as proc(5) numbers
-    them, is at the index N - 3. OSError if the process, or thread, is gone."""
+class ProcessStat(NamedTuple):
+    """What the system reports of a process or thread: its state, as a letter; its parent; the
+    processor time that it and its children that were waited for took, and when it began, in clock
+    ticks; its memory, in pages."""
+
+    state: str
+    parent: int
+    processor_ticks: int
+    start_ticks: int
+    memory_pages: int
+
+
+def read_process_stat(process: int) -> ProcessStat:
+    """What /proc/PROCESS/stat has of a process or thread. OSError if it is gone."""
     with open(f'/proc/{process}/stat', encoding='ascii', errors='replace') as file:
         # The name of the program, in brackets before these fields, may have any bytes.
-        return file.read().rpartition(')')[2].split()
+        fields = file.read().rpartition(')')[2].split()
+    # proc(5) numbers the fields from 1, and the first one here is the third.
+    return ProcessStat(
+        state=fields[0],
+        parent=int(fields[1]),
+        processor_ticks=sum(map(int, fields[11:15])),
+        start_ticks=int(fields[19]),
+        memory_pages=int(fields[21]),
+    )
 
 
 def descendant_processes() -> Set[int]:

@@ -6,7 +6,7 @@ import os
 import signal
 import sys
 from contextlib import ExitStack
-from typing import Any, BinaryIO, List, NoReturn
+from typing import BinaryIO, List, NoReturn, Optional
 
 from .descendants import die_with_parent
 from .streams import open_pipe
@@ -46,7 +46,7 @@ class ForkedReading:
         os.close(err_writer)
         self.stdout: BinaryIO = open(out_reader, 'rb')
         self.stderr: BinaryIO = open(err_reader, 'rb')
-        self.returncode: Any = None
+        self.returncode: Optional[int] = None
 
     def run_and_exit(self, words: List[str], out_writer: int, err_writer: int) -> NoReturn:
         """In the new process, which is killed when the thread that started it ends: runs the
@@ -83,7 +83,7 @@ class ForkedReading:
             except ChildProcessError:
                 # end_children() waits for all children of this process, so it may have the status.
                 self.returncode = -signal.SIGKILL
-        return int(self.returncode)
+        return self.returncode
 
     def kill(self) -> None:
         """Kills the process, unless wait() has returned its status. The caller must still call

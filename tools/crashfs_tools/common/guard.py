@@ -26,6 +26,8 @@ from .removal import TRASH_ENDING, remove_tree
 from .signals import STOPS, ignore_signals, stop_signals_blocked
 
 VARIABLE = 'CRASHFS_GUARD'
+# The pause between two scans of all processes for a token.
+SCAN_PAUSE_SECONDS = 0.01
 # What counts as the answer of a watcher that was killed before it answered.
 WATCHER_KILLED = json.dumps([None, errno.ECHILD, 'its watcher was killed', 'temporary files'])
 
@@ -242,4 +244,4 @@ def end_processes_with_token(token: str) -> None:
             return
         elapsed = time.monotonic() - start_time
         descendants.kill_unless_cleaning(processes, elapsed, descendants.kill_process)
-        time.sleep(0.01)
+        time.sleep(SCAN_PAUSE_SECONDS)

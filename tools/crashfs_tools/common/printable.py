@@ -13,7 +13,7 @@ UNPRINTABLE = re.compile(
 )
 # Reports are folded to so many columns.
 COLUMNS = 100
-SHORT = {'\n': '\\n', '\t': '\\t', '\r': '\\r'}
+SHORT_ESCAPES = {'\n': '\\n', '\t': '\\t', '\r': '\\r'}
 
 
 def escape_unprintable(text: str, allowed: str = '') -> str:
@@ -25,11 +25,11 @@ def escape_unprintable(text: str, allowed: str = '') -> str:
 
 
 def escape_character(character: str) -> str:
-    """The escape of a character, in hexadecimal digits unless SHORT has it. For a byte that isn't
-    UTF-8, which Python has as half of a surrogate pair, it is the escape of the byte."""
+    """The escape of a character, in hexadecimal digits unless SHORT_ESCAPES has it. For a byte that
+    isn't UTF-8, which Python has as half of a surrogate pair, it is the escape of the byte."""
     code = ord(character)
-    if character in SHORT:
-        return SHORT[character]
+    if character in SHORT_ESCAPES:
+        return SHORT_ESCAPES[character]
     if 0xDC80 <= code <= 0xDCFF:
         return f'\\x{code - 0xDC00:02x}'
     if code < 0x100:

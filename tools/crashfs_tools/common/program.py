@@ -20,17 +20,15 @@ from .archive import (
     read_members,
     tree_of_members,
 )
-from .command import Refused, ending_text
+from .command import LIBRARY, Refused, ending_text
 from .entry import Entries
 from .forked_reading import ForkedReading
 from .streams import poll_for_input
 
-PACKAGE = os.path.dirname(os.path.dirname(os.path.realpath(__file__)))
-LIBRARY = os.path.dirname(PACKAGE)
 TOP = os.path.dirname(LIBRARY)
 BUILT = os.path.join(TOP, 'crates', 'crashfs', 'out', 'crashfs')
 BUILDER = os.path.join(LIBRARY, 'build')
-READING = os.path.join(PACKAGE, 'reading', '__main__.py')
+READING = os.path.join(LIBRARY, 'crashfs_tools', 'reading', '__main__.py')
 # The status of a command line that the program doesn't know.
 UNKNOWN_OPTION = 2
 PIECE_BYTES = 1 << 16
@@ -49,16 +47,6 @@ STATE_LINE = re.compile('state ([0-9]+)(?: |$)')
 NOT_STARTED = 126
 # What the program says of a trace that it would take in parts.
 TOO_LARGE = ('plan too large', 'too many micro-operations')
-
-
-def code_to_run(module: str) -> str:
-    """Code for `python -c` that calls the main() of a module of this package, such as
-    `recorder.main`, with the words after the code. The status is the one that main() returns; for
-    None it is 0."""
-    return (
-        f'import sys; sys.path.insert(0, {LIBRARY!r}); '
-        f'from crashfs_tools.{module} import main; sys.exit(main(sys.argv[1:]))'
-    )
 
 
 def can_be_built() -> bool:
@@ -95,15 +83,21 @@ class ProgramFault(Exception):
 class Crashfs:
     """One program file, or, if is_unproved, the second reading. refused_version is the version of
     traces that made another program refuse, so that this second reading is used; else 0. If
-    has_sparse, large files in archives are in pieces, without zeros."""
+    has_sparse, it writes large files of archives in pieces, without zeros: program_for_version()
+    finds out whether a program can."""
 
-    def __init__(self, path: str, *, is_unproved: bool = False, refused_version: int = 0) -> None:
-        """has_sparse is False for a program, until program_for_version() sets it; the second
-        reading has it always."""
+    def __init__(
+        self,
+        path: str,
+        *,
+        is_unproved: bool = False,
+        refused_version: int = 0,
+        has_sparse: bool = False,
+    ) -> None:
         self.path = path
         self.is_unproved = is_unproved
         self.refused_version = refused_version
-        self.has_sparse = is_unproved
+        self.has_sparse = has_sparse
 
     @staticmethod
     def find_or_second_reading(crashfs_option: Optional[str], *, is_unproved: bool) -> Crashfs:
@@ -117,7 +111,7 @@ class Crashfs:
     def second_reading(refused_version: int = 0) -> Crashfs:
         """The second reading as a program. `refused_version` is the version of traces that another
         program refused; 0 if the second reading is used for another reason."""
-        return Crashfs(READING, is_unproved=True, refused_version=refused_version)
+        return Crashfs(READING, is_unproved=True, refused_version=refused_version, has_sparse=True)
 
     @staticmethod
     def find(crashfs_option: Optional[str]) -> Optional[Crashfs]:
@@ -133,16 +127,15 @@ class Crashfs:
         return Crashfs(os.path.abspath(path))
 
     def program_for_version(self, version: int) -> Crashfs:
-        """This program; or, if it doesn't read traces of a version, the second reading, with the
-        version as refused_version. Versions before NEW_VERSION each program reads, so it isn't
-        started for them; for others it is, and has_sparse is set if it can write large files in
-        pieces. OSError as can_read_version()."""
+        """This program for traces of a version, with has_sparse if it can write large files in
+        pieces; or, if it doesn't read such traces, the second reading, with the version as
+        refused_version. Versions before NEW_VERSION each program reads: for them it isn't started,
+        and has no has_sparse. OSError as can_read_version()."""
         if self.is_unproved or version < NEW_VERSION:
             return self
         if not self.can_read_version(version):
             return Crashfs.second_reading(refused_version=version)
-        self.has_sparse = '--sparse' in self.tar_help
-        return self
+        return Crashfs(self.path, has_sparse='--sparse' in self.tar_help)
 
     def can_read_version(self, version: int) -> bool:
         """Whether the program reads traces of a version: it is started with a trace that has only a
@@ -220,10 +213,10 @@ class Crashfs:
             # The program ends only once all that it prints is read.
             while output.read(PIECE_BYTES):
                 pass
-        child.wait()
-        if child.returncode != 0 or fault:
-            ending = f'crashfs tar {ending_text(child.returncode)}{fault}'
-            raise ProgramFault(child.returncode, output.error_text or ending.encode())
+        status = child.wait()
+        if status != 0 or fault:
+            ending = f'crashfs tar {ending_text(status)}{fault}'
+            raise ProgramFault(status, output.error_text or ending.encode())
 
     def count_states(self, trace: str, *, with_holes: bool = True) -> int:
         """How many states a trace has: its prefixes, and, if with_holes, also the holes; equal
@@ -317,9 +310,9 @@ def output_of_started(child: RunningProgram) -> str:
     output = ProgramOutput(child.stdout.fileno(), child.stderr.fileno())
     with child.stdout, child.stderr:
         printed = output.readall()
-    child.wait()
-    if child.returncode != 0:
-        raise ProgramFault(child.returncode, output.error_text)
+    status = child.wait()
+    if status != 0:
+        raise ProgramFault(status, output.error_text)
     return printed.decode('utf-8', 'surrogateescape')
 
 

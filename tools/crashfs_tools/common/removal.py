@@ -74,7 +74,7 @@ def remove_if_empty(path: str, dir_fd: Optional[int]) -> bool:
 
 def make_trash(trash: str, path: str, dir_fd: Optional[int]) -> None:
     """Makes the directory `trash`. If the disk is full, make_room() first removes something from
-    the directory `path`. OSError as there, or if `trash` can't be made even then."""
+    the directory `path`. OSError as make_room(), or if `trash` can't be made even then."""
     try:
         os.mkdir(trash, OPEN_MODE)
     except OSError as error:

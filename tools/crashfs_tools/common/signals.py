@@ -73,18 +73,18 @@ class TimeUp(Exception):
 @contextmanager
 def time_limit(seconds: Optional[float]) -> Iterator[None]:
     """Within this, TimeUp is raised in the main thread after so many seconds; None or 0 is no
-    limit. ValueError outside the main thread, unless `seconds` is None. Its handler of SIGALRM
-    stays after the `with`. There is one timer: a limit within another one ends that, also a limit
-    of 0, but not None."""
+    limit, and does nothing. ValueError outside the main thread if there is a limit. Its handler of
+    SIGALRM stays after the `with`. There is one timer: a limit within another one ends that."""
 
     def raise_time_up(_: int, __: object) -> None:
         raise TimeUp
 
-    if seconds is not None:
-        signal.signal(signal.SIGALRM, raise_time_up)
-        signal.setitimer(signal.ITIMER_REAL, seconds)
+    if not seconds:
+        yield
+        return
+    signal.signal(signal.SIGALRM, raise_time_up)
+    signal.setitimer(signal.ITIMER_REAL, seconds)
     try:
         yield
     finally:
-        if seconds is not None:
-            signal.setitimer(signal.ITIMER_REAL, 0)
+        signal.setitimer(signal.ITIMER_REAL, 0)

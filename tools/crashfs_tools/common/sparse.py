@@ -56,6 +56,7 @@ class SparseBytes:
         return self.read(0, self.length)
 
     def __getitem__(self, bounds: slice) -> bytes:
+        """The bytes of a slice without a step: a step isn't looked at."""
         begin, end, _ = bounds.indices(self.length)
         return self.read(begin, end - begin)
 

@@ -48,7 +48,8 @@ def prepare_standard_streams() -> None:
 def limit_inherited_descriptors() -> None:
     """Makes commands that are started later inherit only the standard streams, as
     open_standard_descriptors() leaves them: all other descriptors that are open now become
-    close-on-exec. Python's own streams stay as they are. OSError without /proc, or as there."""
+    close-on-exec. Python's own streams stay as they are. OSError without /proc, or if /dev/null
+    can't be opened."""
     open_standard_descriptors()
     for name in os.listdir('/proc/self/fd'):
         if int(name) > 2:

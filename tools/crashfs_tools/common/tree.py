@@ -8,6 +8,7 @@ from . import limits
 from .entry import DIRECTORY_KIND, SYMLINK_KIND, Entries, Entry, parent_of, paths_below
 from .sparse import LARGE_BYTES, SparseBytes
 from .trace import (
+    BLOCK_SIZES,
     BLOCKS,
     Chmod,
     Chown,
@@ -29,6 +30,7 @@ from .trace import (
     Symlink,
     Truncate,
     Unlink,
+    WRITTEN_VERSION,
     Write,
 )
 
@@ -60,8 +62,8 @@ class Tree:
         owner: str,
         group: str,
         mode: int,
-        block: int = 4_096,
-        version: int = 3,
+        block: int = BLOCK_SIZES[-1],
+        version: int = WRITTEN_VERSION,
         profile: str = BLOCKS,
     ) -> None:
         """A tree that has only the root, with these rights, in a trace of this version, profile and

@@ -35,7 +35,7 @@ def folder_to_write(path: str) -> str:
 def is_written_in_place(path: str) -> bool:
     """Whether write_whole_file() writes a path in place: standard output (`-`), or something that
     is there and no plain file, such as a pipe or /dev/null."""
-    return path == '-' or os.path.exists(path) and not os.path.isfile(path)
+    return path == '-' or (os.path.exists(path) and not os.path.isfile(path))
 
 
 def write_whole_file(path: str, pieces: Iterable[str], mode: int = 0o666) -> None:

@@ -7,7 +7,7 @@ import time
 from enum import Enum
 from typing import List, Optional, Set
 
-from crashfs_tools.common.descendants import read_stat_fields
+from crashfs_tools.common.descendants import read_process_stat
 
 # How long the threads of a process may take until all are stopped: one may be in a slow sync.
 WAIT_SECONDS = 2.0
@@ -47,7 +47,7 @@ def list_threads(process: int) -> List[int]:
 def is_stopped(thread: int) -> bool:
     """Whether a thread is stopped, by strace or by a signal; False if it has ended."""
     try:
-        return read_stat_fields(thread)[0] in STOPPED
+        return read_process_stat(thread).state in STOPPED
     except OSError:
         return False
 

@@ -13,8 +13,14 @@ from crashfs_tools.checker.running.runner import GOOD, Outcome
 from crashfs_tools.checker.running.trials import Trials
 from crashfs_tools.checker.states.plan import Offsets, State
 from crashfs_tools.checker.states.planning import Planner
-from crashfs_tools.common.command import TEXT, Refused, ending_text, last_line, write_text
-from crashfs_tools.common.program import code_to_run
+from crashfs_tools.common.command import (
+    TEXT,
+    Refused,
+    code_to_run,
+    ending_text,
+    last_line,
+    write_text,
+)
 from crashfs_tools.common.removal import remove_tree
 from crashfs_tools.common.trace import WRITTEN_VERSION
 from crashfs_tools.common.trace_fields import trace_version
