@@ -8,6 +8,7 @@ import threading
 import time
 from concurrent.futures import ThreadPoolExecutor, as_completed
 from contextlib import contextmanager
+from dataclasses import replace
 from typing import Callable, Dict, Iterator, Set
 
 from .outcome import Outcome
@@ -16,7 +17,7 @@ from .outcome import Outcome
 GIGABYTES_EACH = 3
 SECONDS_BETWEEN = 1.0
 
-# Runs tests, and returns their outcome, whose `seconds` run_parts() sets.
+# Runs tests, and returns their outcome, without its seconds.
 Part = Callable[[], Outcome]
 
 
@@ -89,8 +90,7 @@ def run_parts(parts: Dict[str, Part], count: int) -> Iterator[Outcome]:
         start_time = time.monotonic()
         with progress.running_part(name):
             outcome = parts[name]()
-        outcome.seconds = time.monotonic() - start_time
-        return outcome
+        return replace(outcome, seconds=time.monotonic() - start_time)
 
     display_thread = threading.Thread(target=progress.keep_showing, daemon=True)
     display_thread.start()

@@ -8,9 +8,9 @@ from typing import List
 
 @dataclass
 class Outcome:
-    """The counts of a part of the tests. run_parts() sets `seconds`, how long the part took; it is
-    0 before. not_run has a line, with the reason, for what was not run. output is what is printed
-    of failed tests, and empty if none failed."""
+    """The counts of a part of the tests. `seconds` is how long the part took, which run_parts()
+    adds. not_run has a line, with the reason, for what was not run. output is what is printed of
+    failed tests, and empty if none failed."""
 
     name: str
     passed: int = 0

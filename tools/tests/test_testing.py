@@ -12,7 +12,8 @@ from typing import Dict, Iterator, List, Optional
 from unittest import mock
 
 from testing import crates, examples, main, tools_tests
-from testing.at_once import Part, most_parts_at_once, run_parts
+from testing.at_once import Part, Progress, most_parts_at_once, run_parts
+from testing.commands import EndedCommand
 from testing.crates import GATE_CRATES, GATE_TESTS, Crate, crates_with_tests
 from testing.examples import EXAMPLES, ScriptFiles, run_examples, run_scripts, example_scripts
 from testing.outcome import Outcome
@@ -56,7 +57,30 @@ class Crates(unittest.TestCase):
             self.assertEqual(known[name].gate_tests, tests)
 
 
+class RunsOfCrates(InFolder):
+    def test_a_crate_is_tested_in_its_folder_whatever_the_status_is(self) -> None:
+        self.write('rt', f'#!/bin/sh\necho "{OK[:-1]}"\necho "$PWD $*"\nexit 1\n', 0o755)
+        os.mkdir(self.path('low'))
+        path = f'{self.folder}:{os.environ["PATH"]}'
+        with mock.patch.dict(os.environ, PATH=path), mock.patch.object(
+            crates, 'CRATES', Path(self.folder)
+        ):
+            one, two = (crates.run_crate_tests(Crate('low', count, 9, {})) for count in (1, 2))
+        self.assertEqual((one.passed, one.failed, one.output), (1, 0, ''))
+        self.assertEqual((two.passed, two.failed), (1, 1))
+        self.assertRegex(two.output, '/low try --test --seconds [0-9]+$')
+
+
 class Tools(unittest.TestCase):
+    def test_all_tests_of_the_tools_are_run(self) -> None:
+        ended = EndedCommand(1, 'Ran 3 tests in 1s\n\nFAILED (errors=1)\n')
+        with mock.patch.object(tools_tests, 'run_command', return_value=ended) as run:
+            found = tools_tests.run_tools_tests()
+        self.assertEqual((found.passed, found.failed), (2, 1))
+        words, folder = run.call_args.args
+        self.assertEqual(words[1:], '-m unittest discover -s tools -t tools'.split())
+        self.assertTrue((folder / 'tools' / 'tests').is_dir())
+
     def test_the_counts_are_those_of_the_last_lines(self) -> None:
         rows = [
             ('Ran 9 tests in 1.2s\n\nOK\n', 0, (9, 0, 0)),
@@ -175,6 +199,49 @@ class AtOnce(unittest.TestCase):
         with self.assertRaises(OSError):
             list(run_parts({'a': broken}, 1))
         self.assertEqual(threading.active_count(), threads)
+
+
+class Shown(unittest.TestCase):
+    def test_the_line_names_the_parts_that_run(self) -> None:
+        progress = Progress(3)
+        with self.assertRaises(OSError), progress.running_part('b'), progress.running_part('a'):
+            self.assertRegex(progress.text(), '^0 of 3 done after [0-9]+ s; running: a, b$')
+            raise OSError
+        self.assertRegex(progress.text(), '^2 of 3 done after [0-9]+ s; running: $')
+
+    def test_it_is_shown_on_a_terminal_only_and_cut_to_its_width(self) -> None:
+        shown = '\r\033[K2 of 3 don\r\033[K'
+        for is_terminal, wanted in ((True, shown), (False, '')):
+            progress = Progress(3)
+            progress.done, progress.is_shown = {'a', 'b'}, is_terminal
+            with mock.patch('sys.stderr') as stream, mock.patch(
+                'os.get_terminal_size', return_value=os.terminal_size((11, 9))
+            ):
+                progress.show()
+                progress.clear()
+            printed = [call.args[0] for call in stream.write.call_args_list if call.args[0]]
+            self.assertEqual(''.join(printed), wanted)
+
+
+class Parts(unittest.TestCase):
+    def test_only_the_gate_runs_its_crates_and_a_program_runs_the_scripts(self) -> None:
+        known = [Crate('low', 1, 9, {}), Crate(next(iter(GATE_CRATES)), 1, 9, {})]
+        scripts = ['scripts over start.trace', 'scripts over store.trace']
+        for program, names in ((None, ['low', *scripts]), (examples.Crashfs('crashfs'), ['low'])):
+            with mock.patch.object(main, 'crates_with_tests', return_value=known):
+                with mock.patch.object(examples.Crashfs, 'find', return_value=program):
+                    self.assertEqual(list(main.parts_with_rt()), names)
+
+    def test_those_of_the_toolchain_come_last(self) -> None:
+        for has_rt, names in ((True, ['examples', 'tools', 'low']), (False, ['examples', 'tools'])):
+            with mock.patch.multiple(
+                main,
+                run_tools_tests=lambda: Outcome('tools'),
+                run_examples=lambda: Outcome('examples'),
+                parts_with_rt=lambda: {'low': lambda: Outcome('low')},
+            ):
+                found = [outcome.name for outcome in main.run_all_parts(has_rt=has_rt, count=1)]
+            self.assertEqual([*sorted(found[:2]), *found[2:]], names)
 
 
 class Main(unittest.TestCase):
