@@ -51,7 +51,8 @@ class Work:
     each library that the repository itself had when the build began. Threads hold change_condition
     to change the rest: proved_in, the copy in which each crate was proved; begun_crates, whose
     checks have begun; jobs, the number of processors of each running check; and failed_crate, the
-    first that was not proved."""
+    first that was not proved. The thread that works in the repository itself holds top_lock: the
+    one whose own copy this is, or one whose crate seems to need no proof there."""
 
     uses: Dict[str, List[str]]
     chain_lengths: Dict[str, int]
@@ -62,6 +63,7 @@ class Work:
     jobs: Dict[str, int] = field(default_factory=dict)
     failed_crate: Optional[str] = None
     change_condition: threading.Condition = field(default_factory=threading.Condition)
+    top_lock: threading.Lock = field(default_factory=threading.Lock)
 
     def ready_crates(self) -> List[str]:
         """The crates whose checks may begin: no check of them has begun, and the crates that they

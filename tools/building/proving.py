@@ -4,7 +4,6 @@ from __future__ import annotations
 
 import shutil
 import sys
-import threading
 import time
 from contextlib import ExitStack, suppress
 from pathlib import Path
@@ -18,10 +17,6 @@ from .checks import Check, killed_text, run_check
 from .crates import PROGRAM, TOP, crates_below
 from .order import Work, paths_of_texts
 from .sharing import copy_library, library_folder, read_stamp
-
-# Held by the thread that works in the repository itself: the one whose own copy this is, or one
-# whose crate seems to need no proof there.
-TOP_LOCK = threading.Lock()
 
 
 def is_library_current(copy: Path, name: str) -> bool:
@@ -102,7 +97,7 @@ def check_crate_in(copy: Path, work: Work, name: str, jobs: int) -> Tuple[Path, 
             used_copy = TOP
         with ExitStack() as locks:
             if used_copy == TOP:
-                locks.enter_context(TOP_LOCK)
+                locks.enter_context(work.top_lock)
             for library in crates_below(work.uses, name):
                 copy_library(work.proved_in[library], used_copy, library)
             words = ['rt', 'lib', '--jobs', str(jobs)]

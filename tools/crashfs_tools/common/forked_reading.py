@@ -6,7 +6,7 @@ import os
 import signal
 import sys
 from contextlib import ExitStack
-from typing import BinaryIO, List, NoReturn, Optional
+from typing import BinaryIO, Callable, List, NoReturn, Optional
 
 from .descendants import die_with_parent
 from .streams import open_pipe
@@ -27,7 +27,6 @@ class ForkedReading:
         # Imported before the fork, so that no fork has to do it; main() imports `archive` late.
         from crashfs_tools.reading import archive, main
 
-        self.main = main.main
         del archive
         with ExitStack() as opened, stop_signals_blocked() as blocked_before:
             out_reader, out_writer = open_pipe(opened)
@@ -41,35 +40,12 @@ class ForkedReading:
                 # Its writes fail once nobody reads its outputs: it mustn't be a reader itself.
                 os.close(out_reader)
                 os.close(err_reader)
-                self.run_and_exit(words, out_writer, err_writer)
+                run_and_exit(main.main, words, out_writer, err_writer)
         os.close(out_writer)
         os.close(err_writer)
         self.stdout: BinaryIO = open(out_reader, 'rb')
         self.stderr: BinaryIO = open(err_reader, 'rb')
         self.returncode: Optional[int] = None
-
-    def run_and_exit(self, words: List[str], out_writer: int, err_writer: int) -> NoReturn:
-        """In the new process, which is killed when the thread that started it ends: runs the
-        command, with these pipes as its two outputs and no input, and ends the process with the
-        command's status. If an exception isn't caught, it prints a traceback, and the status is
-        INTERNAL_ERROR."""
-        status = INTERNAL_ERROR
-        try:
-            die_with_parent()
-            os.dup2(os.open(os.devnull, os.O_RDONLY), 0)
-            os.dup2(out_writer, 1)
-            os.dup2(err_writer, 2)
-            sys.stdout = open(1, 'w', encoding='utf-8', errors='surrogateescape', newline='\n')
-            sys.stderr = open(2, 'w', encoding='utf-8', errors='backslashreplace')
-            status = self.main(words)
-            sys.stdout.flush()
-            sys.stderr.flush()
-        except BaseException:
-            import traceback
-
-            traceback.print_exc()
-        finally:
-            os._exit(status)
 
     def wait(self) -> int:
         """Waits for the process to end, sets `returncode`, and returns it: the status, negative for
@@ -93,3 +69,29 @@ class ForkedReading:
                 os.kill(self.process, signal.SIGKILL)
             except ProcessLookupError:
                 pass
+
+
+def run_and_exit(
+    main: Callable[[List[str]], int], words: List[str], out_writer: int, err_writer: int
+) -> NoReturn:
+    """In the new process, which is killed when the thread that started it ends: calls the main() of
+    a command with these words, with these pipes as its two outputs and no input, and ends the
+    process with the status that it returns. If an exception isn't caught, a traceback is printed,
+    and the status is INTERNAL_ERROR."""
+    status = INTERNAL_ERROR
+    try:
+        die_with_parent()
+        os.dup2(os.open(os.devnull, os.O_RDONLY), 0)
+        os.dup2(out_writer, 1)
+        os.dup2(err_writer, 2)
+        sys.stdout = open(1, 'w', encoding='utf-8', errors='surrogateescape', newline='\n')
+        sys.stderr = open(2, 'w', encoding='utf-8', errors='backslashreplace')
+        status = main(words)
+        sys.stdout.flush()
+        sys.stderr.flush()
+    except BaseException:
+        import traceback
+
+        traceback.print_exc()
+    finally:
+        os._exit(status)

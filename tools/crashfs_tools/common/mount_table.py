@@ -26,10 +26,10 @@ class MountTable:
         # All points as one text: only if a path is in it, any point can be below the path.
         self.points_text = ''
         try:
-            self.file = os.open(TABLE, os.O_RDONLY | os.O_CLOEXEC)
+            table = os.open(TABLE, os.O_RDONLY | os.O_CLOEXEC)
         except OSError:
             return
-        self.poll.register(self.file, select.POLLPRI)
+        self.poll.register(table, select.POLLPRI)
         self.read_table()
 
     def read_table(self) -> None:
