@@ -81,9 +81,9 @@ def parse_command_line(
 ) -> Tuple[argparse.Namespace, List[str]]:
     """The options that a parser reads from the words before the first `--`, and COMMAND, the words
     after it; COMMAND may be empty. A wrong word (status 2), --help and --version (status 0) end the
-    program by SystemExit, after the text is printed; of a word that is one of recorder_options the
-    text says so. If the text of --help or --version can't be printed, the status is
-    NOT_PRINTED."""
+    program by SystemExit, after the text is printed. The text about a wrong word that is one of
+    recorder_options says that it is an option of crashfs-record. If the text of --help or --version
+    can't be printed, the status is NOT_PRINTED."""
     own_words, command = split_command(words)
     help_text = io.StringIO()
     try:

@@ -40,8 +40,8 @@ def read_pieces(descriptor: int, begin: int, end: int) -> Iterator[Part]:
 
 def data_ranges(descriptor: int, size: int) -> Iterator[Tuple[int, int]]:
     """The ranges of the first `size` bytes of an open file that aren't holes, each as its two ends,
-    ascending. If the file system doesn't report holes, it is one range, the whole file. No OSError
-    is raised. The descriptor's own offset changes."""
+    ascending. If the file system doesn't report holes, there is one range, the whole file. No
+    OSError is raised. The descriptor's own offset changes."""
     end = 0
     while end < size:
         try:

@@ -129,8 +129,8 @@ class Crashfs:
     def program_for_version(self, version: int) -> Crashfs:
         """This program for traces of a version, with has_sparse if it can write large files in
         pieces; or, if it doesn't read such traces, the second reading, with the version as
-        refused_version. Versions before NEW_VERSION each program reads: for them it isn't started,
-        and has no has_sparse. OSError as can_read_version()."""
+        refused_version. Versions before NEW_VERSION each program reads: for these it isn't started,
+        and has_sparse stays as it is. OSError as can_read_version()."""
         if self.is_unproved or version < NEW_VERSION:
             return self
         if not self.can_read_version(version):

@@ -286,6 +286,7 @@ class Trace:
 
     def line_number(self, place: int) -> int:
         """The number, from 1, of the line of the operation at a place from 0."""
+        # Line 1 is the header.
         return 2 + len(self.start) + place
 
 
