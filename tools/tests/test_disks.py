@@ -28,7 +28,7 @@ from crashfs_tools.disks import crashing, disk, filesystems, images, own_mounts
 from crashfs_tools.disks.crashing import CrashMaker
 from crashfs_tools.disks.flushes import FlushKind
 from crashfs_tools.disks.moments import Moment, crash_moments
-from crashfs_tools.disks.owners import FIRST_UNKNOWN, Owners
+from crashfs_tools.disks.owners import FIRST_UNKNOWN, AccountNumbers, Owners
 from crashfs_tools.disks.pool import DiskPool
 from crashfs_tools.disks.replay import CALLS, Replay, lay_out_start
 from crashfs_tools.reading import make_plan, parse_trace
@@ -157,10 +157,16 @@ class Replays(InReplays):
         self.assertEqual(os.stat(self.path('d/c')).st_uid, FIRST_UNKNOWN)
 
     def test_a_number_with_two_names_is_read_as_the_first(self) -> None:
-        owners = Owners(read_trace(ALL_KINDS))
-        with mock.patch.object(owners.users, 'new_number', return_value=0):
-            self.assertEqual(owners.users.number('toor'), 0)
-        self.assertEqual(owners.users.name(0), 'root')
+        users = AccountNumbers(lambda name: 0)
+        self.assertEqual([users.number(name) for name in ('root', 'toor')], [0, 0])
+        self.assertEqual((users.name(0), users.name(7)), ('root', '7'))
+
+    def test_each_name_without_an_account_has_a_number_of_its_own(self) -> None:
+        users = AccountNumbers({'root': 0}.__getitem__)
+        names = ('ann', 'root', 'bob', 'ann')
+        ann, bob = FIRST_UNKNOWN, FIRST_UNKNOWN + 2
+        self.assertEqual([users.number(name) for name in names], [ann, 0, bob, ann])
+        self.assertEqual(users.name(bob), 'bob')
 
     def test_a_user_and_a_group_of_one_name_have_the_numbers_of_their_accounts(self) -> None:
         user, group = mock.Mock(pw_uid=7), mock.Mock(gr_gid=8)
@@ -243,7 +249,7 @@ class Names(InFolder):
                         self.assertGreater(free, count + 1_000, line)
 
     def test_what_is_lacking_is_named(self) -> None:
-        none = filesystems.FileSystem('none', 'mkfs.nothing', (), 0)
+        none = filesystems.FileSystem('none', 'nothing', (), 0)
         if LACKING is None:
             self.assertEqual(
                 filesystems.missing_requirement([none]),

@@ -163,6 +163,12 @@ class SparseBytes:
             yield run_begin, b''.join(pages)
 
 
+def runs_of(data: Content) -> List[Part]:
+    """Bytes of any form as runs with their offsets: the page_runs() of SparseBytes, or else all
+    bytes as one run, which is empty if there are none."""
+    return list(data.page_runs()) if isinstance(data, SparseBytes) else [(0, bytes(data))]
+
+
 def split_parts(begin: int, data: bytes) -> Iterator[Part]:
     """The bytes at offset `begin` of a file, as parts in the form of SparseBytes.parts(), each
     with its offset."""

@@ -8,13 +8,12 @@ from dataclasses import dataclass, replace
 from typing import Dict, List, Optional, Sequence, Tuple
 
 from crashfs_tools.common.command import Refused
-from crashfs_tools.common.sparse import PAGE_BYTES, SparseBytes
+from crashfs_tools.common.sparse import PAGE_BYTES, runs_of
 from crashfs_tools.common.trace import (
     Creat,
     Link,
     Mkdir,
     Start,
-    StartLine,
     Symlink,
     Trace,
     Write,
@@ -26,8 +25,8 @@ from .own_mounts import own_mounts_fault
 MEBIBYTE = 1 << 20
 # So many images of each file system a process has at once: the start, the disk, and its copy.
 IMAGES = 3
-# The programs that images are made by, in addition to `mkfs`.
-PROGRAMS = ('fallocate',)
+# The program that makes holes in any image.
+HOLE_PROGRAM = 'fallocate'
 # An inode for each block, also in images of 512 MiB and more, which have fewer by default.
 EXT_BLOCKS = ('-q', '-F', '-b', '4096', '-i', '4096')
 LAZY = ('-E', 'lazy_itable_init=0,lazy_journal_init=0')
@@ -35,35 +34,35 @@ LAZY = ('-E', 'lazy_itable_init=0,lazy_journal_init=0')
 
 @dataclass(frozen=True)
 class FileSystem:
-    """How a file system is made and mounted. name is that of --disks. program makes it, `mkfs.` and
-    its type, with `words` before the image's path; size is the image's, in bytes. options are the
-    data of mount(2): those of all file systems, such as `ro`, are flags, and refused. repair is the
-    command that an image needs after a crash; empty if a log is replayed."""
+    """How a file system is made and mounted. name is that of --disks, and type the one that
+    mount(2) takes. words are those of `program` before the image's path; size is the image's, in
+    bytes. options are the data of mount(2): those of all file systems, such as `ro`, are flags, and
+    refused. repair is the command that an image needs after a crash; empty if a log is replayed."""
 
     name: str
-    program: str
+    type: str
     words: Tuple[str, ...]
     size: int
     options: str = ''
     repair: Tuple[str, ...] = ()
 
     @property
-    def kind(self) -> str:
-        """The file system's type, as mount(2) takes it."""
-        return self.program.partition('.')[2]
+    def program(self) -> str:
+        """The name of the program that makes the file system in an image."""
+        return f'mkfs.{self.type}'
 
     @property
     def programs(self) -> Tuple[str, ...]:
-        """The names of the programs that make and repair its images; mount(2) needs none."""
-        return (self.program, *self.repair[:1], *PROGRAMS)
+        """The names of all programs that its images need; mount(2) needs none."""
+        return (self.program, *self.repair[:1], HOLE_PROGRAM)
 
 
-EXT4 = FileSystem('ext4', 'mkfs.ext4', (*EXT_BLOCKS, '-J', 'size=4', *LAZY), 24 * MEBIBYTE)
+EXT4 = FileSystem('ext4', 'ext4', (*EXT_BLOCKS, '-J', 'size=4', *LAZY), 24 * MEBIBYTE)
 
 
 def ext4_with(name: str, options: str) -> FileSystem:
     """ext4 with another name and with these options, the data of mount(2)."""
-    return FileSystem(name, EXT4.program, EXT4.words, EXT4.size, options)
+    return replace(EXT4, name=name, options=options)
 
 
 # The file systems of --disks, by name.
@@ -73,10 +72,10 @@ KNOWN: Dict[str, FileSystem] = {
         EXT4,
         ext4_with('ext4-writeback', 'data=writeback'),
         ext4_with('ext4-nodelalloc', 'nodelalloc'),
-        FileSystem('ext2', 'mkfs.ext2', EXT_BLOCKS, 24 * MEBIBYTE, repair=('e2fsck', '-f', '-y')),
-        FileSystem('xfs', 'mkfs.xfs', ('-q', '-f'), 320 * MEBIBYTE),
-        FileSystem('btrfs', 'mkfs.btrfs', ('-q', '-f'), 120 * MEBIBYTE),
-        FileSystem('f2fs', 'mkfs.f2fs', ('-q', '-f'), 64 * MEBIBYTE),
+        FileSystem('ext2', 'ext2', EXT_BLOCKS, 24 * MEBIBYTE, repair=('e2fsck', '-f', '-y')),
+        FileSystem('xfs', 'xfs', ('-q', '-f'), 320 * MEBIBYTE),
+        FileSystem('btrfs', 'btrfs', ('-q', '-f'), 120 * MEBIBYTE),
+        FileSystem('f2fs', 'f2fs', ('-q', '-f'), 64 * MEBIBYTE),
     )
 }
 # An image of the usual size has room for so many bytes of a session.
@@ -94,25 +93,16 @@ def with_room_for(filesystem: FileSystem, session_bytes: int) -> FileSystem:
 
 
 def most_session_bytes(trace: Trace) -> int:
-    """How many bytes on a disk a session takes at most: the bytes of each file of the start tree
-    and of each write, with two pages more for each run of them, in which the run begins and ends;
-    and a page for each name that the start tree has or that is made, with its inode. Truncates add
-    nothing: they make holes."""
-    sizes = [len(run) for line in trace.start for run in start_runs(line)]
+    """How many bytes on a disk a session takes at most. Each run of bytes, of a file of the start
+    tree or of a write, takes its size and two pages, since its first and last page may have other
+    bytes too. Each name, of the start tree or made later, takes a page with its inode. Truncates
+    add nothing: they make holes."""
+    start_data = [line.data for line in trace.start if isinstance(line, Start)]
+    sizes = [len(run) for data in start_data if data is not None for _, run in runs_of(data)]
     sizes += [len(operation.data) for operation in trace.operations if isinstance(operation, Write)]
     new_names = sum(isinstance(operation, NAME_MAKERS) for operation in trace.operations)
     name_bytes = (len(trace.start) + new_names) * PAGE_BYTES
     return name_bytes + sum(size + 2 * PAGE_BYTES for size in sizes)
-
-
-def start_runs(line: StartLine) -> List[bytes]:
-    """The bytes of a start line's file, in runs that leave out its holes. Empty if the line isn't a
-    file."""
-    if not isinstance(line, Start) or line.data is None:
-        return []
-    if isinstance(line.data, SparseBytes):
-        return [run for _, run in line.data.page_runs()]
-    return [line.data]
 
 
 def filesystems_by_names(disk_names: Sequence[str]) -> List[FileSystem]:

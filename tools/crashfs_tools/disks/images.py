@@ -13,7 +13,7 @@ from typing import Iterator, Sequence
 from crashfs_tools.common.command import Refused
 from crashfs_tools.common.file_bytes import data_ranges
 
-from .filesystems import FileSystem
+from .filesystems import HOLE_PROGRAM, FileSystem
 from .loops import attached_loop_device
 from .system_calls import last_error, libc
 
@@ -34,8 +34,8 @@ def make_image(filesystem: FileSystem, image: str) -> None:
 
 def dig_holes(image: str) -> None:
     """Turns the zeros in an image, such as those of a new log, into holes, so that copies are
-    faster. Refused if that fails, OSError if `fallocate` isn't installed."""
-    run_program(['fallocate', '--dig-holes', image])
+    faster. Refused if that fails, OSError if HOLE_PROGRAM isn't installed."""
+    run_program([HOLE_PROGRAM, '--dig-holes', image])
 
 
 @contextmanager
@@ -56,8 +56,8 @@ def mounted_image(filesystem: FileSystem, image: str, mount_point: str) -> Itera
 def mount_device(filesystem: FileSystem, device: str, mount_point: str) -> None:
     """Mounts a device with the file system's options, by the system call: the program `mount` takes
     four times as long. Refused if it can't be mounted."""
-    kind, options = filesystem.kind.encode(), filesystem.options.encode()
-    if libc.mount(os.fsencode(device), os.fsencode(mount_point), kind, 0, options):
+    type_name, options = filesystem.type.encode(), filesystem.options.encode()
+    if libc.mount(os.fsencode(device), os.fsencode(mount_point), type_name, 0, options):
         reason = os.strerror(ctypes.get_errno())
         raise Refused(f'--disks: an image of {filesystem.name} can not be mounted: {reason}')
 

@@ -35,21 +35,17 @@ class AccountNumbers:
         """The number of a name. The first call for a name gives it one: the number that this
         machine's accounts have for it, or else one from FIRST_UNKNOWN on."""
         if name not in self.numbers:
-            self.numbers[name] = self.new_number(name)
-            self.names.setdefault(self.numbers[name], name)
+            try:
+                number = self.account_number(name)
+            except KeyError:
+                number = FIRST_UNKNOWN + len(self.numbers)
+            self.numbers[name] = number
+            self.names.setdefault(number, name)
         return self.numbers[name]
 
-    def new_number(self, name: str) -> int:
-        """A number for a name that has none. Only number() stores it: until then another unknown
-        name would get the same one."""
-        try:
-            return self.account_number(name)
-        except KeyError:
-            return FIRST_UNKNOWN + len(self.numbers)
-
     def name(self, number: int) -> str:
-        """The name that has a number, the first one if several have it; if none has it, the
-        number's digits."""
+        """The name that has a number; of several the one that got the number first. If none has
+        it, the number's digits."""
         return self.names.get(number, str(number))
 
 

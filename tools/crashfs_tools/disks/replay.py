@@ -8,7 +8,7 @@ import os
 from typing import Any, Callable, Dict, List, NamedTuple, Type, Union
 
 from crashfs_tools.common.file_bytes import write_at
-from crashfs_tools.common.sparse import SparseBytes
+from crashfs_tools.common.sparse import SparseBytes, runs_of
 from crashfs_tools.common.trace import (
     Chmod,
     Chown,
@@ -42,7 +42,8 @@ from .system_calls import last_error, libc
 NEW_DIRECTORY = 0o700
 OPEN_FILE = os.O_RDWR | os.O_NOFOLLOW | os.O_CLOEXEC
 NEW_FILE = OPEN_FILE | os.O_CREAT | os.O_EXCL
-SYNC_FILE_RANGE_WRITE_AND_WAIT = 7
+# sync_file_range(2): waits for writes that are under way, writes what is left, and waits for that.
+WRITE_AND_WAIT = 1 | 2 | 4
 
 # The lines that make an entry with an owner and a group.
 NewEntry = Union[Creat, Mkdir, Symlink, StartSymlink]
@@ -90,9 +91,9 @@ def make_start_entry(path: str, data: Union[bytes, SparseBytes, None]) -> None:
         os.mkdir(path, NEW_DIRECTORY)
         return
     with open(path, 'xb') as file:
-        for offset, piece in data.page_runs() if isinstance(data, SparseBytes) else [(0, data)]:
+        for offset, run in runs_of(data):
             file.seek(offset)
-            file.write(piece)
+            file.write(run)
         file.truncate(len(data))
 
 
@@ -263,15 +264,13 @@ class Replay:
         """Does nothing: to acknowledge a line changes nothing on the disk."""
 
     def write_back(self, inode: int) -> None:
-        """Writes the bytes of the file with an inode to the disk, and nothing of the log. The file
-        still counts as unsynced. Nothing happens for a file that the session hasn't opened. OSError
-        if it fails."""
-        if inode in self.descriptors and libc.sync_file_range(
-            self.descriptors[inode],
-            ctypes.c_int64(0),
-            ctypes.c_int64(0),
-            SYNC_FILE_RANGE_WRITE_AND_WAIT,
-        ):
+        """Writes all bytes of a file to the disk, and nothing of the log. The file is given by its
+        inode, which `unsynced` must have or have had, and still counts as unsynced. OSError if it
+        fails."""
+        # From the offset 0; a length of 0 means to the end.
+        offset = length = ctypes.c_int64(0)
+        descriptor = self.descriptors[inode]
+        if libc.sync_file_range(descriptor, offset, length, WRITE_AND_WAIT):
             raise last_error()
 
 
