@@ -133,7 +133,7 @@ class SessionMaker:
         try:
             disks = different_disks(
                 crashed_tree
-                for moment in maker.crash_moments()
+                for moment in maker.moments
                 for crashed_tree in maker.crashed_trees(moment, tuple(FlushKind))
             )
         finally:

@@ -8,7 +8,7 @@ from __future__ import annotations
 
 import os
 from pathlib import Path
-from typing import Iterator, List, Sequence, Tuple
+from typing import Iterator, Sequence, Tuple
 
 from crashfs_tools.common.entry import Entries
 from crashfs_tools.common.trace import Trace
@@ -33,10 +33,10 @@ DIRECTORY, OTHER = 'd', 'other'
 
 
 class CrashMaker:
-    """Crashes a session on one file system. `folder` is for its images and mount points. Methods
-    that mount an image may be called only in a process with mounts of its own: see
-    use_own_mounts(). They raise Refused if an image can't be made, mounted or repaired, and OSError
-    if anything else fails, as an operation of the session."""
+    """Crashes a session on one file system at its `moments`, in their order. `folder` is for its
+    images and mount points. Methods that mount an image may be called only in a process with mounts
+    of its own: see use_own_mounts(). They raise Refused if an image can't be made, mounted or
+    repaired, and OSError if anything else fails, as an operation of the session."""
 
     def __init__(
         self, filesystem: FileSystem, trace: Trace, folder: str, line_numbers: Sequence[int] = ()
@@ -44,7 +44,8 @@ class CrashMaker:
         """line_numbers are those of the operations' lines in the trace. By default they follow
         those of the start lines, as in a trace without empty lines."""
         first_line = len(trace.start) + 2
-        self.line_numbers = line_numbers or range(first_line, first_line + len(trace.operations))
+        line_numbers = line_numbers or range(first_line, first_line + len(trace.operations))
+        self.moments = list(crash_moments(trace.operations, line_numbers))
         self.filesystem = filesystem
         self.trace = trace
         self.owners = Owners(trace)
@@ -75,10 +76,6 @@ class CrashMaker:
             lay_out_start(self.trace, os.path.join(top, DIRECTORY), self.owners)
         images.dig_holes(image)
 
-    def crash_moments(self) -> List[Moment]:
-        """The moments at which the session may crash, from the start to the end."""
-        return list(crash_moments(self.trace.operations, self.line_numbers))
-
     def crashed_trees(
         self, moment: Moment, flush_kinds: Sequence[FlushKind]
     ) -> Iterator[Tuple[Entries, Crash]]:
@@ -86,9 +83,10 @@ class CrashMaker:
         of these kinds; some trees may be equal. The session is made first without a flush, to find
         the unsynced changes: the tree of this run comes first if NOTHING is among the kinds. For
         each other tree the session is made again, once the tree is asked for."""
-        unsynced = self.crash(moment, Flush(FlushKind.NOTHING))
+        copy = self.process_path('copy')
+        unsynced = self.crash(moment, Flush(FlushKind.NOTHING), copy)
         if FlushKind.NOTHING in flush_kinds:
-            yield self.tree_after_crash(), Crash(moment, FlushKind.NOTHING)
+            yield self.tree_on_copy(copy), Crash(moment, FlushKind.NOTHING)
         flushes = (
             flush
             for kind in flush_kinds
@@ -96,13 +94,13 @@ class CrashMaker:
             for flush in possible_flushes(kind, unsynced, moment.operation_count)
         )
         for flush in flushes:
-            self.crash(moment, flush)
-            yield self.tree_after_crash(), Crash(moment, flush.kind)
+            self.crash(moment, flush, copy)
+            yield self.tree_on_copy(copy), Crash(moment, flush.kind)
 
-    def crash(self, moment: Moment, flush: Flush) -> Unsynced:
-        """Makes the session up to a moment, makes a flush, and copies the disk while it is mounted:
-        the copy, which replaces an earlier one, is what the crash leaves. Returns the changes of
-        each file that no sync covered before the flush."""
+    def crash(self, moment: Moment, flush: Flush, copy: str) -> Unsynced:
+        """Makes the session up to a moment, makes a flush, and copies the disk while it is mounted
+        to the path `copy`, where an image may be already: this is what the crash leaves. Returns
+        the changes of each file that no sync covered before the flush."""
         disk = self.process_path('disk')
         images.copy_image(self.start_image(), disk)
         with images.mounted_image(self.filesystem, disk, self.process_path('point')) as top:
@@ -112,14 +110,12 @@ class CrashMaker:
                     flush_earlier_file(replay, flush)
                 unsynced = list(replay.unsynced.values())
                 make_flush(replay, flush, os.path.join(top, OTHER))
-                images.copy_image(disk, self.process_path('copy'))
+                images.copy_image(disk, copy)
         return unsynced
 
-    def tree_after_crash(self) -> Entries:
-        """The session's directory, as `/`, on the copy that this process's last crash() left;
-        crash() must have been called. The copy is changed: it is repaired, and its mount replays
-        the file system's log."""
-        copy = self.process_path('copy')
+    def tree_on_copy(self, copy: str) -> Entries:
+        """The session's directory, as `/`, on a copy that a crash left. The copy is changed: it is
+        repaired, and its mount replays the file system's log."""
         images.repair_image(self.filesystem, copy)
         with images.mounted_image(self.filesystem, copy, self.process_path('point')) as top:
             return read_tree(os.path.join(top, DIRECTORY), self.owners)

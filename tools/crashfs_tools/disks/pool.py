@@ -55,9 +55,7 @@ class DiskPool:
     def tasks(self) -> List[Task]:
         """Each moment of the session on each file system, one file system after the other."""
         return [
-            Task(name, moment)
-            for name, maker in self.makers.items()
-            for moment in maker.crash_moments()
+            Task(name, moment) for name, maker in self.makers.items() for moment in maker.moments
         ]
 
     def disks(self, jobs: int, on_step: Callable[[int, int], None]) -> Dict[str, List[Disk]]:
