@@ -31,7 +31,7 @@ class FlushKind(Enum):
 
     @property
     def rank(self) -> int:
-        """Its place in the order of the kinds, from 0 for NOTHING."""
+        """The place of this kind in the order of all kinds, from 0 for NOTHING."""
         return list(FlushKind).index(self)
 
 

@@ -8,14 +8,26 @@ import signal
 import traceback
 from functools import partial
 from multiprocessing.connection import Connection, Pipe, wait
-from typing import Any, Callable, Dict, Generic, Iterator, List, NoReturn, Set, TypeVar, Union
+from typing import (
+    Any,
+    Callable,
+    Dict,
+    Generic,
+    Iterator,
+    List,
+    NamedTuple,
+    NoReturn,
+    Optional,
+    Set,
+    TypeVar,
+    Union,
+)
 
 from crashfs_tools.common.command import Refused
 from crashfs_tools.common.signals import stop_signals_blocked
 
 Task = TypeVar('Task')
 Result = TypeVar('Result')
-Value = TypeVar('Value')
 
 # Python sees a signal that comes just as it begins to wait only after so long.
 TURN_SECONDS = 0.5
@@ -24,6 +36,13 @@ GONE = '--disks: a process that makes disks was killed'
 
 class Fault(Exception):
     """What a worker raised, other than Refused and OSError, as the text of its traceback."""
+
+
+class Answer(NamedTuple):
+    """What a worker sends for a task: the result or, if `fault` isn't None, what was raised."""
+
+    result: Any
+    fault: Optional[Exception] = None
 
 
 class DiskWorkers(Generic[Task, Result]):
@@ -91,15 +110,15 @@ class DiskWorkers(Generic[Task, Result]):
         self, pipe: Connection, blocked_before: Set[Union[int, signal.Signals]]
     ) -> NoReturn:
         """In the new process, never returns: does each task that its pipe brings, and sends the
-        result. If `set_up` raises, each result is what it raised. Signals wait until `set_up` has
+        answer. If `set_up` raises, each answer has its fault. Signals wait until `set_up` has
         returned; those of `blocked_before` were blocked before the fork, and stay so. A result that
         can't be pickled ends the process: receive_result() then takes it as killed."""
         try:
-            fault = result_or_fault(self.set_up)
+            set_up = answer_of(self.set_up)
             signal.pthread_sigmask(signal.SIG_SETMASK, blocked_before)
             while True:
                 do_task = partial(self.do_task, pipe.recv())
-                pipe.send(result_or_fault(do_task) if fault is None else fault)
+                pipe.send(answer_of(do_task) if set_up.fault is None else set_up)
         finally:
             os._exit(0)
 
@@ -125,24 +144,24 @@ def send_next_task(pipe: Connection, remaining_tasks: Iterator[Task]) -> bool:
 
 
 def receive_result(pipe: Connection) -> Any:
-    """Waits without limit for the result of a process's task. Raises what the process has raised,
-    as result_or_fault() returned it there, or Refused if the process was killed."""
+    """Waits without limit for a process's answer, and returns its result. Raises its fault, or
+    Refused if the process was killed."""
     try:
-        result = pipe.recv()
+        answer: Answer = pipe.recv()
     except (EOFError, OSError) as error:
         raise Refused(GONE) from error
-    if isinstance(result, Exception):
-        raise result
-    return result
+    if answer.fault is not None:
+        raise answer.fault
+    return answer.result
 
 
-def result_or_fault(call: Callable[[], Value]) -> Union[Value, Exception]:
-    """Calls a function, and returns its result, or what it raises in a form that a pipe can send:
-    Refused and OSError as they are, any other Exception as a Fault. Other BaseExceptions, such as
-    SystemExit, are raised."""
+def answer_of(call: Callable[[], Any]) -> Answer:
+    """Calls a function, and returns its result or its fault: Refused and OSError as they are, any
+    other Exception as a Fault, since a pipe may not be able to send it. Other BaseExceptions, such
+    as SystemExit, are raised."""
     try:
-        return call()
+        return Answer(call())
     except (Refused, OSError) as fault:
-        return fault
+        return Answer(None, fault)
     except Exception:
-        return Fault(traceback.format_exc())
+        return Answer(None, Fault(traceback.format_exc()))
