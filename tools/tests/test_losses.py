@@ -3,8 +3,9 @@
 import json
 import unittest
 from types import SimpleNamespace
+from unittest import mock
 
-from crashfs_tools.checker.findings.losses import RUNS, LossSearches, loss_search
+from crashfs_tools.checker.findings.losses import RUNS, LossSearch, LossSearches, loss_of
 from crashfs_tools.checker.findings.pairs import Loss, Pair
 from crashfs_tools.checker.findings.set_outcomes import find_equal_sets, outcome_of_set
 from crashfs_tools.checker.running.runner import BAD, GOOD, Outcome
@@ -19,15 +20,11 @@ from .test_groups import THIRD, findings_of, line, plan_text, rename, write
 
 def searched(plan, kept, fails):
     """The loss that a search finds, and the sets that it asks for."""
-    state = State(0, 'pick', (), 0, 0)
-    plan.kept[0] = kept
-    asked, one = [], loss_search(plan, state)
-    try:
-        asked.append(next(one))
-        while True:
-            asked.append(one.send(fails(asked[-1])))
-    except StopIteration as end:
-        return end.value, asked
+    asked, search = [], LossSearch(plan, kept)
+    while search.wanted_set is not None:
+        asked.append(search.wanted_set)
+        search.answer(fails_alike=bool(fails(search.wanted_set)))
+    return loss_of(search.kept_set), asked
 
 
 class Searched(unittest.TestCase):
@@ -65,9 +62,9 @@ class Searched(unittest.TestCase):
                 tried.extend(sets)
                 self.outcomes.update({one: Outcome(BAD, 'another') for one in sets})
 
-            def send_answer(self, number, answer):
-                answered.append(answer)
-                super().send_answer(number, answer)
+        def answer(search, fails_alike):
+            answered.append(fails_alike)
+            search.wanted_set = next(search.sets, None)
 
         self.plan.kept[0] = 1 << 39
         findings = SimpleNamespace(
@@ -75,7 +72,8 @@ class Searched(unittest.TestCase):
             outcomes_by_state={0: Outcome(BAD, 'lost')},
             pairs=SimpleNamespace(is_same_failure=lambda one, other: False),
         )
-        found = Fewer(None, None, findings).run([State(0, 'pick', (), 0, 0)])
+        with mock.patch.object(LossSearch, 'answer', answer):
+            found = Fewer(None, None, findings).run([State(0, 'pick', (), 0, 0)])
         self.assertEqual((len(tried), answered), (RUNS, [False] * RUNS))
         self.assertEqual(found, {0: Loss(Pair(39, 0), (1 << 39) - 1)})
 

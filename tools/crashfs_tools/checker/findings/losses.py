@@ -10,11 +10,16 @@ from __future__ import annotations
 
 from functools import reduce
 from operator import or_
-from typing import Callable, Dict, Generator, Iterator, List, Optional
+from typing import Dict, Iterable, Iterator, List, Optional
 
 from crashfs_tools.checker.running.runner import Outcome
 from crashfs_tools.checker.running.trials import Trials
-from crashfs_tools.checker.states.place_sets import first_missing, missing_set, places_of
+from crashfs_tools.checker.states.place_sets import (
+    first_missing,
+    missing_set,
+    places_of,
+    prefix_set,
+)
 from crashfs_tools.checker.states.plan import Plan, State
 from crashfs_tools.checker.states.planning import Planner
 
@@ -26,9 +31,6 @@ from .set_outcomes import EqualSets, find_equal_sets, outcome_of_set, outcomes_b
 # crash states were tried, it isn't run.
 SEARCHED, RUNS = 20, 12
 SEARCHED_OF_ALL = 1_000
-
-# Yields sets of micro-operations, and is sent whether each fails alike; returns the smallest loss.
-Search = Generator[int, bool, Loss]
 
 
 def sets_by_line(plan: Plan, micro_operations: int) -> List[int]:
@@ -62,13 +64,73 @@ def find_losses(trials: Trials, planner: Planner, findings: Findings) -> None:
         findings.add_losses(losses)
 
 
+class LossSearch:
+    """A search for the smallest loss of a failing state, which must lack something. kept_set has
+    the smallest loss of all sets that are known to fail alike, at first that of the state.
+    wanted_set is the set that the search wants tried next; None at its end."""
+
+    def __init__(self, plan: Plan, kept_set: int) -> None:
+        self.plan = plan
+        self.kept_set = kept_set
+        self.sets = self.sets_to_try()
+        self.wanted_set = next(self.sets, None)
+
+    def answer(self, *, fails_alike: bool) -> None:
+        """Continues the search, which must not have ended, by whether wanted_set fails alike."""
+        if fails_alike and self.wanted_set is not None:
+            self.kept_set = self.wanted_set
+        self.wanted_set = next(self.sets, None)
+
+    def sets_to_try(self) -> Iterator[int]:
+        """Yields the sets that the search wants; between two of them kept_set becomes the first one
+        if that fails alike. First puts back lines that the state lacks, half of them at a time,
+        then smaller parts; then makes the state shorter."""
+        part_count = 2
+        while True:
+            kept_set = self.kept_set
+            line_sets = sets_by_line(self.plan, missing_set(kept_set))
+            yield from self.larger_sets(unions_of_parts(line_sets, part_count))
+            if self.kept_set != kept_set:
+                part_count = max(2, part_count - 1)
+            elif part_count < len(line_sets):
+                part_count = min(2 * part_count, len(line_sets))
+            else:
+                break
+        yield from self.shorter_sets()
+
+    def larger_sets(self, parts: Iterable[int]) -> Iterator[int]:
+        """A part of sets_to_try(): yields kept_set with one of some parts put back, and all that
+        the part needs, if that has the same last place and still lacks something. Ends after the
+        first that fails alike."""
+        kept_set = self.kept_set
+        for part in parts:
+            larger_set = kept_set | with_needed(self.plan, part)
+            if larger_set.bit_length() == kept_set.bit_length() and missing_set(larger_set):
+                yield larger_set
+                if self.kept_set == larger_set:
+                    return
+
+    def shorter_sets(self) -> Iterator[int]:
+        """A part of sets_to_try(): yields beginnings of kept_set that still lack something, by
+        binary search for the shortest one that fails alike."""
+        kept_set, lost = self.kept_set, first_missing(self.kept_set)
+        assert lost is not None
+        ends = [place + 1 for place in places_of(kept_set) if place > lost]
+        low, high = 0, len(ends) - 1
+        while low < high:
+            middle = (low + high) // 2
+            shorter_set = kept_set & prefix_set(ends[middle])
+            yield shorter_set
+            if self.kept_set == shorter_set:
+                high = middle
+            else:
+                low = middle + 1
+
+
 class LossSearches:
     """Searches for the smallest losses of several states at once: in each turn one set is tried for
     each search. outcomes has the outcomes of the sets that were tried; equal_sets, if it is given,
-    has those of sets that leave the same.
-
-    searches, wanted_sets and losses are by the numbers of the states: the searches, the set that
-    each running search wants tried, and the losses that the others found."""
+    has those of sets that leave the same."""
 
     def __init__(
         self,
@@ -77,71 +139,43 @@ class LossSearches:
         findings: Findings,
         equal_sets: Optional[EqualSets] = None,
     ) -> None:
-        """The outcomes that the findings have now are known. No search is begun: run() does
-        that."""
+        """The outcomes that the findings have now are known."""
         self.trials = trials
         self.planner = planner
         self.findings = findings
         self.equal_sets = equal_sets
         self.outcomes = outcomes_by_set(findings.plan, findings.outcomes_by_state)
-        self.searches: Dict[int, Search] = {}
-        self.wanted_sets: Dict[int, int] = {}
-        self.losses: Dict[int, Loss] = {}
 
     def run(self, states: List[State]) -> Dict[int, Loss]:
         """The smallest losses of failing states, each of which must lack something, by their
-        numbers; to be called once. A search that isn't over after RUNS sets whose outcomes weren't
-        known ends with the smallest loss so far. Exceptions as in try_sets()."""
-        self.begin_searches(states)
-        self.answer_searches()
+        numbers. A search that isn't over after RUNS sets whose outcomes weren't known ends with the
+        smallest loss so far. Exceptions as in try_sets()."""
+        plan = self.findings.plan
+        searches = {state.number: LossSearch(plan, plan.kept[state.number]) for state in states}
+        self.answer_searches(searches)
         for _ in range(RUNS):
-            if not self.wanted_sets:
+            wanted = [search.wanted_set for search in searches.values()]
+            wanted_sets = [wanted_set for wanted_set in wanted if wanted_set is not None]
+            if not wanted_sets:
                 break
-            self.try_sets(list(self.wanted_sets.values()))
-            self.answer_searches()
-        ended_losses = {
-            number: end_search(search)
-            for number, search in self.searches.items()
-            if number in self.wanted_sets
-        }
-        return {**self.losses, **ended_losses}
+            self.try_sets(wanted_sets)
+            self.answer_searches(searches)
+        return {number: loss_of(search.kept_set) for number, search in searches.items()}
 
-    def begin_searches(self, states: List[State]) -> None:
-        """Begins a search for each of some failing states, up to the first set that it wants, or to
-        its end."""
-        for state in states:
-            self.searches[state.number] = loss_search(self.findings.plan, state)
-            self.advance_search(state.number, next)
+    def answer_searches(self, searches: Dict[int, LossSearch]) -> None:
+        """Answers the searches for some states, by their numbers, as answer_search() does."""
+        for number, search in searches.items():
+            self.answer_search(search, self.findings.outcomes_by_state[number])
 
-    def answer_searches(self) -> None:
-        """Answers each search that wants a set, as answer_search() does."""
-        for number in list(self.wanted_sets):
-            self.answer_search(number)
-
-    def answer_search(self, number: int) -> None:
-        """Answers the search for a state, given by its number, with the outcomes that are known,
-        until it wants a set without one, or ends."""
-        failing = self.findings.outcomes_by_state[number]
-        while number in self.wanted_sets:
-            outcome = outcome_of_set(self.wanted_sets[number], self.outcomes, self.equal_sets)
+    def answer_search(self, search: LossSearch, failing: Outcome) -> None:
+        """Answers the search for a state that has this outcome, with the outcomes of sets that are
+        known, until it wants a set without one, or ends."""
+        while search.wanted_set is not None:
+            outcome = outcome_of_set(search.wanted_set, self.outcomes, self.equal_sets)
             if outcome is None:
-                break
-            self.send_answer(number, self.findings.pairs.is_same_failure(failing, outcome))
-
-    def send_answer(self, number: int, is_same: bool) -> None:
-        """Sends the search for a state, given by its number, whether the set that it wanted fails
-        alike, and continues the search as advance_search() does."""
-        self.advance_search(number, lambda search: search.send(is_same))
-
-    def advance_search(self, number: int, step: Callable[[Search], int]) -> None:
-        """Continues the search for a state, given by its number, by a step, which returns the set
-        that the search wants next. Notes that set in wanted_sets or, if the search ends, its loss
-        in losses."""
-        self.wanted_sets.pop(number, None)
-        try:
-            self.wanted_sets[number] = step(self.searches[number])
-        except StopIteration as end:
-            self.losses[number] = end.value
+                return
+            is_same = self.findings.pairs.is_same_failure(failing, outcome)
+            search.answer(fails_alike=is_same)
 
     def try_sets(self, sets: List[int]) -> None:
         """Tries sets that the order allows, and adds each outcome to `outcomes` as it comes; some
@@ -157,78 +191,6 @@ class LossSearches:
             self.outcomes[sets_by_number[number]] = outcome
 
         Trials(self.trials.workplace, planned).try_states([set(sets_by_number)], on_outcome)
-
-
-class EndSearch(Exception):
-    """Thrown into a search to end it: it returns its smallest loss so far."""
-
-
-def end_search(search: Search) -> Loss:
-    """Ends a search that waits for an answer, by EndSearch, and returns the smallest loss that it
-    has found so far. AssertionError if it doesn't end."""
-    try:
-        search.throw(EndSearch())
-    except StopIteration as end:
-        loss: Loss = end.value
-        return loss
-    raise AssertionError('a search goes on after its end')
-
-
-def loss_search(plan: Plan, state: State) -> Search:
-    """A search for the smallest loss of a failing state, which must lack something. The search
-    yields sets, and must be sent whether each fails alike. First it puts back lines that the state
-    lacks, half of them at a time, then smaller parts; then it makes the state shorter. At its end,
-    also if EndSearch is thrown into it, it returns the smallest loss that it has found."""
-    kept_set = plan.kept[state.number]
-    try:
-        part_count = 2
-        while True:
-            line_sets = sets_by_line(plan, missing_set(kept_set))
-            larger_set = yield from put_back_part(plan, kept_set, line_sets, part_count)
-            if larger_set is not None:
-                kept_set, part_count = larger_set, max(2, part_count - 1)
-            elif part_count >= len(line_sets):
-                break
-            else:
-                part_count = min(2 * part_count, len(line_sets))
-        kept_set = yield from shortest_beginning(kept_set)
-    except EndSearch:
-        pass
-    return loss_of(kept_set)
-
-
-def put_back_part(
-    plan: Plan, kept_set: int, line_sets: List[int], part_count: int
-) -> Generator[int, bool, Optional[int]]:
-    """A part of loss_search: divides line_sets, what the kept set lacks of each line, into so many
-    parts, and puts back one part at a time, with all that it needs. Returns the first larger set
-    that has the same last place, still lacks something, and fails alike; None if there is none."""
-    for part in unions_of_parts(line_sets, part_count):
-        larger_set = kept_set | with_needed(plan, part)
-        if larger_set.bit_length() == kept_set.bit_length() and missing_set(larger_set):
-            if (yield larger_set):
-                return larger_set
-    return None
-
-
-def shortest_beginning(kept_set: int) -> Generator[int, bool, int]:
-    """A part of loss_search, by binary search: the shortest beginning of a set that still lacks
-    something and fails alike. The set must lack something. If EndSearch is thrown into the search,
-    it returns the shortest beginning so far."""
-    lost = first_missing(kept_set)
-    assert lost is not None
-    ends = [place for place in places_of(kept_set) if place > lost]
-    low, high = 0, len(ends) - 1
-    try:
-        while low < high:
-            middle = (low + high) // 2
-            if (yield kept_set & (1 << ends[middle] + 1) - 1):
-                high = middle
-            else:
-                low = middle + 1
-    except EndSearch:
-        pass
-    return kept_set & (1 << ends[high] + 1) - 1
 
 
 def unions_of_parts(sets: List[int], part_count: int) -> Iterator[int]:
