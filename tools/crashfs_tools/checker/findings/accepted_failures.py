@@ -9,8 +9,6 @@ from typing import Any, Dict, Iterable, List, NamedTuple, Optional, Tuple
 from crashfs_tools.common.command import Refused
 from crashfs_tools.common.trace_lines import TraceLine, without_numbers
 
-KEYS = ('cause', 'lost', 'kept', 'why', 'until')
-
 
 class AcceptedFailure(NamedTuple):
     """An entry of a file of accepted failures: its cause, the lost and the kept operation (an empty
@@ -30,7 +28,8 @@ class AcceptedFailure(NamedTuple):
 
     @property
     def fields(self) -> Dict[str, str]:
-        """The entry as JSON has it, by KEYS. Without a last day `until` is an empty text."""
+        """The entry as JSON has it, by its fields' names. Without a last day `until` is an empty
+        text."""
         until = self.until.isoformat() if self.until else ''
         return {**self._asdict(), 'until': until}
 
@@ -91,7 +90,7 @@ def parse_entry(path: str, place: int, value: Any) -> AcceptedFailure:
     name = f'--accept {path}: entry {place}'
     if not isinstance(value, dict) or not all(isinstance(text, str) for text in value.values()):
         raise Refused(f'{name} is no object of texts')
-    unknown_keys = [key for key in value if key not in KEYS]
+    unknown_keys = [key for key in value if key not in AcceptedFailure._fields]
     if unknown_keys:
         raise Refused(f'{name} has an unknown key: {unknown_keys[0]}')
     for key in ('cause', 'why'):

@@ -185,8 +185,8 @@ def no_loss_advice(kept: Optional[TraceLine], lost: Optional[TraceLine]) -> Advi
     """The advice for a failure that needs no loss, if no better remedy is known. States fail from
     the line `kept` on (None: from the beginning) until the line `lost` repairs them (None: to the
     end, and there is no remedy). If `lost` is an acknowledged line, the remedy is a question about
-    COMMAND; if `kept` is one, a question about that; else to make the lines one change. There are
-    no syncs."""
+    COMMAND; if only `kept` is one, a question about `kept`; else to make the lines one change.
+    There are no syncs."""
     begin = f'line {kept.number} ({kept.text})' if kept else 'the beginning'
     if lost is None:
         return Advice([f'from {begin} on it fails, though nothing is lost'])

@@ -52,7 +52,7 @@ def rerun_examples(trials: Trials, findings: Findings, seconds: float = float('i
             group.rerun_seconds = time.monotonic() - begin
             if results.reruns[number].result == GOOD:
                 trials.drop_from_cache(state.number for state in group.states)
-    findings.complete_groups()
+    findings.take_reruns(findings.groups)
 
 
 def add_details(trials: Trials, planner: Planner, findings: Findings) -> None:

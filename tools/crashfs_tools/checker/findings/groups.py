@@ -2,7 +2,7 @@
 
 from __future__ import annotations
 
-from dataclasses import dataclass, field
+from dataclasses import dataclass, field, replace
 from typing import Dict, FrozenSet, Iterable, List, NamedTuple, Optional, Tuple
 
 from crashfs_tools.checker.running.results import Head, Results
@@ -86,8 +86,8 @@ class Group:
 
     @property
     def count(self) -> int:
-        """How many different states of the group were tried in its windows, at least 1: the windows
-        before may have tried them all."""
+        """How many different states the group has, without those that an earlier window had tried
+        too; 1 if no others are left."""
         return max(1, len(self.tried_states))
 
     @property
@@ -110,11 +110,12 @@ class Group:
     @property
     def is_due_to_loss(self) -> bool:
         """Whether the failure needs a loss: that of the lost line, or of a part of a torn line. If
-        it needs none, states fail from the kept line on, or from the beginning, until lost_line
-        repairs them, or to the end, though they may lack something."""
+        it needs none, prefixes fail too: those from the kept line on, or from the beginning if
+        there is no such line, to before the lost line, or to the end."""
         if self.is_torn:
             return True
-        return self.pair.lost is not None and self.pair.lost < (self.pair.kept or 0)
+        kept, lost = self.pair.kept, self.pair.lost
+        return kept is not None and lost is not None and lost < kept
 
     @property
     def is_swappable(self) -> bool:
@@ -157,7 +158,6 @@ class Group:
         """Sets the advice by what is known of the group; `lines` has the trace's lines by number.
         If the advice is to sync a lost line, its syncs serve the group's pairs of lines and
         more_pairs, and a result of trying it stays; the result of any other advice is dropped."""
-        result = self.advice.result
         if not self.is_reproducible:
             self.advice = Advice(list(NOT_REPRODUCIBLE))
         elif self.kept_line is not None and self.is_torn:
@@ -166,22 +166,24 @@ class Group:
             self.advice = self.best_no_loss_advice()
         else:
             pairs = [*self.line_pairs, *more_pairs]
-            self.advice = loss_advice(self.kept_line, self.lost_line, pairs, lines)
-            self.advice.result = result
+            advice = loss_advice(self.kept_line, self.lost_line, pairs, lines)
+            self.advice = replace(advice, result=self.advice.result)
 
     def best_no_loss_advice(self) -> Advice:
         """The advice for a failure that needs no loss. Its remedy is another order of the lines if
         fewer states fail then, else another place for the bytes if the kept line overwrites some in
         use, else that of no_loss_advice()."""
-        advice = no_loss_advice(self.kept_line, self.lost_line)
-        if self.kept_line is not None and self.lost_line is not None:
-            if self.swap_counts is not None and self.swap_counts.is_lower:
-                swap = swap_text(self.kept_line, self.lost_line)
-                advice.remedy = f'{swap} (tried: then {self.swap_counts.text})'
-                if self.kept_line.word == 'say':
-                    advice.remedy += f'. {if_no_acknowledgement(self.kept_line)}'
-            elif self.is_overwriting:
-                advice.remedy = overwriting_text(self.kept_line, self.lost_line)
+        kept, lost = self.kept_line, self.lost_line
+        advice = no_loss_advice(kept, lost)
+        if kept is None or lost is None:
+            return advice
+        if self.swap_counts is not None and self.swap_counts.is_lower:
+            remedy = f'{swap_text(kept, lost)} (tried: then {self.swap_counts.text})'
+            if kept.word == 'say':
+                remedy += f'. {if_no_acknowledgement(kept)}'
+            return replace(advice, remedy=remedy)
+        if self.is_overwriting:
+            return replace(advice, remedy=overwriting_text(kept, lost))
         return advice
 
 
@@ -210,12 +212,11 @@ class Findings:
         self.losses: Dict[int, Loss] = {}
         self.all_syncs: Optional[AllSyncs] = None
         self.groups = self.make_groups()
-        self.complete_groups()
 
     def make_groups(self) -> List[Group]:
         """The groups of the window's own states that fail or gave no answer, the largest first; the
-        example of each lacks the least. Second runs and advice are missing: complete_groups()
-        adds them."""
+        example of each lacks the least. What is found by trying more, such as differences, is
+        missing; the second runs that the results have now are not."""
         failing = [state for state in self.results.own_states if self.is_failure(state)]
         failing.sort(key=lambda state: (size_of(self.plan.set_lost_by(state)), state.number))
         groups = merged_groups(map(self.group_of_state, failing))
@@ -227,6 +228,7 @@ class Findings:
                 line_number = group.kept_line.number
                 group.kept_part = kept_part_text(self.plan, kept_set, line_number)
             group.other_syncs = self.other_syncs(group)
+        self.take_reruns(groups)
         return groups
 
     def add_losses(self, losses: Dict[int, Loss]) -> None:
@@ -241,7 +243,6 @@ class Findings:
             if number is not None:
                 self.losses.setdefault(state.number, losses[number])
         self.groups = self.make_groups()
-        self.complete_groups()
 
     def has_same_loss(self, state: State, number: int) -> bool:
         """Whether a failing state also has the smallest loss of another state, whose number must be
@@ -253,14 +254,14 @@ class Findings:
             outcomes[number], outcomes[state.number]
         )
 
-    def complete_groups(self) -> None:
-        """Sets in all groups the outcome of the example's second run, None if there was none, and
-        the advice. If the example was good then, the advice only says that the failure isn't
-        reproducible."""
-        for group in self.groups:
+    def take_reruns(self, groups: List[Group]) -> None:
+        """Sets in groups the outcome of the example's second run that the results have, None if
+        they have none; and then the advice, which only says that the failure isn't reproducible if
+        the example was good in that run."""
+        for group in groups:
             number = self.results.tried_numbers[group.example.trial]
             group.rerun_outcome = self.results.reruns.get(number)
-        set_all_advice(self.groups, self.head.lines)
+        set_all_advice(groups, self.head.lines)
 
     def is_failure(self, state: State) -> bool:
         """Whether a state fails or gave no answer. False for a state without an outcome, and for
@@ -273,8 +274,8 @@ class Findings:
         return outcome.result != GOOD and not is_ignored
 
     def group_of_state(self, state: State) -> Group:
-        """A group of this failing state only. The advice, and what make_groups() sets in merged
-        groups, such as their lost lines, are missing."""
+        """A group of this failing state only. What make_groups() sets in merged groups, such as
+        their lost lines and their advice, is missing."""
         loss = self.losses.get(state.number)
         pair = loss.pair if loss else self.pairs.pair_of(state)
         kept, lost = self.line_at(pair.kept), self.line_at(pair.lost)
@@ -316,9 +317,9 @@ class Findings:
         return sorted({self.plan.operations[place].line for place in places_of(lacking)})
 
     def needed_lines(self, group: Group) -> List[int]:
-        """The ascending numbers of further lines that must be lost for a group's example to fail,
-        although they don't need the lost operation. Empty if no smallest loss of the example is
-        known."""
+        """The ascending numbers of the lines that must be lost for a group's example to fail, in
+        addition to the lost line. A line of which only such operations are lost as need the lost
+        one is left out. Empty if no smallest loss of the example is known."""
         loss, lost_place = self.losses.get(group.example.number), group.pair.lost
         if loss is None or lost_place is None:
             return []

@@ -165,6 +165,7 @@ class Pairs:
         at the place `lost`; this length if no shorter one does. A shorter hole that wasn't tried,
         or that the plan doesn't list, is skipped."""
         shortest = length
+        # The last operation of a hole is there, so it comes after the one that is lost.
         for shorter in range(length - 1, lost + 1, -1):
             comparison = self.compare(outcome, self.holes.get((lost, shorter)))
             if comparison is Comparison.OTHER:
@@ -177,7 +178,8 @@ class Pairs:
         """The place that the hole without missing_place, of this length, lost by rule 4: of the
         later places that need missing_place the last one whose own removal gives a hole of this
         length that fails alike; missing_place if there is none."""
-        for later in range(length - 2, missing_place, -1):
+        last_place = length - 1
+        for later in range(last_place - 1, missing_place, -1):
             if self.plan.needs.is_needed(missing_place, by=later):
                 hole = self.holes.get((later, length))
                 if self.compare(outcome, hole) is Comparison.FAILS_ALIKE:

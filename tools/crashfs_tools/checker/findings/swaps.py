@@ -1,4 +1,5 @@
-"""Another order of two lines, tried on a copy of the trace."""
+"""What may repair a failure that needs no loss: another order of its two lines, tried on a copy of
+the trace, or another place for the bytes that the kept line overwrites."""
 
 from __future__ import annotations
 
