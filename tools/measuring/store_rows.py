@@ -8,7 +8,7 @@ from pathlib import Path
 from typing import Any, Dict, Iterator, List
 from typing import Counter as Counts
 
-from crashfs_tools.checker.findings.sightings import OUTSIDE
+from crashfs_tools.checker.findings.sightings import Reason
 from crashfs_tools.checker.report.counts import StateCounts
 from crashfs_tools.checker.running.read_results import read_json
 from crashfs_tools.checker.running.results import AllResults, Results
@@ -114,7 +114,7 @@ def disk_counts(report: Dict[str, Any]) -> Dict[str, Dict[str, int]]:
         return {}
     outside: Counts[str] = Counter()
     for disk in disks['further']:
-        if disk['where'] == OUTSIDE:
+        if disk['where'] == Reason.OUTSIDE.value:
             outside.update(disk['crashes'].keys())
     return {
         name: {'trees': counts['different'], 'failing': counts['failing'], 'outside': outside[name]}

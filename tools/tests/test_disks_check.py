@@ -18,9 +18,10 @@ from crashfs_tools.api.reports import Report
 from crashfs_tools.checker.checking import Check, check_trace
 from crashfs_tools.checker.findings import disk_search
 from crashfs_tools.checker.findings.sightings import (
-    OUTSIDE,
+    DiskCounts,
     DiskFailure,
     Explanation,
+    Reason,
     Sightings,
     sighting_text,
 )
@@ -74,7 +75,7 @@ class Sentences(unittest.TestCase):
         )
 
     def test_the_crash_that_says_most_is_named(self) -> None:
-        found = Sightings(['ext4', 'xfs'])
+        found = Sightings()
         found.crashes_by_state = {
             3: {'ext4': LOG},
             4: {'ext4': LATER, 'xfs': LOG},
@@ -87,7 +88,7 @@ class Sentences(unittest.TestCase):
     def test_a_tree_on_a_disk_is_shown_with_its_first_paths(self) -> None:
         tree = {f'/{number:02}': Entry('u', 'g', 0o644, bytearray(3)) for number in range(14)}
         one = DiskFailure(
-            Outcome(BAD, 'lost: a'), [1, 2], {'ext4': FIRST}, tree, Explanation(OUTSIDE)
+            Outcome(BAD, 'lost: a'), [1, 2], {'ext4': FIRST}, tree, Explanation(Reason.OUTSIDE)
         )
         where, why, paths = one.lines()
         self.assertEqual(why, 'no crash state has this tree')
@@ -106,7 +107,7 @@ class Explanations(unittest.TestCase):
             'none of the 3 crash states that were looked through has this tree',
         )
         whole = disk_search.search_trees(trace, {('none', 0)})
-        self.assertEqual(whole.explanation(('none', 0)), Explanation(OUTSIDE))
+        self.assertEqual(whole.explanation(('none', 0)), Explanation(Reason.OUTSIDE))
 
 
 class Lines(unittest.TestCase):
@@ -186,9 +187,9 @@ class Reports(unittest.TestCase):
     def setUp(self) -> None:
         self.report = CheckReport(Head('t.trace', '', ['true']))
         tree = {'/f': Entry('u', 'g', 0o644, bytearray(3))}
-        why = Explanation(OUTSIDE)
+        why = Explanation(Reason.OUTSIDE)
         one = DiskFailure(Outcome(BAD, 'zeros: <1>', 'out'), [1], {'ext4': FIRST}, tree, why)
-        self.seen = Sightings(['ext4'], {'ext4': 1200}, {'ext4': 9}, {'ext4': 1}, {}, [one])
+        self.seen = Sightings({'ext4': DiskCounts(1200, 9, 1)}, {}, [one])
 
     def test_a_failure_that_no_state_has_is_a_test_case(self) -> None:
         before = ElementTree.fromstring(''.join(junit_lines(self.report)))
@@ -218,7 +219,7 @@ class Refusals(InStore):
         self.assertEqual(self.check('--json', 'r.json', self.good).returncode, 0)
         self.assertEqual(self.run_tool('crashfs-check', '--merge', 'r.json').returncode, 0)
         report = CheckReport(Head('t.trace', '', ['true']))
-        report.sightings = Sightings(['ext4'], {'ext4': 9}, {'ext4': 9}, {'ext4': 0}, {}, [])
+        report.sightings = Sightings({'ext4': DiskCounts(9, 9, 0)})
         seen = json.loads(''.join(json_pieces(report)))['disks']
         fields = {**json.loads(self.read('r.json')), 'disks': seen}
         self.write('r.json', json.dumps(fields))

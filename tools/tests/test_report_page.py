@@ -10,7 +10,13 @@ from xml.dom import minidom
 
 from crashfs_tools.checker.findings.groups import Difference
 from crashfs_tools.checker.findings.second_crashes import Recovery
-from crashfs_tools.checker.findings.sightings import OUTSIDE, DiskFailure, Explanation, Sightings
+from crashfs_tools.checker.findings.sightings import (
+    DiskCounts,
+    DiskFailure,
+    Explanation,
+    Reason,
+    Sightings,
+)
 from crashfs_tools.checker.findings.tree_diff import (
     difference_lines,
     find_differences,
@@ -112,8 +118,8 @@ class Pages(unittest.TestCase):
         report.head.trace = '\x1b]0;owned\x07\udcff\u202e'
         group = report.groups_of_windows[0][0]
         group.outcome = Outcome(BAD, 'lost: \x1b[31m\udcff', '\x1b[31m\n')
-        failure = DiskFailure(group.outcome, [0], {}, {}, Explanation(OUTSIDE))
-        report.sightings = Sightings(['ext4'], {'ext4': 9}, {'ext4': 9}, {'ext4': 1}, {}, [failure])
+        failure = DiskFailure(group.outcome, [0], {}, {}, Explanation(Reason.OUTSIDE))
+        report.sightings = Sightings({'ext4': DiskCounts(9, 9, 1)}, {}, [failure])
         shown = {
             'report': '\n'.join(ReportText(report).lines()),
             'page': ''.join(page_pieces(report)),

@@ -14,7 +14,13 @@ from xml.etree import ElementTree
 
 from crashfs_tools.checker.findings.accepted_failures import AcceptedFailures
 from crashfs_tools.checker.findings.second_crashes import Recovery
-from crashfs_tools.checker.findings.sightings import OUTSIDE, DiskFailure, Explanation, Sightings
+from crashfs_tools.checker.findings.sightings import (
+    DiskCounts,
+    DiskFailure,
+    Explanation,
+    Reason,
+    Sightings,
+)
 from crashfs_tools.checker.report.report import CheckReport
 from crashfs_tools.checker.report.tap import tap_lines
 from crashfs_tools.checker.report.text import ReportText
@@ -122,8 +128,8 @@ class Points(unittest.TestCase):
 
     def test_a_failure_that_only_a_disk_left_is_a_test(self) -> None:
         report = log_report('')
-        one = DiskFailure(Outcome(BAD, 'zeros: /log'), [1], {}, {}, Explanation(OUTSIDE))
-        report.sightings = Sightings(['ext4'], {'ext4': 9}, {'ext4': 9}, {'ext4': 1}, {}, [one])
+        one = DiskFailure(Outcome(BAD, 'zeros: /log'), [1], {}, {}, Explanation(Reason.OUTSIDE))
+        report.sightings = Sightings({'ext4': DiskCounts(9, 9, 1)}, {}, [one])
         self.assert_fails_with_the_status(report, 1)
         self.assertEqual(tap(report)[2], 'not ok 1 - zeros: /log (outside the model)')
         self.assertIn('#   no crash state has this tree', tap(report))

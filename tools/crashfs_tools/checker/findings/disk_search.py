@@ -31,11 +31,10 @@ from crashfs_tools.reading.trees import Trees
 
 from .read_trees import TreeAndCount, tree_and_count
 from .sightings import (
-    OUTSIDE,
-    UNKNOWN,
-    UNTRIED,
+    DiskCounts,
     DiskFailure,
     Explanation,
+    Reason,
     Sightings,
     keep_first_crashes,
 )
@@ -129,13 +128,16 @@ class DiskSearch:
         LeftRunning if COMMAND leaves what can't be ended; an OSError, workers.Fault, ProgramFault
         or ReadingFault for other faults."""
         disks = pool.disks(process_count(self.trials), on_step)
-        sightings = Sightings(list(disks))
-        for name, different_disks in disks.items():
-            sightings.crash_counts[name] = sum(len(disk.crashes) for disk in different_disks)
-            sightings.tree_counts[name] = len(different_disks)
+        sightings = Sightings()
         tried_trees = list(self.try_trees(different_trees(disks), sightings))
         refuse_left_processes(self.checker.left_processes)
-        self.add_failures(tried_trees, sightings)
+        failing = [tried for tried in tried_trees if tried.outcome.result != GOOD]
+        sightings.counts = {
+            name: filesystem_counts(name, disks_of_one, failing)
+            for name, disks_of_one in disks.items()
+        }
+        further = [(tried.tree, tried.outcome) for tried in failing if not tried.is_of_state]
+        sightings.further_failures = explain_failures(self.trace_bytes, further)
         return sightings
 
     def try_trees(self, trees: List[DiskTree], sightings: Sightings) -> Iterator[TriedTree]:
@@ -150,19 +152,6 @@ class DiskSearch:
             known_outcome = self.known_outcome(numbers)
             outcome = known_outcome or self.run_in_tree(tree)
             yield TriedTree(tree, outcome, is_of_state=known_outcome is not None)
-
-    def add_failures(self, tried_trees: List[TriedTree], sightings: Sightings) -> None:
-        """Adds to the sightings in how many different trees on each file system COMMAND fails or
-        gives no answer, with at least one number of acknowledged lines, and the failures in trees
-        that no tried state has. ReadingFault as explain_failures(): then only the counts are
-        added."""
-        failing = [tried for tried in tried_trees if tried.outcome.result != GOOD]
-        sightings.failing_counts = {
-            name: len({tried.tree.digest for tried in failing if name in tried.tree.crashes})
-            for name in sightings.names
-        }
-        further = [(tried.tree, tried.outcome) for tried in failing if not tried.is_of_state]
-        sightings.further_failures = explain_failures(self.trace_bytes, further)
 
     def state_numbers_by_tree(self) -> Dict[TreeAndCount, List[int]]:
         """The ascending numbers of all listed states, tried or not, by the tree and the number of
@@ -195,6 +184,17 @@ class DiskSearch:
             remove_tree(directory)
 
 
+def filesystem_counts(name: str, disks: List[Disk], failing: List[TriedTree]) -> DiskCounts:
+    """The counts of the file system of this name, from its different disks. `failing` are the trees
+    of all file systems in which COMMAND failed or gave no answer. One that fails with several
+    numbers of acknowledged lines counts once."""
+    return DiskCounts(
+        crashes=sum(len(disk.crashes) for disk in disks),
+        different=len(disks),
+        failing=len({tried.tree.digest for tried in failing if name in tried.tree.crashes}),
+    )
+
+
 def different_trees(disks: Dict[str, List[Disk]]) -> List[DiskTree]:
     """Each tree of some disks, once for each number of lines that may be acknowledged with it, with
     the first crash of each file system. disks has those of each file system by its name."""
@@ -225,8 +225,8 @@ def explain_failures(
     with the same tree, cause and reason are one, with all numbers of lines, the outcome of the
     first of these, and the first crash of each file system. ReadingFault as search_trees()."""
     wanted = {tree.tree_and_count for tree, _ in failing_trees}
-    result = search_trees(trace_bytes, wanted) if wanted else SearchResult(set(), 0, True)
-    failures: Dict[Tuple[str, str, str], DiskFailure] = {}
+    result = search_trees(trace_bytes, wanted)
+    failures: Dict[Tuple[str, str, Reason], DiskFailure] = {}
     for tree, outcome in failing_trees:
         explanation = result.explanation(tree.tree_and_count)
         key = (tree.digest, outcome.cause, explanation.reason)
@@ -248,15 +248,19 @@ class SearchResult(NamedTuple):
         """Why no tried state has a wanted tree: UNTRIED if an allowed set leaves the tree, OUTSIDE
         if none does, UNKNOWN if the search ended at a limit without finding one."""
         if tree in self.found:
-            return Explanation(UNTRIED)
-        return Explanation(OUTSIDE) if self.is_whole else Explanation(UNKNOWN, self.searched_states)
+            return Explanation(Reason.UNTRIED)
+        if self.is_whole:
+            return Explanation(Reason.OUTSIDE)
+        return Explanation(Reason.UNKNOWN, self.searched_states)
 
 
 def search_trees(trace_bytes: bytes, wanted: Set[TreeAndCount]) -> SearchResult:
-    """Looks for trees, at least one, among the different crash states of the trace's own profile,
-    by the second reading. The search ends when all are found or all states were looked through, and
-    isn't whole if it ends at MOST_STATES or MOST_SECONDS. ReadingFault if the trace has a
-    fault."""
+    """Looks for trees among the different crash states of the trace's own profile, by the second
+    reading. The search ends when all are found or all states were looked through, and isn't whole
+    if it ends at MOST_STATES or MOST_SECONDS. ReadingFault if there are trees to look for, and the
+    trace has a fault."""
+    if not wanted:
+        return SearchResult(set(), 0, is_whole=True)
     reading = parse_trace(trace_bytes)
     trees = Trees(reading)
     found: Set[TreeAndCount] = set()

@@ -3,6 +3,7 @@
 from __future__ import annotations
 
 from dataclasses import dataclass, field
+from enum import Enum
 from typing import Any, Dict, List, NamedTuple, Sequence
 
 from crashfs_tools.checker.running.runner import Outcome
@@ -13,22 +14,30 @@ from .wording import fail_text, joined_by, size_text
 
 # So many paths of a tree are shown.
 SHOWN_PATHS = 12
-OUTSIDE, UNTRIED, UNKNOWN = 'outside the model', 'not tried', 'not found'
+
+
+class Reason(Enum):
+    """Why no tried state has a disk's tree, by the words of a report: no crash state has the tree,
+    one has it that wasn't tried, or the search for one ended at a limit."""
+
+    OUTSIDE = 'outside the model'
+    UNTRIED = 'not tried'
+    UNKNOWN = 'not found'
 
 
 class Explanation(NamedTuple):
-    """Why no tried state has a disk's tree: reason is OUTSIDE, UNTRIED or UNKNOWN. searched_states
-    is how many states were looked through for an UNKNOWN tree, else 0."""
+    """Why no tried state has a disk's tree. searched_states is how many states were looked through
+    for an UNKNOWN tree, else 0."""
 
-    reason: str
+    reason: Reason
     searched_states: int = 0
 
     @property
     def text(self) -> str:
         """The explanation as a report has it, such as `no crash state has this tree`."""
-        if self.reason == OUTSIDE:
+        if self.reason is Reason.OUTSIDE:
             return 'no crash state has this tree'
-        if self.reason == UNTRIED:
+        if self.reason is Reason.UNTRIED:
             return 'a crash state has this tree, and is not among those that were tried'
         count = f'{self.searched_states:,}'
         return f'none of the {count} crash states that were looked through has this tree'
@@ -49,7 +58,7 @@ class DiskFailure:
     def name(self) -> str:
         """The name of the failure's test, for JUnit and TAP: its cause, and why no tried state has
         the tree, in brackets."""
-        return f'{self.outcome.cause} ({self.explanation.reason})'
+        return f'{self.outcome.cause} ({self.explanation.reason.value})'
 
     def lines(self) -> List[str]:
         """Three lines of a report: on which file systems and after which crashes the tree was seen,
@@ -68,25 +77,29 @@ class DiskFailure:
         what COMMAND printed above the cause."""
         return {
             'cause': self.outcome.cause,
-            'where': self.explanation.reason,
+            'where': self.explanation.reason.value,
             'says': self.says,
             'crashes': crash_fields(self.crashes),
             'paths': sorted(self.tree),
         }
 
 
+class DiskCounts(NamedTuple):
+    """How many crashes there were on a file system, how many different trees they left, and in how
+    many of these COMMAND failed or gave no answer. The fields have the names that the JSON has."""
+
+    crashes: int
+    different: int
+    failing: int
+
+
 @dataclass
 class Sightings:
-    """What was seen on the file systems of these names. crash_counts and tree_counts have how many
-    crashes and different trees there were on each; failing_counts has in how many of the trees
-    COMMAND failed or gave no answer. crashes_by_state has for the number of each state seen the
-    first crash, by keep_first_crashes(), of each file system that left it. further_failures are
-    those in trees that no tried state has."""
+    """What was seen on file systems. counts has those of each, by its name. crashes_by_state has
+    for the number of each state seen the first crash, by keep_first_crashes(), of each file system
+    that left it. further_failures are those in trees that no tried state has."""
 
-    names: List[str]
-    crash_counts: Dict[str, int] = field(default_factory=dict)
-    tree_counts: Dict[str, int] = field(default_factory=dict)
-    failing_counts: Dict[str, int] = field(default_factory=dict)
+    counts: Dict[str, DiskCounts] = field(default_factory=dict)
     crashes_by_state: Dict[int, Dict[str, Crash]] = field(default_factory=dict)
     further_failures: List[DiskFailure] = field(default_factory=list)
 
@@ -107,32 +120,23 @@ class Sightings:
     def text_of_states(self, numbers: Sequence[int]) -> str:
         """On which file systems a crash left one of the states with these numbers, and which crash;
         and on which file systems none did."""
-        return sighting_text(self.names, self.crashes_of_states(numbers))
+        return sighting_text(list(self.counts), self.crashes_of_states(numbers))
 
     def fields(self) -> Dict[str, Any]:
         """What the JSON has: the counts of each file system, the first crashes of each state that
-        was seen, by its number, and the further failures. KeyError if counts are missing."""
-        counts = {
-            name: {
-                'crashes': self.crash_counts[name],
-                'different': self.tree_counts[name],
-                'failing': self.failing_counts[name],
-            }
-            for name in self.names
-        }
+        was seen, by its number, and the further failures."""
+        counts = {name: counts._asdict() for name, counts in self.counts.items()}
         seen = sorted(self.crashes_by_state.items())
         states = {str(state): crash_fields(crashes) for state, crashes in seen}
         further = [failure.fields() for failure in self.further_failures]
         return {'filesystems': counts, 'states': states, 'further': further}
 
     def lines(self) -> List[str]:
-        """A line of a report for each file system: how many crashes there were, how many different
-        trees they left, and in how many of these COMMAND fails or gives no answer. KeyError if
-        counts are missing."""
+        """A line of a report for each file system, with its counts."""
         return [
-            f'{name}: {self.crash_counts[name]:,} crashes, {self.tree_counts[name]:,} different '
-            f'trees: {fail_text(self.failing_counts[name])}'
-            for name in self.names
+            f'{name}: {counts.crashes:,} crashes, {counts.different:,} different trees: '
+            f'{fail_text(counts.failing)}'
+            for name, counts in self.counts.items()
         ]
 
 

@@ -141,7 +141,7 @@ def disk_section(report: CheckReport) -> Iterator[str]:
     yield f'<ul>\n{elements("li", report.sightings.lines())}</ul>\n'
     for failure in report.disk_failures():
         yield elements('h3', [failure.outcome.cause])
-        yield elements('p', [failure.explanation.reason])
+        yield elements('p', [failure.explanation.reason.value])
         yield f'<ul>\n{elements("li", failure.lines())}</ul>\n'
     yield '</section>\n'
 

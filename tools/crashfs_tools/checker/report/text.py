@@ -230,7 +230,7 @@ class ReportText:
         lines = [f'  {line}' for line in self.report.sightings.lines()]
         for failure in self.report.disk_failures():
             cause = cut_text(failure.outcome.cause, CAUSE_WIDTH)
-            lines.append(f'  {cause:<{CAUSE_WIDTH}} {failure.explanation.reason}')
+            lines.append(f'  {cause:<{CAUSE_WIDTH}} {failure.explanation.reason.value}')
             lines += [f'    {line}' for line in failure.lines()]
         return lines
 
