@@ -10,7 +10,7 @@ from unittest import mock
 
 from crashfs_tools.checker.findings.advice import Advice, AdviceResult, FailingCounts
 from crashfs_tools.checker.findings.swaps import Swap, lines_to_move
-from crashfs_tools.checker.findings.sync_points import sync_points
+from crashfs_tools.checker.findings.sync_points import never_synced_directory, sync_points
 from crashfs_tools.checker.report.text import ReportText
 from crashfs_tools.checker.states.plan import Offsets
 from crashfs_tools.common.trace_lines import TraceLine, parse_trace_text, with_syncs
@@ -88,6 +88,27 @@ class Points(unittest.TestCase):
     def test_lost_lines_that_no_sync_makes_durable_are_left_out(self):
         lines = lines_of(write('/f', 'x'), line('say', text='stored'), write('/g', 'x'))
         self.assertEqual(sync_points([(2, 4), (3, 4), (5, 6)], lines), {2: '/f'})
+
+    def test_a_pair_whose_lost_line_is_unknown_has_no_sync(self):
+        lines = lines_of(write('/f', 'x'))
+        self.assertEqual(sync_points([(7, 9), (2, 4)], lines), {2: '/f'})
+
+    def test_a_directory_is_never_synced_if_all_syncs_are_of_it(self):
+        creat, later = line('creat', '/d/a'), line('creat', '/d/b')
+        for syncs, more, path in (
+            ({2: '/d', 3: '/d'}, [], '/d'),
+            # The line 9 is that of another window.
+            ({2: '/d', 9: '/d'}, [], '/d'),
+            ({2: '/d', 3: '/e'}, [], ''),
+            ({}, [], ''),
+            ({2: '/d/a'}, [], ''),
+            ({2: '/d'}, [line('fsync', '/d')], ''),
+            ({2: '/d'}, [line('sync')], ''),
+            ({2: '/d'}, [line('fsync', '/')], '/d'),
+            ({2: '/d'}, [line('mkdir', '/d')], '/d'),
+        ):
+            with self.subTest(syncs=syncs, more=more):
+                self.assertEqual(never_synced_directory(syncs, lines_of(creat, later, *more)), path)
 
     def test_two_paths_may_be_synced_after_one_line(self):
         text = with_syncs('1\n2\n3', [(2, '/b'), (2, '/a'), (3, '/')])

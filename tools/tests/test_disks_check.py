@@ -17,6 +17,7 @@ from xml.etree import ElementTree
 from crashfs_tools.api.reports import Report
 from crashfs_tools.checker.checking import Check, check_trace
 from crashfs_tools.checker.findings import disk_search
+from crashfs_tools.checker.findings.read_trees import tree_and_count
 from crashfs_tools.checker.findings.sightings import (
     DiskCounts,
     DiskFailure,
@@ -37,9 +38,11 @@ from crashfs_tools.common.entry import Entry
 from crashfs_tools.common.guard import Guard
 from crashfs_tools.common.signals import TimeUp
 from crashfs_tools.disks import filesystems
-from crashfs_tools.disks.disk import Crash
+from crashfs_tools.disks.disk import Crash, Disk
 from crashfs_tools.disks.flushes import FlushKind
 from crashfs_tools.disks.moments import Moment
+from crashfs_tools.reading import parse_trace
+from crashfs_tools.reading.trees import Trees
 
 from .support import EXAMPLES, FAKE
 from .test_check_command import InStore
@@ -108,6 +111,77 @@ class Explanations(unittest.TestCase):
         )
         whole = disk_search.search_trees(trace, {('none', 0)})
         self.assertEqual(whole.explanation(('none', 0)), Explanation(Reason.OUTSIDE))
+
+    def test_a_tree_of_an_allowed_set_was_not_tried(self) -> None:
+        trace = (CONFIG / 'config.trace').read_bytes()
+        trees = Trees(parse_trace(trace))
+        wanted, unknown = tree_and_count(trees, 0b1), ('none', 0)
+        result = disk_search.search_trees(trace, {wanted, unknown})
+        self.assertEqual(result.explanation(wanted), Explanation(Reason.UNTRIED))
+        self.assertEqual(result.explanation(unknown), Explanation(Reason.OUTSIDE))
+
+    def test_a_search_ends_when_all_trees_are_found(self) -> None:
+        trace = (CONFIG / 'config.trace').read_bytes()
+        start = tree_and_count(Trees(parse_trace(trace)), 0)
+        result = disk_search.search_trees(trace, {start})
+        self.assertEqual((result.searched_states, result.is_whole), (1, True))
+        with mock.patch.object(disk_search, 'MOST_SECONDS', -1):
+            self.assertFalse(disk_search.search_trees(trace, {start}).is_whole)
+
+    def test_failures_with_one_tree_cause_and_reason_are_one(self) -> None:
+        trace = (CONFIG / 'config.trace').read_bytes()
+        lost, torn = Outcome(BAD, 'lost'), Outcome(BAD, 'torn')
+        one, later = (tree_on_disk('a', says, crash) for says, crash in ((1, LATER), (2, FIRST)))
+        other = tree_on_disk('b', 1, FIRST)
+        failures = disk_search.explain_failures(
+            trace, [(one, lost), (later, lost), (one, torn), (other, lost)]
+        )
+        self.assertEqual([failure.says for failure in failures], [[1, 2], [1], [1]])
+        self.assertEqual(
+            [failure.name for failure in failures],
+            [f'{cause} (outside the model)' for cause in ('lost', 'torn', 'lost')],
+        )
+        self.assertEqual(failures[0].crashes, {'ext4': FIRST})
+        self.assertEqual(disk_search.explain_failures(b'no trace', []), [])
+
+
+class Counts(unittest.TestCase):
+    def test_a_tree_counts_once_with_each_number_of_lines_and_fails_once(self) -> None:
+        both = Crash(Moment(6, 0, 1, 9), FlushKind.LOG)
+        disks = {
+            'ext4': [Disk({}, 'a', [FIRST, both]), Disk({}, 'b', [LATER])],
+            'xfs': [Disk({}, 'a', [LATER])],
+        }
+        trees = disk_search.different_trees(disks)
+        self.assertEqual(
+            [(tree.tree_and_count, tree.crashes) for tree in trees],
+            [
+                (('a', 0), {'ext4': FIRST}),
+                (('a', 1), {'ext4': FIRST, 'xfs': LATER}),
+                (('b', 1), {'ext4': LATER}),
+            ],
+        )
+        failing = [
+            disk_search.TriedTree(tree, Outcome(BAD, 'lost'), is_of_state=False)
+            for tree in trees[:2]
+        ]
+        for name, counts in (('ext4', DiskCounts(3, 2, 1)), ('xfs', DiskCounts(1, 1, 1))):
+            found = disk_search.filesystem_counts(name, disks[name], failing)
+            self.assertEqual(found, counts)
+        self.assertEqual(disk_search.filesystem_counts('xfs', disks['xfs'], failing[:1]).failing, 0)
+
+    def test_a_folder_has_room_if_it_is_there_and_more_is_free(self) -> None:
+        free = os.statvfs('/').f_bavail * os.statvfs('/').f_frsize
+        for folder, size, has_room in (('/', free // 2, True), ('/', 2 * free, False)):
+            self.assertIs(disk_search.has_room(folder, size), has_room)
+        self.assertIs(disk_search.has_room('/nowhere/at/all', 0), False)
+        with mock.patch('os.access', return_value=False):
+            self.assertIs(disk_search.has_room('/', 0), False)
+
+
+def tree_on_disk(digest: str, says: int, crash: Crash) -> disk_search.DiskTree:
+    """A tree that one crash left on ext4."""
+    return disk_search.DiskTree(digest, says, {}, {'ext4': crash})
 
 
 class Lines(unittest.TestCase):

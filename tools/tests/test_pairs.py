@@ -3,7 +3,7 @@
 import unittest
 
 from crashfs_tools.checker.findings.groups import Findings
-from crashfs_tools.checker.findings.pairs import Pair, Pairs
+from crashfs_tools.checker.findings.pairs import Loss, Pair, Pairs
 from crashfs_tools.checker.report.report import CheckReport
 from crashfs_tools.checker.report.text import ReportText
 from crashfs_tools.checker.running.results import Head, Results
@@ -164,6 +164,27 @@ class Blame(unittest.TestCase):
         ):
             self.assertEqual(pair.may_explain(kept_set), may_explain, (pair, bin(kept_set)))
 
+    def test_a_loss_explains_sets_that_lack_all_of_it_and_have_the_kept_one(self):
+        loss = Loss(Pair(4, 1), 0b0110)
+        for kept_set, lost_set, may_explain in (
+            (0b11001, 0b0110, True),
+            (0b10001, 0b1110, True),
+            (0b11101, 0b0010, False),
+            (0b01001, 0b0110, False),
+        ):
+            self.assertIs(loss.may_explain(kept_set, lost_set), may_explain, bin(kept_set))
+
+    def test_two_failures_are_the_same_only_if_both_are_bad_or_both_gave_no_answer(self):
+        pairs = Pairs(read_plan(LISTED), {})
+        silent = Outcome(NO_ANSWER, LOST.cause)
+        for one, other, is_same in (
+            (LOST, LOST, True),
+            (silent, silent, True),
+            (LOST, silent, False),
+            (Outcome(GOOD), Outcome(GOOD), False),
+        ):
+            self.assertIs(pairs.is_same_failure(one, other), is_same, (one, other))
+
     def test_states_that_were_not_tried_are_skipped(self):
         plan = read_plan(LISTED)
         for number, untried, failing, pair in (
@@ -179,10 +200,13 @@ class Blame(unittest.TestCase):
         self.assertEqual(self.pair(9, [9]), Pair(4, 1))
         self.assertEqual(self.pair(9, [7, 8, 9]), Pair(2, 1))
         self.assertEqual(self.pair(9, [7, 9]), Pair(4, 1))
+        # A longer hole doesn't matter.
+        self.assertEqual(self.pair(8, [7, 8]), Pair(2, 1))
 
     def test_a_hole_that_lacks_less_and_fails_too_is_to_blame(self):
         three_needs_one = [0b1, 0b11, 0b101, 0b1010, 0b10000]
         self.assertEqual(self.pair(9, [9, 10], three_needs_one), Pair(4, 3))
+        self.assertEqual(self.pair(9, [9], three_needs_one), Pair(4, 1))
         self.assertEqual(self.pair(9, [9, 10]), Pair(4, 1))
 
     def test_states_that_fail_otherwise_count_as_good(self):
@@ -218,6 +242,10 @@ class Blame(unittest.TestCase):
         self.assertEqual(self.pair(11, [11]), Pair(2, 1, is_guess=True))
         self.assertEqual(self.pair(11, [11, 7]), Pair(2, 1))
         self.assertEqual(self.pair(12, [12]), Pair(None, None))
+        for places, pair in (('0,1', Pair(1, None)), ('1', Pair(1, 0, is_guess=True))):
+            pick = f'{{"state":13,"kind":"pick","places":[{places}],"says":0,"same":13}}\n'
+            plan = read_plan(LISTED + pick)
+            self.assertEqual(Pairs(plan, {13: LOST}).pair_of(plan.listed[13]), pair)
 
 
 class Text(unittest.TestCase):

@@ -18,6 +18,8 @@ from crashfs_tools.checker.findings.sightings import (
     Sightings,
 )
 from crashfs_tools.checker.findings.tree_diff import (
+    bytes_text,
+    compared_states,
     difference_lines,
     find_differences,
     nearest_good_state,
@@ -210,6 +212,22 @@ class Differences(unittest.TestCase):
             if one.result == GOOD
         ]
         self.assertEqual(bin(kept[good.number] ^ kept[group.example.number]).count('1'), min(far))
+
+    def test_bytes_are_text_only_if_all_are_printable(self):
+        for data, text in (
+            (b' az~', '" az~"'),
+            (b'a\x1f', '611f'),
+            (b'a\x7f', '617f'),
+            (b'', 'its end'),
+        ):
+            self.assertEqual(bytes_text(data), text)
+
+    def test_without_a_good_state_nothing_is_compared(self):
+        findings = odd_findings()
+        self.assertTrue(compared_states(findings))
+        for number in findings.outcomes_by_state:
+            findings.outcomes_by_state[number] = Outcome(BAD, 'odd')
+        self.assertEqual(compared_states(findings), [])
 
     def test_all_trees_that_are_compared_are_asked_for_at_once(self):
         findings, asked = odd_findings(), []

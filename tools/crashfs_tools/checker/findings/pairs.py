@@ -188,10 +188,10 @@ class Pairs:
 
     def pick_pair(self, state: State, outcome: Outcome) -> Pair:
         """The pair of a pick that has this outcome, by rule 6. If no hole gives the pair, it is a
-        guess, unless the pick has nothing or lacks nothing."""
+        guess, unless the pick lacks nothing."""
         kept_set, lacking = self.plan.kept[state.number], self.plan.set_lost_by(state)
         for place in places_of(lacking):
             hole = self.holes.get((place, kept_set.bit_length()))
             if hole is not None and self.compare(outcome, hole) is Comparison.FAILS_ALIKE:
                 return self.hole_pair(self.plan.state(hole), outcome)
-        return Pair.of_set(kept_set)._replace(is_guess=kept_set > 0 and lacking > 0)
+        return Pair.of_set(kept_set)._replace(is_guess=lacking > 0)

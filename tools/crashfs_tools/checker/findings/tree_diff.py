@@ -102,10 +102,9 @@ def rights_text(entry: Entry) -> str:
 
 def first_bytes_text(failing: Entry, good: Entry) -> str:
     """The end of a sentence about a file whose bytes in the failing state and in the good one must
-    differ: the offset of the first difference, and up to SHOWN_BYTES of each from there. An empty
-    text if one of the entries is no file."""
-    if failing.data is None or good.data is None:
-        return ''
+    differ: the offset of the first difference, and up to SHOWN_BYTES of each from there. Both
+    entries must be files."""
+    assert failing.data is not None and good.data is not None
     place = sparse.first_difference(failing.data, good.data)
     failing_bytes = bytes(failing.data[place : place + SHOWN_BYTES])
     good_bytes = bytes(good.data[place : place + SHOWN_BYTES])
