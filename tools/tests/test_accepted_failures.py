@@ -8,8 +8,13 @@ import unittest
 from typing import Any, Dict, List
 from xml.etree import ElementTree
 
-from crashfs_tools.checker.findings.accepted_failures import AcceptedFailure, AcceptedFailures
+from crashfs_tools.checker.findings.accepted_failures import (
+    AcceptedFailure,
+    AcceptedFailures,
+    operation_text,
+)
 from crashfs_tools.common.command import Refused
+from crashfs_tools.common.trace_lines import TraceLine
 
 from .support import EXAMPLES, InFolder
 
@@ -55,6 +60,33 @@ class Files(InFolder):
         )
         for change in ({'cause': 'lost: table 3'}, {'lost': 'creat /log.17'}, {'kept': ''}):
             self.assertIsNone(found.entry_for(entry._replace(**change)), change)
+
+    def test_an_entry_is_read_as_json_has_it(self) -> None:
+        for fields in (
+            {**LOST, 'until': '2027-01-31'},
+            {'cause': 'a', 'lost': '', 'kept': '', 'why': 'b', 'until': ''},
+        ):
+            failures = self.read_failures(json.dumps([fields]))
+            (entry,) = failures.entries_without([])
+            self.assertEqual(entry.fields, fields)
+            self.assertEqual(failures.entries_without([entry._replace(why='other')]), [])
+
+    def test_the_name_of_an_entry_has_the_operations_that_it_has(self) -> None:
+        for lost, kept, name in (
+            ('unlink /a', 'say', 'lost: a (unlink /a, then say)'),
+            ('', 'say', 'lost: a (say)'),
+            ('', '', 'lost: a'),
+        ):
+            self.assertEqual(AcceptedFailure('lost: a', lost, kept, 'why').name, name)
+
+    def test_an_operation_has_the_paths_of_its_line(self) -> None:
+        for line, text in (
+            (TraceLine(3, 'rename', '/a', '/b'), 'rename /a to /b'),
+            (TraceLine(3, 'write', '/a', '', '3 bytes at 0'), 'write /a'),
+            (TraceLine(3, 'say', details='row 1'), 'say'),
+            (None, ''),
+        ):
+            self.assertEqual(operation_text(line), text)
 
     def test_an_entry_counts_through_its_last_day(self) -> None:
         for until, is_over in ((None, False), ('2026-11-29', False), ('2026-11-28', True)):

@@ -98,8 +98,12 @@ def make_flush(replay: Replay, flush: Flush, log_file: str) -> None:
 def files_to_flush(replay: Replay, flush: Flush) -> List[int]:
     """The inodes of the files whose bytes a flush writes at the crash: all with unsynced bytes; for
     ONE only one of them, and for EARLIER all but the file that was written before."""
-    inodes = [inode for inode, changes in replay.unsynced.items() if flush.change not in changes]
-    return inodes if flush.file_place is None else inodes[flush.file_place : flush.file_place + 1]
+    inodes = list(replay.unsynced)
+    if flush.file_place is not None:
+        return [inodes[flush.file_place]]
+    if flush.change is not None:
+        return [inode for inode in inodes if flush.change not in replay.unsynced[inode]]
+    return inodes
 
 
 def write_log(log_file: str) -> None:

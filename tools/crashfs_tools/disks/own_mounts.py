@@ -30,6 +30,7 @@ def own_mounts_fault() -> Optional[str]:
     with stop_signals_blocked():
         child = os.fork()
         if child == 0:
+            # What the parent gets if unshare_mounts() raises an exception.
             error_number = errno.ENOSYS
             try:
                 error_number = unshare_mounts()

@@ -65,11 +65,12 @@ def find_losses(trials: Trials, planner: Planner, findings: Findings) -> None:
 
 
 class LossSearch:
-    """A search for the smallest loss of a failing state, which must lack something. kept_set has
-    the smallest loss of all sets that are known to fail alike, at first that of the state.
-    wanted_set is the set that the search wants tried next; None at its end."""
+    """A search for the smallest loss of a failing state. kept_set is the set with the smallest loss
+    that is known to fail alike. wanted_set is the set that the search wants tried next; None at its
+    end."""
 
     def __init__(self, plan: Plan, kept_set: int) -> None:
+        """kept_set is at first the set of the state, which must lack something."""
         self.plan = plan
         self.kept_set = kept_set
         self.sets = self.sets_to_try()

@@ -1,4 +1,4 @@
-"""Trees of the second reading as these tools have them."""
+"""Trees of the second reading as entries, and by the digests that trees on disks have."""
 
 from __future__ import annotations
 
