@@ -127,6 +127,24 @@ class Said(unittest.TestCase):
             AdviceResult(11, 65, 43, 32, FailingCounts(99, 54)),
         )
 
+    def test_states_that_are_left_are_said_to_be(self):
+        for result, sync_count, text in (
+            (AdviceResult(5, 52, 0), 3, '5 of these 52 states are left, so they are not enough'),
+            (AdviceResult(1, 1, 0), 1, 'this state is still left, so one sync is not enough'),
+        ):
+            self.assertIn(f' {text}, and no other fails', result.text(sync_count))
+
+    def test_failures_are_counted_before_and_after(self):
+        for counts, text, is_lower in (
+            (FailingCounts(3, 0), 'none fails', True),
+            (FailingCounts(3, 1), '1 state fails, 3 before', True),
+            (FailingCounts(2000, 2000), '2,000 states fail, 2,000 before', False),
+        ):
+            self.assertEqual((counts.text, counts.is_lower), (text, is_lower))
+
+    def test_advice_without_a_remedy_is_its_sentence(self):
+        self.assertEqual(Advice(['line 2 was not durable']).lines(), ['line 2 was not durable'])
+
     def test_advice_that_leaves_as_many_failures_is_none(self):
         advice = Advice(['line 2 was not durable:'], 'fsync /f between them', {2: '/f'})
         advice.result = AdviceResult(0, 2, 84, 84, FailingCounts(84, 84))

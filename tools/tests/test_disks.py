@@ -127,15 +127,15 @@ class StartImages(InFolder):
 
 
 class InReplays(InFolder):
-    def replayed(self, trace: Trace) -> Entries:
+    def replayed(self, trace: Trace, mask: int = 0) -> Entries:
         owners = Owners(trace)
-        umask = os.umask(0)
+        umask = os.umask(mask)
         try:
             lay_out_start(trace, self.path('d'), owners)
             with Replay(self.path('d'), owners) as made:
                 for operation in trace.operations:
                     made.make_operation(operation)
-                self.assertEqual(made.unsynced, {})
+                self.assertEqual((made.unsynced, made.operation_count), ({}, len(trace.operations)))
         finally:
             os.umask(umask)
         return disk.read_tree(self.path('d'), owners)

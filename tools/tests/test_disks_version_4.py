@@ -10,7 +10,9 @@ import unittest
 from crashfs_tools.common.trace_read import read_trace, tree_at_end
 from crashfs_tools.disks import disk, filesystems
 from crashfs_tools.disks.flushes import FlushKind
+from crashfs_tools.disks.owners import Owners
 from crashfs_tools.disks.pool import DiskPool
+from crashfs_tools.disks.replay import Replay
 
 from .support import InFolder
 from .test_disks import ALL_KINDS, InReplays, needs_disks, without_root
@@ -47,6 +49,30 @@ class Replays(InReplays):
         self.assertEqual(set(tree), {'/', '/d', '/d/f', '/d/g', '/l'})
         self.assertEqual(disk.digest_of(tree), disk.digest_of(wanted))
         self.assertLess(os.stat(self.path('d/d/f')).st_blocks, 1_000)
+
+    @unittest.skipIf(os.geteuid() != 0, 'it gives files to others')
+    def test_the_start_tree_has_its_owners_and_the_holes_at_the_ends_of_files(self) -> None:
+        lines = NEW_KINDS.splitlines()[:5]
+        tree = self.replayed(read_trace('\n'.join(lines)))
+        self.assertEqual(without_root(tree), without_root(tree_at_end(lines).entries))
+        self.assertEqual(tree['/d/m'].owner, 'daemon')
+
+    def test_what_is_made_has_its_mode_whatever_the_umask(self) -> None:
+        header, file, folder = (ALL_KINDS.splitlines()[place] for place in (0, 4, 10))
+        lines = [header, file.replace('600', '644'), folder]
+        tree = self.replayed(read_trace('\n'.join(lines)), mask=0o77)
+        self.assertEqual((tree['/a'].mode, tree['/e'].mode), (0o644, 0o711))
+
+    def test_files_are_open_until_the_end_of_a_replay(self) -> None:
+        trace = read_trace('\n'.join(ALL_KINDS.splitlines()[place] for place in (0, 4, 5)))
+        os.mkdir(self.path('d'))
+        with Replay(self.path('d'), Owners(trace)) as made:
+            for operation in trace.operations:
+                made.make_operation(operation)
+            (descriptor,) = made.descriptors.values()
+            self.assertEqual(os.fstat(descriptor).st_size, 3)
+        with self.assertRaises(OSError):
+            os.fstat(descriptor)
 
     @unittest.skipIf(os.geteuid() != 0, 'it gives files to others')
     def test_nothing_is_made_through_a_symbolic_link(self) -> None:
