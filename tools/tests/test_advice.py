@@ -8,7 +8,13 @@ from pathlib import Path
 from types import SimpleNamespace
 from unittest import mock
 
-from crashfs_tools.checker.findings.advice import Advice, AdviceResult, FailingCounts
+from crashfs_tools.checker.findings.advice import (
+    Advice,
+    AdviceResult,
+    FailingCounts,
+    loss_advice,
+    no_loss_advice,
+)
 from crashfs_tools.checker.findings.swaps import Swap, lines_to_move
 from crashfs_tools.checker.findings.sync_points import never_synced_directory, sync_points
 from crashfs_tools.checker.report.text import ReportText
@@ -126,6 +132,62 @@ class Said(unittest.TestCase):
             result + AdviceResult(10, 60, 40, 30, FailingCounts(90, 50)),
             AdviceResult(11, 65, 43, 32, FailingCounts(99, 54)),
         )
+
+    def test_what_makes_a_lost_line_durable_is_advised_before_its_path_changes(self):
+        lines = lines_of(
+            rename('/d/x', '/d/a'),
+            write('/d/a', 'x'),
+            rename('/d/a', '/d/b'),
+            line('say', text='b'),
+            line('creat', '/e/c'),
+            line('fsync', '/d'),
+        )
+        write_text, say_text = 'line 3 (write /d/a, 1 bytes at 0)', 'line 5 (say "b")'
+        for lost, kept, advised in (
+            (
+                3,
+                5,
+                [
+                    f'{write_text} was not durable when line 5 acknowledged "b":',
+                    'fsync /d/a between them, before line 4 (rename /d/a to /d/b)',
+                ],
+            ),
+            (
+                3,
+                4,
+                [
+                    f'{write_text} was not durable when line 4 (rename /d/a to /d/b) was:',
+                    'fsync /d/a between them',
+                ],
+            ),
+            (
+                4,
+                5,
+                [
+                    'line 4 (rename /d/a to /d/b) was not durable when line 5 acknowledged "b":',
+                    'fsync the directory /d between them',
+                ],
+            ),
+            (
+                6,
+                7,
+                [
+                    'line 6 (creat /e/c) was not durable when line 7 (fsync /d) was:',
+                    'the directory /e is never synced: fsync it between them',
+                ],
+            ),
+            (5, 6, [f'{say_text} was not durable when line 6 (creat /e/c) was']),
+        ):
+            advice = loss_advice(lines[kept], lines[lost], [(lost, kept)], lines)
+            self.assertEqual(advice.lines(), advised)
+        both = loss_advice(lines[5], lines[3], [(3, 5), (6, 7)], lines)
+        self.assertTrue(both.remedy.endswith(' (and at 1 more place)'), both.remedy)
+
+    def test_a_failure_that_nothing_repairs_has_no_remedy(self):
+        creat = TraceLine(2, 'creat', '/a')
+        for kept, begin in ((None, 'the beginning'), (creat, 'line 2 (creat /a)')):
+            advised = [f'from {begin} on it fails, though nothing is lost']
+            self.assertEqual(no_loss_advice(kept, None).lines(), advised)
 
     def test_states_that_are_left_are_said_to_be(self):
         for result, sync_count, text in (

@@ -7,7 +7,7 @@ import os
 import unittest
 from pathlib import Path
 from types import SimpleNamespace
-from typing import Any
+from typing import Any, List, Tuple
 from unittest import mock
 
 from crashfs_tools.checker.findings import disk_search
@@ -21,15 +21,16 @@ from crashfs_tools.checker.findings.sightings import (
     sighting_text,
 )
 from crashfs_tools.checker.running.progress import Progress
-from crashfs_tools.checker.running.runner import BAD, Outcome
-from crashfs_tools.common.entry import Entry
-from crashfs_tools.disks.disk import Crash, Disk
+from crashfs_tools.checker.running.runner import BAD, GOOD, LeftRunning, Outcome
+from crashfs_tools.common.entry import Entries, Entry
+from crashfs_tools.disks.disk import Crash, Disk, digest_of
 from crashfs_tools.disks.flushes import FlushKind
 from crashfs_tools.disks.moments import Moment
 from crashfs_tools.reading import parse_trace
 from crashfs_tools.reading.trees import Trees
 
-from .support import EXAMPLES
+from .support import EXAMPLES, InFolder
+from .test_pairs import LISTED, read_plan
 
 CONFIG = EXAMPLES / 'config'
 FIRST = Crash(Moment(6, 0, 1, 9), FlushKind.NOTHING)
@@ -190,6 +191,64 @@ class Counts(unittest.TestCase):
         self.assertIs(disk_search.has_room('/nowhere/at/all', 0), False)
         with mock.patch('os.access', return_value=False):
             self.assertIs(disk_search.has_room('/', 0), False)
+
+
+class Searches(InFolder):
+    """The search in a plan of 13 states, whose trees have a file named after the state `same`."""
+
+    def setUp(self) -> None:
+        super().setUp()
+        self.runs: List[Tuple[int, int, List[str]]] = []
+        self.checker = SimpleNamespace(run=self.run_command, left_processes={})
+        trials: Any = SimpleNamespace(
+            plan=read_plan(LISTED),
+            trees=SimpleNamespace(read=lambda numbers: [(one, named(one)) for one in numbers]),
+            new_checker=lambda: self.checker,
+            guard=SimpleNamespace(directory=self.folder),
+            options=SimpleNamespace(jobs=1),
+        )
+        outcomes = {1: Outcome(GOOD), 5: Outcome(BAD, 'lost: old')}
+        trace = (CONFIG / 'config.trace').read_bytes()
+        self.search = disk_search.DiskSearch(trials, outcomes, trace)
+        disks = [
+            Disk(named(name), digest_of(named(name)), [Crash(moment, FlushKind.NOTHING)])
+            for name, moment in ((1, NO_LINE), (4, ONE_LINE), (3, NO_LINE), ('new', ONE_LINE))
+        ]
+        self.pool: Any = SimpleNamespace(disks=lambda jobs, on_step: {'ext4': disks})
+
+    def run_command(self, number: int, says: int, directory: str) -> Outcome:
+        """Fails only in the new tree."""
+        self.runs.append((number, says, os.listdir(directory)))
+        return Outcome(BAD, 'lost: new') if 'new' in self.runs[-1][2] else Outcome(GOOD)
+
+    def test_only_trees_that_no_tried_state_has_are_tried(self) -> None:
+        found = self.search.run(self.pool, do_nothing)
+        self.assertEqual(self.runs, [(13, 0, ['3']), (13, 1, ['new'])])
+        self.assertNotIn('disk', os.listdir(self.folder))
+        self.assertEqual(found.counts, {'ext4': DiskCounts(4, 4, 2)})
+        self.assertEqual(sorted(found.crashes_by_state), [1, 3, 5, 7, 11])
+        names = [failure.name for failure in found.further_failures]
+        self.assertEqual(names, ['lost: new (outside the model)'])
+
+    def test_a_process_that_is_left_is_refused(self) -> None:
+        self.checker.left_processes[7] = 'sleep'
+        with self.assertRaises(LeftRunning):
+            self.search.run(self.pool, do_nothing)
+
+
+NO_LINE, ONE_LINE = Moment(3, 0, 0, 4), Moment(6, 1, 1, 9)
+
+
+def do_nothing(*_: int) -> None:
+    """Takes the place of what shows the progress."""
+
+
+def named(name: object) -> Entries:
+    """A tree with one empty file."""
+    return {
+        '/': Entry('u', 'g', 0o755, None),
+        f'/{name}': Entry('u', 'g', 0o644, bytearray()),
+    }
 
 
 def tree_on_disk(digest: str, says: int, crash: Crash) -> disk_search.DiskTree:
