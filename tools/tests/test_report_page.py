@@ -232,7 +232,7 @@ class Differences(unittest.TestCase):
     def test_all_trees_that_are_compared_are_asked_for_at_once(self):
         findings, asked = odd_findings(), []
         trees = SimpleNamespace(
-            keep=lambda numbers: asked.append(sorted(numbers)),
+            load=lambda numbers: asked.append(sorted(numbers)),
             of_states=lambda numbers: [{}, {}],
         )
         find_differences(SimpleNamespace(trees=trees), findings)
