@@ -125,6 +125,18 @@ SYNCS = [
         ['fsyncrange /f 0 4096'],
     ),
     (
+        'adjacent mappings of a file move together, whichever was made first',
+        FILE,
+        [
+            OPEN_F,
+            '1 mmap(NULL, 4096, PROT_READ, MAP_SHARED, 3</d/f>, 0x1000) = 0x11000',
+            '1 mmap(0x10000, 4096, PROT_READ, MAP_SHARED|MAP_FIXED, 3</d/f>, 0) = 0x10000',
+            '1 mremap(0x10000, 8192, 8192, MREMAP_MAYMOVE) = 0x90000',
+            '1 msync(0x91000, 4096, MS_SYNC) = 0',
+        ],
+        ['fsyncrange /f 4096 4096'],
+    ),
+    (
         'a mapping that moves, and grows',
         FILE,
         [

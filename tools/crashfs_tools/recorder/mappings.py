@@ -59,12 +59,11 @@ class Memory:
     def move(
         self, old_address: int, old_length: int, address: int, length: int, *, keep_old: bool
     ) -> None:
-        """Moves what is mapped at old_address to another address, with another length, as mremap
-        does. What was mapped at the new addresses is unmapped. The old addresses stay mapped if
-        keep_old is set, or if old_length is 0. If several mappings are at the old addresses, only
-        the first of them in `mappings` is moved."""
-        # With the old length 0, mremap maps the same pages a second time.
-        moved = next(self.parts_in(old_address, old_length or 1), None)
+        """Moves what is mapped from old_address on to another address, with another length, as
+        mremap does. What was mapped at the new addresses is unmapped. The old addresses stay mapped
+        if keep_old is set, or if old_length is 0: then they are mapped a second time."""
+        # The kernel has one mapping there: if it is several here, they are adjacent in the file.
+        moved = next(self.parts_in(old_address, 1), None)
         if not keep_old and old_length:
             self.unmap(old_address, old_length)
         self.unmap(address, length)
