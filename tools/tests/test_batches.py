@@ -44,7 +44,7 @@ class TriedNowhere(Trials):
         super().__init__(Workplace(found, nothing, nothing, nothing, Progress(None)), planned)
         self.order: List[Set[int]] = []
 
-    def new_layout(self, is_for_many: bool = False) -> Any:
+    def new_layout(self, *, is_for_many: bool = False) -> Any:
         return None
 
     def run_workers(self, layout: Any, wanted: Set[int], on_outcome: Any) -> None:

@@ -1,5 +1,6 @@
 """What COMMAND has when it is run: its lines, its descriptors and its signals."""
 
+import errno
 import os
 import subprocess
 import sys
@@ -135,6 +136,14 @@ class Runs(InRuns):
         ):
             with self.assertRaisesRegex(Refused, f'^{gone}: No such file or directory$'):
                 CommandRecovery([program]).start({}, StandardStreams(path, 1))
+
+    def test_a_process_that_there_is_no_room_for_is_no_fault_of_the_command(self):
+        for number in (errno.EAGAIN, errno.ENOMEM):
+            fault = OSError(number, os.strerror(number), '/bin/true')
+            with mock.patch('os.posix_spawn', side_effect=fault):
+                with self.assertRaises(OSError) as raised:
+                    CommandRecovery(['/bin/true']).start({}, StandardStreams('/none', 1))
+            self.assertEqual(raised.exception, fault)
 
     def test_the_own_directory_stays(self):
         before = os.getcwd()

@@ -61,16 +61,16 @@ def parse_head(fields: Dict[str, Any]) -> Head:
         for item in parse_items(fields['lines'])
     ]
     return Head(
-        parse_text(fields['trace']),
-        parse_text(fields['sha256']),
-        [parse_text(word) for word in parse_items(fields['command'])],
-        Shard(part, parts),
-        parse_boolean(fields['unproved']),
-        {line.number: line for line in lines},
-        parse_text(fields['stopped']),
-        [CutOff(*parse_pair(item)) for item in fields['cut_off']],
-        parse_boolean(fields.get('has_rest', False)),
-        parse_integer(fields.get('refused_version', 0)),
+        trace=parse_text(fields['trace']),
+        digest=parse_text(fields['sha256']),
+        command=[parse_text(word) for word in parse_items(fields['command'])],
+        shard=Shard(part, parts),
+        unproved=parse_boolean(fields['unproved']),
+        lines={line.number: line for line in lines},
+        stopped=parse_text(fields['stopped']),
+        cut_off=[CutOff(*parse_pair(item)) for item in fields['cut_off']],
+        has_rest=parse_boolean(fields.get('has_rest', False)),
+        refused_version=parse_integer(fields.get('refused_version', 0)),
     )
 
 
@@ -87,11 +87,11 @@ def parse_window(fields: Dict[str, Any]) -> Results:
     plan = parse_plan(fields)
     return Results(
         plan,
-        parse_values_by_state(plan, fields['outcomes'], parse_outcome),
-        parse_values_by_state(plan, fields['known'], parse_integer),
-        parse_values_by_state(plan, fields.get('reruns', {}), parse_outcome),
-        parse_chosen_numbers(plan, fields.get('chosen')),
-        parse_seconds(fields.get('seconds', 0.0)),
+        outcomes=parse_values_by_state(plan, fields['outcomes'], parse_outcome),
+        numbers_before=parse_values_by_state(plan, fields['known'], parse_integer),
+        reruns=parse_values_by_state(plan, fields.get('reruns', {}), parse_outcome),
+        chosen_numbers=parse_chosen_numbers(plan, fields.get('chosen')),
+        seconds_per_state=parse_seconds(fields.get('seconds', 0.0)),
     )
 
 

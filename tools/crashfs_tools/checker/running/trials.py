@@ -105,7 +105,7 @@ class Trials:
         environment, loaded = self.guard.environment, self.trees.loaded
         return ArchiveLayout(self.program, self.planned, folder, environment, loaded)
 
-    def new_layout(self, is_for_many: bool = False) -> Layout:
+    def new_layout(self, *, is_for_many: bool = False) -> Layout:
         """A new layout, below the guard's directory or, with --serve, that of server_layout(). If
         is_for_many is set, it may be one that changes a large tree from state to state, which is
         slow to begin. Refused as server_layout(); ProgramFault if the program fails, OSError if the

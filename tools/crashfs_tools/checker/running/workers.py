@@ -92,6 +92,7 @@ class StateWorkers:
         layout: Layout,
         jobs: int,
         on_outcome: OnOutcome,
+        *,
         fail_fast: bool = False,
     ) -> None:
         """Opens the pipe of life_pipe and life_writer, which end() closes. OSError if too many

@@ -97,8 +97,8 @@ class Planner:
                 number,
                 'pick',
                 tuple(places_of(members)),
-                size_of(members & plan.say_places),
-                number,
+                says=size_of(members & plan.say_places),
+                same=number,
             )
             for number, members in enumerate(sets)
         ]

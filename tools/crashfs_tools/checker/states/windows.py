@@ -25,9 +25,10 @@ from .steps import Session, Steps
 
 # A trace with the probe has one micro-operation more.
 LARGEST = limits.MICRO_OPERATIONS - 1
-# If the sets of --files are too many, this part of a window is left out.
-FEWER = 8
-# A window ends at this part of it at the earliest, so that all its crash states can be tried.
+# If the sets of --files are too many, one of so many parts of a window is left out, at its end.
+OMITTED_PART = 8
+# A window that ends earlier, so that all its crash states can be tried, keeps more than one of so
+# many parts.
 LEAST_PART = 4
 
 
@@ -116,7 +117,7 @@ class Windows:
             try:
                 planned = self.planner.plan(path, offsets)
             except TooLarge:
-                end = steps.end_within(count - max(1, count // FEWER))
+                end = steps.end_within(count - max(1, count // OMITTED_PART))
                 continue
             shorter_end = self.end_with_few_states(steps, end, planned)
             if shorter_end < end:
