@@ -170,7 +170,7 @@ class Checker:
         if self.left_processes:
             self.end_left_processes(descendants.child_processes() - set(self.left_processes))
         if self.left_processes:
-            return self.unended_outcome('a process that it left')
+            return Outcome(NO_ANSWER, unended_text('a process that it left', self.left_processes))
         earlier_children = descendants.child_processes()
         earlier_mounts = set(self.mounts.points_below(directory))
         output = Output()
@@ -180,8 +180,8 @@ class Checker:
                 process, output, directory, earlier_children, earlier_mounts
             )
             if self.left_processes:
-                is_left = process in self.left_processes
-                return self.unended_outcome('it' if is_left else 'a process that it left')
+                subject = 'it' if process in self.left_processes else 'a process that it left'
+                return Outcome(NO_ANSWER, unended_text(subject, self.left_processes))
             return self.outcome_of(ending, output, directory)
         finally:
             output.close()
@@ -217,12 +217,6 @@ class Checker:
         their programs."""
         self.end_processes_with_token()
         self.left_processes = descendants.end_children(spared, seconds)
-
-    def unended_outcome(self, subject: str) -> Outcome:
-        """The outcome of a state if the processes of left_processes can't be ended: no answer.
-        `subject` begins the cause, as `it` for the command."""
-        names = descendants.processes_text(self.left_processes)
-        return Outcome(NO_ANSWER, f'{subject} could not be ended: {names}')
 
     def unmount(self, directory: str, earlier_mounts: Set[int]) -> List[str]:
         """Unmounts what is mounted at a directory or below it, except the mounts with the numbers
@@ -378,5 +372,10 @@ def refuse_left_processes(left_processes: Dict[int, str]) -> None:
     """Raises LeftRunning if there are left_processes: these could not be ended, and have the names
     of their programs by their numbers."""
     if left_processes:
-        names = descendants.processes_text(left_processes)
-        raise LeftRunning(f'a process that COMMAND left could not be ended: {names}')
+        raise LeftRunning(unended_text('a process that COMMAND left', left_processes))
+
+
+def unended_text(subject: str, left_processes: Dict[int, str]) -> str:
+    """A line that begins with a subject, such as `it` for the command, and says which processes
+    could not be ended, with the names of their programs."""
+    return f'{subject} could not be ended: {descendants.processes_text(left_processes)}'
