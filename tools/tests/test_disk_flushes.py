@@ -3,13 +3,25 @@
 from __future__ import annotations
 
 import unittest
-from typing import Dict, Iterator, List, Sequence, Tuple
+from pathlib import Path
+from types import SimpleNamespace
+from typing import Any, Dict, Iterator, List, Sequence, Tuple
+from unittest import mock
 
 from crashfs_tools.common.entry import Entries
 from crashfs_tools.common.trace_read import read_trace
 from crashfs_tools.disks.disk import Crash
 from crashfs_tools.disks.filesystems import KNOWN
-from crashfs_tools.disks.flushes import MOST_EARLIER, FlushKind, Flush, possible_flushes
+from crashfs_tools.disks import flushes
+from crashfs_tools.disks.flushes import (
+    MOST_EARLIER,
+    Flush,
+    FlushKind,
+    flush_earlier_file,
+    make_flush,
+    possible_flushes,
+    write_log,
+)
 from crashfs_tools.disks.pool import DiskPool
 from crashfs_tools.disks.replay import UnsyncedChange
 
@@ -46,6 +58,67 @@ class PossibleFlushes(unittest.TestCase):
         self.assertEqual(
             list(possible_flushes(FlushKind.EARLIER, [many, [UnsyncedChange(20, '/g')]], 20)), found
         )
+
+
+class MadeFlushes(InFolder):
+    """A replay in which /f was changed by the operation 1, and /g by 2 and 3."""
+
+    def setUp(self) -> None:
+        super().setUp()
+        self.first, self.second, self.third = (
+            UnsyncedChange(count, path) for count, path in ((1, '/f'), (2, '/g'), (3, '/g'))
+        )
+        self.written: List[int] = []
+        self.replay: Any = SimpleNamespace(
+            top='/top',
+            operation_count=3,
+            unsynced={7: [self.first], 8: [self.second, self.third]},
+            inode={'/f': 7, '/g': 8}.__getitem__,
+            write_back=self.written.append,
+        )
+
+    def test_each_kind_writes_what_it_says(self) -> None:
+        for flush, written, has_log, has_directory in (
+            (Flush(FlushKind.NOTHING), [], False, False),
+            (Flush(FlushKind.LOG), [], True, False),
+            (Flush(FlushKind.BYTES), [7, 8], False, False),
+            (Flush(FlushKind.BOTH), [7, 8], True, False),
+            (Flush(FlushKind.ONE, file_place=0), [7], True, False),
+            (Flush(FlushKind.ONE, file_place=1), [8], True, False),
+            (Flush(FlushKind.DIRECTORY), [], False, True),
+            (Flush(FlushKind.EARLIER, change=self.second), [7], False, False),
+        ):
+            self.written.clear()
+            with self.subTest(flush=flush), mock.patch.multiple(
+                flushes, write_log=mock.DEFAULT, sync_directory=mock.DEFAULT
+            ) as calls:
+                make_flush(self.replay, flush, '/log')
+                self.assertEqual(self.written, written)
+                self.assertEqual(calls['write_log'].call_args_list, [mock.call('/log')] * has_log)
+                synced = calls['sync_directory'].call_args_list
+                self.assertEqual(synced, [mock.call('/top')] * has_directory)
+
+    def test_a_file_is_written_earlier_only_after_its_change(self) -> None:
+        for flush, written in (
+            (Flush(FlushKind.EARLIER, change=self.second), []),
+            (Flush(FlushKind.EARLIER, change=self.third), [8]),
+            (Flush(FlushKind.BYTES), []),
+        ):
+            self.written.clear()
+            flush_earlier_file(self.replay, flush)
+            self.assertEqual(self.written, written, flush)
+
+    def test_the_file_that_writes_the_log_is_made_and_changed(self) -> None:
+        path = self.path('log')
+        write_log(path)
+        before = Path(path).read_bytes()
+        write_log(path)
+        self.assertEqual(len(before), 8)
+        self.assertNotEqual(Path(path).read_bytes(), before)
+
+    def test_kinds_that_write_least_come_first(self) -> None:
+        self.assertEqual([kind.rank for kind in FlushKind], list(range(len(FlushKind))))
+        self.assertEqual(FlushKind.NOTHING.rank, 0)
 
 
 @needs_disks

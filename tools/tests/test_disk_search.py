@@ -23,7 +23,7 @@ from crashfs_tools.checker.findings.sightings import (
 from crashfs_tools.checker.running.progress import Progress
 from crashfs_tools.checker.running.runner import BAD, GOOD, LeftRunning, Outcome
 from crashfs_tools.common.entry import Entries, Entry
-from crashfs_tools.disks.disk import Crash, Disk, digest_of
+from crashfs_tools.disks.disk import Crash, Disk, different_disks, digest_of
 from crashfs_tools.disks.flushes import FlushKind
 from crashfs_tools.disks.moments import Moment
 from crashfs_tools.reading import parse_trace
@@ -157,6 +157,16 @@ class Explanations(unittest.TestCase):
         )
         self.assertEqual(failures[0].crashes, {'ext4': FIRST})
         self.assertEqual(disk_search.explain_failures(b'no trace', []), [])
+
+
+class DifferentDisks(unittest.TestCase):
+    def test_equal_trees_are_one_disk_with_all_crashes_and_their_counts_of_lines(self) -> None:
+        late = Crash(Moment(9, 4, 5, 12), FlushKind.LOG)
+        crashed_trees = [(named('a'), FIRST), (named('b'), LATER), (named('a'), late)]
+        first, second = different_disks(crashed_trees)
+        self.assertEqual((first.tree, first.crashes), (named('a'), [FIRST, late]))
+        self.assertEqual((second.digest, second.crashes), (digest_of(named('b')), [LATER]))
+        self.assertEqual(first.line_counts, [0, 1, 4, 5])
 
 
 class Counts(unittest.TestCase):

@@ -7,8 +7,12 @@ from unittest import mock
 
 from crashfs_tools.checker.findings.losses import RUNS, LossSearch, LossSearches, loss_of
 from crashfs_tools.checker.findings.pairs import Loss, Pair
-from crashfs_tools.checker.findings.set_outcomes import find_equal_sets, outcome_of_set
-from crashfs_tools.checker.running.runner import BAD, GOOD, Outcome
+from crashfs_tools.checker.findings.set_outcomes import (
+    count_failing_states,
+    find_equal_sets,
+    outcome_of_set,
+)
+from crashfs_tools.checker.running.runner import BAD, GOOD, NO_ANSWER, Outcome
 from crashfs_tools.checker.states.plan import AllStates, State
 from crashfs_tools.checker.states.read_plan import read_plan
 from crashfs_tools.reading import make_plan, parse_trace
@@ -109,6 +113,21 @@ class Equal(InStore):
         self.assertIsNone(
             find_equal_sets(planned, SimpleNamespace(plan=families, outcomes_by_state={}))
         )
+
+
+class Outcomes(unittest.TestCase):
+    def test_failing_states_are_counted_once_for_each_tree_and_number_of_lines(self):
+        text = THIRD + line('creat', '/a') + line('unlink', '/a') + line('creat', '/b')
+        plan = read_plan(plan_text(text, picks=False))
+        silent, good = Outcome(NO_ANSWER, 'no end'), Outcome(GOOD)
+        # The first three sets are prefixes, of which two leave the start tree.
+        for outcomes, count in (
+            ({0b0: silent, 0b11: silent}, 1),
+            ({0b0: silent, 0b1: Outcome(BAD, 'lost')}, 2),
+            ({0b0: good, 0b1: good}, 0),
+            ({}, 0),
+        ):
+            self.assertEqual(count_failing_states(plan, outcomes), count, outcomes)
 
 
 LSM = (
