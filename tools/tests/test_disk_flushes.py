@@ -42,6 +42,7 @@ class PossibleFlushes(unittest.TestCase):
         three = [[UnsyncedChange(done, f'/{done}')] for done in (1, 2, 3)]
         ones = [Flush(FlushKind.ONE, place) for place in range(3)]
         self.assertEqual(list(possible_flushes(FlushKind.ONE, three, 3)), ones)
+        self.assertEqual(list(possible_flushes(FlushKind.ONE, three[:2], 2)), ones[:2])
         self.assertEqual(list(possible_flushes(FlushKind.ONE, three[:1], 1)), [])
         self.assertEqual(list(possible_flushes(FlushKind.BYTES, [], 0)), [])
         self.assertEqual(list(possible_flushes(FlushKind.LOG, [], 0)), [Flush(FlushKind.LOG)])

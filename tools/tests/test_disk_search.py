@@ -70,6 +70,12 @@ class Sentences(unittest.TestCase):
         self.assertEqual(found.crashes_of_states([3]), {'ext4': LOG})
         self.assertEqual(found.crashes_of_states([9]), {})
 
+    def test_of_two_crashes_of_one_rank_the_first_stays(self) -> None:
+        same = FIRST._replace(moment=FIRST.moment._replace(least_says=1))
+        found = Sightings(crashes_by_state={3: {'ext4': FIRST}, 4: {'ext4': same}})
+        self.assertEqual(found.crashes_of_states([3, 4]), {'ext4': FIRST})
+        self.assertEqual(found.crashes_of_states([4, 3]), {'ext4': same})
+
     def test_the_json_has_the_counts_the_first_crashes_and_the_further_failures(self) -> None:
         tree = {path: Entry('u', 'g', 0o755, None) for path in ('/b', '/')}
         failure = DiskFailure(
@@ -112,6 +118,9 @@ class Sentences(unittest.TestCase):
         self.assertEqual(where, 'seen on ext4 (after line 9, nothing more written), says 1 or 2')
         self.assertTrue(paths.startswith('/00 (3 bytes), /01 (3 bytes)'), paths)
         self.assertTrue(paths.endswith('/11 (3 bytes) and 2 more'), paths)
+        for count, end in ((13, '/11 (3 bytes) and 1 more'), (12, ', /11 (3 bytes)')):
+            one.tree = dict(list(tree.items())[:count])
+            self.assertTrue(one.lines()[2].endswith(end), one.lines())
 
 
 class Explanations(unittest.TestCase):

@@ -12,6 +12,7 @@ from crashfs_tools.checker.findings.nested import (
     RecoveryRecorder,
     SecondCrashTrials,
     header_options,
+    remove_says,
 )
 from crashfs_tools.checker.findings.second_crashes import Recovery
 from crashfs_tools.checker.report.report import CheckReport
@@ -266,6 +267,30 @@ class Tried(InFolder):
         recovery = SecondCrashTrials(1).try_recovery(trials, plan.state(5), Outcome(GOOD))
         self.assertEqual([len(group.states) for group in recovery.groups], [1, 1])
         self.assertEqual((recovery.tried_count, recovery.failing_count), (9, 1))
+        # The first state failed so itself.
+        recovery = SecondCrashTrials(1).try_recovery(trials, plan.state(5), LOST)
+        self.assertEqual((recovery.tried_count, recovery.failing_count), (9, 0))
+        self.assertEqual(recovery.groups, [])
+
+    def test_a_recovery_that_is_not_recorded_has_a_fault_and_counts(self):
+        plan, nested = read_plan(LISTED), SecondCrashTrials(2)
+        results = Results(plan, {number: Outcome(GOOD) for number in (0, 1, 2, 3)})
+        findings = SimpleNamespace(
+            plan=plan, results=results, outcomes_by_state=results.outcomes_by_state({})
+        )
+        fault = Refused('its recording took too long')
+        with mock.patch.object(RecoveryRecorder, 'record_recovery', side_effect=fault):
+            recoveries = list(nested.try_recoveries(SimpleNamespace(guard=None), findings))
+        self.assertEqual([recovery.fault for recovery in recoveries], [str(fault)] * 2)
+        self.assertEqual(nested.recoveries_left, 0)
+
+    def test_acknowledged_lines_are_removed_from_a_trace_and_its_file(self):
+        lines = [line('creat', '/a'), line('say', text='a'), line('fsync', '/a')]
+        trace = self.write('r.trace', THIRD + ''.join(lines))
+        text = remove_says(trace)
+        self.assertEqual(text, self.read('r.trace'))
+        self.assertNotIn('say', text)
+        self.assertIn(lines[2], text)
 
 
 class Chosen(unittest.TestCase):

@@ -66,8 +66,8 @@ def find_losses(trials: Trials, planner: Planner, findings: Findings) -> None:
 
 class LossSearch:
     """A search for the smallest loss of a failing state. kept_set is the set with the smallest loss
-    that is known to fail alike. wanted_set is the set that the search wants tried next; None at its
-    end."""
+    that is known to fail alike. wanted_set is the set that the search wants tried next, None at its
+    end; `sets` yields the ones after that."""
 
     def __init__(self, plan: Plan, kept_set: int) -> None:
         """kept_set is at first the set of the state, which must lack something."""
