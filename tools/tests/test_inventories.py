@@ -8,12 +8,14 @@ import unittest
 from contextlib import redirect_stderr, redirect_stdout
 from unittest import mock
 
-from inventory import sources
+from inventory import pages, sources
 from inventory.command import main
 from inventory.made_files import outdated_files, outdated_lines, write_outdated_files
 from inventory.markdown import table_cell, table_lines
 from inventory.pages import BEGIN, END, calls_text, page_with_part
 from inventory.sources import TOP, Word, contracts_in, tests_in, words_in
+
+from .support import InFolder
 
 TESTS = '''\
 //! Lists.
@@ -23,6 +25,12 @@ TESTS = '''\
 #[test]
 #[tactic(auto)]
 fn a_longer_list_is_longer() {
+}
+
+/// A list may be empty.
+#[tactic(auto)]
+#[test]
+fn an_empty_list_is_a_list() {
 }
 
 #[test]
@@ -74,6 +82,99 @@ pub fn first(x: &List<u8>) -> u8 {
 '''
 
 
+# A repository: what its files have, by their paths.
+REPOSITORY = {
+    'crates.txt': 'low:\nhigh: low\n',
+    'crates/low/specs/Words.antt': '-- a | b\nabbrev pub IsSorted : Prop\n\npub data Order\n',
+    'crates/low/src/lib.rt': CALLS.replace('Rattle.cs_low.', 'crate.'),
+    'crates/low/must-fail/wrong.edit': '',
+    'crates/low/must-fail/other.edit': '',
+    'crates/high/src/lib.rt': CALLS.replace('cs_low', 'low'),
+    'crates/high/src/tests.rt': TESTS,
+    'crates/high/src/tests/more.rt': 'use x;\n' + TESTS,
+    'tools/tests/test_it.py': '"""It\nworks."""\n',
+    'tools/tests/support.py': '"""No test."""\n',
+    'tools/tests/data/cases/rules/first.case': 'A rule\nholds.\n\n== args\nlist\n',
+    'tools/tests/data/cases/rules/README.md': 'No case.\n',
+    'tools/tests/data/cases/README.md': 'No area.\n',
+}
+TESTS_LIST = '''\
+### high
+
+`tests/more.rt`:
+
+| Example | Test |
+|---|---|
+| A list of two is longer than one of one. | `a_longer_list_is_longer` |
+| A list may be empty. | `an_empty_list_is_a_list` |
+|  | `nothing_is_said` |
+
+`tests.rt`: Lists.
+
+| Example | Test |
+|---|---|
+| A list of two is longer than one of one. | `a_longer_list_is_longer` |
+| A list may be empty. | `an_empty_list_is_a_list` |
+|  | `nothing_is_said` |
+
+### tools/tests/data/cases/rules
+
+| Example | File |
+|---|---|
+| A rule holds. | `first` |
+
+### tools/tests
+
+| What it shows | File |
+|---|---|
+| It works. | `test_it.py` |
+
+## Wrong bodies that the prover refuses
+
+| Crate | Must-fail edits |
+|---|---|
+| low | `other`, `wrong` |
+'''
+WORDS_LIST = '''\
+## low
+
+| Word | What it says | File | Cited by |
+|---|---|---|---|
+| `IsSorted` | a \\| b | Words | `List::sort`, `high List::sort` |
+| `Order` |  | Words |  |
+'''
+
+
+class Lists(InFolder):
+    """The lists of a repository that has little of everything."""
+
+    def setUp(self) -> None:
+        super().setUp()
+        for name, text in REPOSITORY.items():
+            os.makedirs(os.path.dirname(self.path(name)), exist_ok=True)
+            self.write(name, text)
+        top = pathlib.Path(self.folder)
+        folders = {'TOP': top, 'CRATES': top / 'crates', 'TOOLS_TESTS': top / 'tools' / 'tests'}
+        folders['CASES'] = folders['TOOLS_TESTS'] / 'data' / 'cases'
+        for patch in (
+            mock.patch.multiple(sources, **folders),
+            mock.patch.object(pages, 'TOP', top),
+        ):
+            patch.start()
+            self.addCleanup(patch.stop)
+
+    def printed(self, name: str) -> str:
+        with redirect_stdout(io.StringIO()) as out:
+            self.assertEqual(main(['--print', name]), 0)
+        return out.getvalue()
+
+    def test_each_test_and_edit_is_listed_with_what_it_shows(self) -> None:
+        self.assertEqual(self.printed('tests'), TESTS_LIST)
+
+    def test_each_word_is_listed_with_the_calls_that_cite_it(self) -> None:
+        self.assertEqual(self.printed('words'), WORDS_LIST)
+
+
 class Inventories(unittest.TestCase):
     def written(self, text):
         folder = tempfile.TemporaryDirectory()
@@ -88,6 +189,7 @@ class Inventories(unittest.TestCase):
             found,
             [
                 ('a_longer_list_is_longer', 'A list of two is longer than one of one.'),
+                ('an_empty_list_is_a_list', 'A list may be empty.'),
                 ('nothing_is_said', ''),
             ],
         )
@@ -104,13 +206,17 @@ class Inventories(unittest.TestCase):
     def test_contracts_are_those_of_public_calls_without_their_bodies(self):
         found = dict(contracts_in(CALLS))
         self.assertEqual(list(found), ['List::sort', 'sorted', 'first'])
-        self.assertIn('IsSorted self.new', found['List::sort'])
-        self.assertNotIn('IsKnown', found['List::sort'])
+        self.assertEqual(found['List::sort'], '        ensures { IsSorted self.new }')
         self.assertEqual(found['first'], '')
 
     def test_a_bar_and_many_calls_stay_in_their_cell(self):
         self.assertEqual(table_cell('a || b'), 'a \\|\\| b')
-        self.assertEqual(calls_text(list('abcdef')), '`a`, `b`, `c`, `d` and 2 more')
+        for calls, text in (
+            ('', ''),
+            ('abcd', '`a`, `b`, `c`, `d`'),
+            ('abcde', '`a`, `b`, `c`, `d` and 1 more'),
+        ):
+            self.assertEqual(calls_text(list(calls)), text)
 
     def test_a_table_has_a_head_and_then_a_line_for_each_row(self):
         lines = list(table_lines(('Key', 'Value'), [('a', 'b'), ('c', '')]))
