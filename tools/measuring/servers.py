@@ -8,17 +8,24 @@ import socket
 import subprocess
 from contextlib import contextmanager
 from pathlib import Path
-from typing import Iterator, List, Tuple
+from typing import Iterator, List, NamedTuple
 
 from .programs import Programs, start_program
 
 
-def processor_halves() -> Tuple[List[int], List[int]]:
-    """The processors for servers, then those for clients: half each of those that this process may
-    use. Of an odd number the clients have one more; a single processor is for both."""
+class ProcessorHalves(NamedTuple):
+    """The numbers of the processors for servers, and of those for clients."""
+
+    servers: List[int]
+    clients: List[int]
+
+
+def processor_halves() -> ProcessorHalves:
+    """Half each of the processors that this process may use. Of an odd number the clients have one
+    more; a single processor is for both."""
     processors = sorted(os.sched_getaffinity(0))
     half = len(processors) // 2
-    return processors[:half] or processors, processors[half:]
+    return ProcessorHalves(processors[:half] or processors, processors[half:])
 
 
 # The second number of the hosts of free_address(), which it takes in turn.
@@ -43,7 +50,7 @@ def running_server(words: List[str]) -> Iterator[subprocess.Popen[str]]:
     `listening ..`, however long that takes. OSError if the server can't be started, or ends or
     prints another line first. What it prints later isn't read: once the pipe is full, the server
     waits."""
-    server = start_program(words, processor_halves()[0])
+    server = start_program(words, processor_halves().servers)
     assert server.stdout is not None
     try:
         line = server.stdout.readline()

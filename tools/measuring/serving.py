@@ -39,8 +39,7 @@ def add_serving_rows(programs: Programs, tally: Tally) -> None:
         try:
             addresses = [free_address() for _ in range(len(KEEPING) + 1)]
             with running_servers(programs, addresses, client_count):
-                tally.run_program(
-                    [bench, *addresses, str(client_count), runs], processor_halves()[1]
-                )
+                words = [bench, *addresses, str(client_count), runs]
+                tally.run_program(words, processor_halves().clients)
         except OSError as error:
             tally.add_failure(str(error))

@@ -6,31 +6,18 @@ import contextlib
 import io
 import os
 import shutil
-import socket
 import subprocess
 import sys
-import threading
-import unittest
-from contextlib import ExitStack
 from pathlib import Path
 from typing import List
 from unittest import mock
 
-from measuring.client import Client, ServerRefused, message_bytes, text_field
-from measuring.memory import (
-    add_memory_rows,
-    fill_with_connections,
-    fill_with_runs,
-    fill_with_writes,
-    measure_growth,
-)
+from building.usage import Usage
 from measuring.programs import Programs, Tally
-from measuring.servers import free_address, processor_halves, running_server
-from measuring.serving import add_serving_rows
 from measuring.sets import ROWS as SET_ROWS
-from measuring.sets import add_set_rows
+from measuring.sets import add_row_figures, add_set_rows
+from measuring.states import AllTimes, Checks, Times, add_rate_lines, add_time_rows
 
-from .fake_server import KEPT
 from .support import FAKE as READING
 from .support import TOOLS, InFolder, needed
 
@@ -45,16 +32,6 @@ kept: 41.200 MB, past (at most 40)
 no row, within reason
 """
 FAKE = str(TOOLS / 'tests' / 'fake_server.py')
-
-
-def answer(listener: socket.socket, replies: bytes) -> None:
-    """Accepts a connection, sends it these bytes and nothing else, and reads it to its end."""
-    connection, _ = listener.accept()
-    with connection:
-        connection.sendall(replies)
-        connection.shutdown(socket.SHUT_WR)
-        while connection.recv(1 << 16):
-            pass
 
 
 class WithPrograms(InFolder):
@@ -161,6 +138,11 @@ class Measure(WithPrograms):
         self.assertEqual(told.returncode, 1)
         self.assertEqual(told.stdout.count('memory failed: '), 3)
 
+    def test_only_programs_are_benchmarks(self) -> None:
+        names = Programs(TOOLS.parent).benchmark_names()
+        self.assertIn('serve_bench', names)
+        self.assertNotIn('cs_bench', names)
+
 
 class States(WithPrograms):
     @needed(shutil.which('cc') is not None, 'cc is not there')
@@ -172,6 +154,36 @@ class States(WithPrograms):
         )
         self.assertRegex(told, r'\nthe C program by one: \d+ a second\n')
         self.assertRegex(told, r'\na state beside the C program: [\d.]+ times, (within|past) ')
+
+    def test_a_state_takes_what_more_states_add_to_a_check(self) -> None:
+        times = AllTimes(
+            check=Times(600, 300, processor_seconds=0.5, wall_seconds=0.3),
+            short_check=Times(100, 50, processor_seconds=0.25, wall_seconds=0.2),
+            one_job_check=Times(600, 300, processor_seconds=0.6, wall_seconds=0.5),
+            c_program=Times(300, 300, processor_seconds=0.15, wall_seconds=0.25),
+        )
+        with contextlib.redirect_stdout(io.StringIO()) as out:
+            add_rate_lines(times, Tally())
+            add_time_rows(times, Tally())
+        jobs = len(os.sched_getaffinity(0))
+        tried = '600 states, 300 of them tried, by'
+        self.assertEqual(
+            out.getvalue().splitlines(),
+            [
+                f'{tried} {jobs} jobs: 0.300 s, 2000 states and 1000 trials a second',
+                f'{tried} 1 jobs: 0.500 s, 1200 states and 600 trials a second',
+                'the C program by one: 1200 a second',
+                'processor time of a state: 1.000 ms; of the C program 0.500 ms',
+                'a state beside the C program: 2.000 times, past (at most 1.5)',
+                'a state by all jobs: 0.500 ms, within (at most 1)',
+            ],
+        )
+
+    def test_the_least_times_are_those_of_all_checks(self) -> None:
+        all_times = [Times(9, 5, 3.0, 4.0), Times(9, 5, 2.0, 5.0), Times(9, 5, 4.0, 1.0)]
+        with mock.patch.object(Checks, 'measure_check', side_effect=[None, *all_times]):
+            checks = Checks(Programs(Path(self.folder)), self.folder)
+            self.assertEqual(checks.least_times('--families'), Times(9, 5, 2.0, 1.0))
 
     def test_a_check_that_fails_is_reported(self) -> None:
         self.program('crashfs', ['#!/bin/sh', 'exit 4'])
@@ -203,6 +215,16 @@ class Sets(WithPrograms):
             self.assertRegex(printed, rf'(?m)^{row.label}: [\d.]+ {row.unit}, {verdict}$')
         self.assertRegex(printed, rf'(?m)^a class .*: memory: -?[\d.]+ bytes, {verdict}$')
 
+    def test_figures_are_for_one_of_the_things_that_a_command_finds(self) -> None:
+        row = SET_ROWS[1]._replace(label='a set', divisor=4, most=2.0, most_bytes=300)
+        with contextlib.redirect_stdout(io.StringIO()) as out:
+            add_row_figures(row, Usage(processor_seconds=12e-6, memory_bytes=1_000), Tally())
+        self.assertEqual(
+            out.getvalue(),
+            'a set: 3.000 us, past (at most 2)\n'
+            'a set: memory: 250.000 bytes, within (at most 300)\n',
+        )
+
     def test_other_lines_than_those_of_all_sets_are_a_failure(self) -> None:
         self.program('crashfs', ['#!/bin/sh', f'exec {READING} "$@"'])
         printed = self.printed([15, 16, 1, 16_384])
@@ -214,164 +236,3 @@ class Sets(WithPrograms):
         printed = self.measure('sets').stdout
         self.assertEqual(printed.count('sets failed: '), len(SET_ROWS))
         self.assertIn('0 rows within, 0 past; failed: sets', printed)
-
-
-class Memory(InFolder):
-    """A server is brought to each state, and its memory is read then."""
-
-    def grown(self, fill) -> int:
-        address = free_address()
-        with running_server([FAKE, address, '9', 'forgets']) as server:
-            more, count = measure_growth(server, lambda opened: fill(address, opened))
-        # Not all: a system that lacks memory takes other pages of a server away meanwhile.
-        self.assertGreater(more, KEPT // 2)
-        return count
-
-    def test_a_server_of_another_version_is_refused(self) -> None:
-        address = free_address()
-        with running_server([FAKE, address, '9', 'unknown']):
-            with self.assertRaisesRegex(ServerRefused, "the server speaks b'unknown', not 9P2000"):
-                fill_with_connections(address, 1, ExitStack())
-
-    def test_a_reply_without_its_end_is_a_fault(self) -> None:
-        version = message_bytes(101, b'\0\0\1\0' + text_field('9P2000'))
-        attached = message_bytes(105, 13 * b'q')
-        with socket.create_server(('127.0.0.1', 0)) as listener:
-            for end in range(len(attached)):
-                words = (listener, version + attached[:end])
-                threading.Thread(target=answer, args=words, daemon=True).start()
-                client = Client(f'127.0.0.1:{listener.getsockname()[1]}')
-                self.addCleanup(client.close)
-                with self.assertRaisesRegex(OSError, 'the server has ended the connection'):
-                    client.attach(0, '0/x')
-
-    def test_connections_come_to_a_run_and_wait(self) -> None:
-        self.assertEqual(
-            self.grown(lambda address, opened: fill_with_connections(address, 3, opened)), 3
-        )
-
-    def test_runs_are_spread_over_connections(self) -> None:
-        self.assertEqual(
-            self.grown(lambda address, opened: fill_with_runs(address, 7, 3, opened)), 7
-        )
-
-    def test_writes_go_on_until_one_is_refused(self) -> None:
-        self.assertEqual(
-            self.grown(lambda address, opened: fill_with_writes(address, 1_000, opened)), 10
-        )
-
-    def test_a_journal_that_takes_no_write_is_a_fault(self) -> None:
-        address = free_address()
-        with running_server([FAKE, address, '9', 'full']), ExitStack() as opened:
-            with self.assertRaisesRegex(ServerRefused, 'no write was granted'):
-                fill_with_writes(address, 8, opened)
-
-    def test_each_case_has_a_row_of_all_and_a_row_of_each(self) -> None:
-        with mock.patch('measuring.memory.measure_new_server', return_value=(8_192_000, 1_000)):
-            with contextlib.redirect_stdout(io.StringIO()) as out:
-                add_memory_rows(Programs(Path(self.folder)), Tally(benchmark='memory'))
-        self.assertEqual(
-            out.getvalue().splitlines(),
-            [
-                '1000 idle connections: 8.192 MB',
-                'each: 8192.000 bytes, within (at most 200000)',
-                '1000 runs with a user each, by 64 connections: 8.192 MB',
-                'each, with its part of the connections: 8192.000 bytes',
-                'a full journal, with 1000 writes of 4 kB: 8.192 MB',
-                'each write, beside its bytes: 4096.000 bytes',
-            ],
-        )
-
-    def test_connections_are_closed_after_a_fault(self) -> None:
-        clients: List[Client] = []
-
-        def connect(address: str) -> Client:
-            if len(clients) == 3:
-                raise OSError('no more')
-            clients.append(Client(address))
-            return clients[-1]
-
-        address = free_address()
-        with running_server([FAKE, address, '9', 'forgets']) as server:
-            with mock.patch('measuring.memory.Client', connect):
-                with self.assertRaisesRegex(OSError, 'no more'):
-                    measure_growth(server, lambda opened: fill_with_runs(address, 7, 4, opened))
-        self.assertEqual([client.stream.fileno() for client in clients], [-1] * 3)
-
-    def test_writes_end_where_none_is_refused(self) -> None:
-        self.assertEqual(
-            self.grown(lambda address, opened: fill_with_writes(address, 8, opened)), 8
-        )
-
-
-class EndedServers(WithPrograms):
-    def test_a_server_that_ends_when_it_is_full_is_a_failure_and_has_no_row(self) -> None:
-        def end_and_measure(server, fill):
-            def fill_and_end(opened):
-                count = fill(opened)
-                server.kill()
-                os.waitid(os.P_PID, server.pid, os.WEXITED | os.WNOWAIT)
-                return count
-
-            return measure_growth(server, fill_and_end)
-
-        self.program('crashfs', ['#!/bin/sh', f'exec {FAKE} "$@"'])
-        few = {'CONNECTIONS': 3, 'RUNS': 6, 'WRITES': 8}
-        tally = Tally(benchmark='memory')
-        with mock.patch.multiple('measuring.memory', measure_growth=end_and_measure, **few):
-            with contextlib.redirect_stdout(io.StringIO()) as out:
-                add_memory_rows(Programs(Path(self.folder)), tally)
-        self.assertRegex(
-            out.getvalue(), r'^(memory failed: the server, process \d+, has ended\n){3}$'
-        )
-        self.assertEqual((tally.failed, tally.within_count), (['memory'] * 3, 0))
-
-
-class NoPort(unittest.TestCase):
-    def test_a_server_that_finds_no_port_is_a_failure_of_its_setting(self) -> None:
-        tally = Tally(benchmark='serve_bench')
-        no_port = mock.Mock(side_effect=OSError('no port is free'))
-        with mock.patch('measuring.serving.free_address', no_port):
-            with contextlib.redirect_stdout(io.StringIO()) as out:
-                add_serving_rows(Programs(TOOLS.parent), tally)
-        self.assertEqual(out.getvalue().count('serve_bench failed: no port is free\n'), 3)
-        self.assertEqual(tally.failed, ['serve_bench'] * 3)
-
-
-class Servers(unittest.TestCase):
-    def test_a_server_that_closes_its_output_before_it_ends_has_a_status(self) -> None:
-        words = ['sh', '-c', 'exec >&-; sleep 0.2; exit 7']
-        with self.assertRaisesRegex(OSError, "sh does not listen: '', status 7"):
-            with running_server(words):
-                pass
-
-
-class Addresses(unittest.TestCase):
-    def test_no_two_have_the_same_host(self) -> None:
-        hosts = [free_address().partition(':')[0] for _ in range(9)]
-        ran = subprocess.run(
-            [
-                sys.executable,
-                '-c',
-                'from measuring.servers import free_address\n'
-                'for _ in range(9): print(free_address().partition(":")[0])',
-            ],
-            cwd=TOOLS,
-            check=True,
-            capture_output=True,
-            text=True,
-        )
-        self.assertEqual(len({*hosts, *ran.stdout.split()}), 18, ran.stdout)
-
-
-class Processors(InFolder):
-    def test_servers_and_clients_have_half_of_the_processors_each(self) -> None:
-        servers, clients = processor_halves()
-        self.assertTrue(servers and clients)
-        if len(os.sched_getaffinity(0)) > 1:
-            self.assertFalse(set(servers) & set(clients))
-
-    def test_only_programs_are_benchmarks(self) -> None:
-        names = Programs(TOOLS.parent).benchmark_names()
-        self.assertIn('serve_bench', names)
-        self.assertNotIn('cs_bench', names)

@@ -3,6 +3,7 @@
 from __future__ import annotations
 
 import contextlib
+import hashlib
 import io
 import json
 import os
@@ -12,6 +13,7 @@ import unittest
 from dataclasses import asdict
 from pathlib import Path
 from typing import List
+from unittest import mock
 
 from crashfs_tools.checker.findings.read_trees import entries_of
 from crashfs_tools.checker.states.steps import trace_text
@@ -63,6 +65,13 @@ class Sessions(unittest.TestCase):
             self.assertGreater(len(parse_trace(trace_text(trace).encode()).operations), 1)
             found.update(map(type, trace.operations))
         self.assertEqual(set(KINDS.values()) - found, {Chmod, Chown})
+
+    def test_a_seed_gives_the_session_that_it_always_gave(self) -> None:
+        text = ''.join(trace_text(draw_session(seed, 7)) for seed in range(1, 31))
+        self.assertEqual(
+            hashlib.sha256(text.encode()).hexdigest(),
+            '091ca81d648c470b9ecc62ebecd749dd76d43d865ae7a0626a42756dcb266598',
+        )
 
 
 class Judgements(unittest.TestCase):
@@ -140,6 +149,22 @@ class Kept(InFolder):
         self.assertEqual(self.seeds_done(), [2, 3])
         self.assertEqual(self.seeds_done('--operations', '99'), [1])
         self.assertEqual(self.seeds_done('--operations', '3'), [])
+
+    def test_a_disk_outside_its_profile_is_printed_and_its_session_kept(self) -> None:
+        words = ['--on', 'ext4', '--sessions', '1', self.path('found')]
+        os.mkdir(self.path('found'))
+        counts = {'blocks': 20, 'ordered': 19, 'journal': 18}
+        result = SessionResult('ext4', 1, 1000, 20, 99, counts, ['line 5, more: /a'])
+        Measurement(parse_words(words)).save_result(result)
+        trace = Path(self.path('found', f'ext4-1-{OPERATIONS}.trace')).read_text('utf-8')
+        self.assertEqual(trace, trace_text(draw_session(1, OPERATIONS)))
+        with mock.patch('measuring.disks.missing_requirement', return_value=None):
+            with contextlib.redirect_stdout(io.StringIO()) as printed:
+                self.assertEqual(main(['disks', *words]), 1)
+        self.assertIn('| ext4 | 1 | 1,000 | 20 | 20 | 19 | 18 |\n', printed.getvalue())
+        self.assertTrue(
+            printed.getvalue().endswith('\n\noutside journal: ext4, session 1, line 5, more: /a\n')
+        )
 
 
 class OnImages(InFolder):
