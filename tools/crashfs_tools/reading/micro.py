@@ -82,6 +82,7 @@ class CreateEntry(MicroOperation):
 
     @property
     def text(self) -> str:
+        """The kind, the path, and the kind of what is made."""
         return f'{self.kind} {self.paths[0]} {self.node.kind}'
 
     @property
@@ -111,10 +112,12 @@ class DeleteEntry(MicroOperation):
 
     @property
     def text(self) -> str:
+        """The kind and the path."""
         return f'{self.kind} {self.paths[0]}'
 
     @property
     def fields(self) -> Dict[str, Any]:
+        """The path, and the kind of what is removed."""
         return {'path': self.paths[0], 'node': self.node.kind}
 
 
@@ -144,10 +147,12 @@ class MoveEntry(MicroOperation):
 
     @property
     def text(self) -> str:
+        """The kind, the old path and the new one."""
         return f'{self.kind} {self.paths[0]} {self.paths[1]}'
 
     @property
     def fields(self) -> Dict[str, Any]:
+        """The old path and the new one and, if has_node_field, the kind of what is moved."""
         fields = {'path': self.paths[0], 'to': self.paths[1]}
         return {**fields, 'node': self.node.kind} if self.has_node_field else fields
 
@@ -175,10 +180,12 @@ class LinkEntry(MicroOperation):
 
     @property
     def text(self) -> str:
+        """The kind, the path, and the file's number."""
         return f'{self.kind} {self.paths[0]} {self.node.number}'
 
     @property
     def fields(self) -> Dict[str, Any]:
+        """The path, and the file's number."""
         return {'path': self.paths[0], 'file': self.node.number}
 
 
@@ -194,10 +201,12 @@ class ChangeSize(MicroOperation):
 
     @property
     def text(self) -> str:
+        """The kind, the file's number and the size."""
         return f'{self.kind} {self.file_number} {self.length}'
 
     @property
     def fields(self) -> Dict[str, Any]:
+        """The file and the size."""
         return {**self.file_fields, 'length': self.length}
 
 
@@ -220,10 +229,12 @@ class WriteBlock(MicroOperation):
 
     @property
     def text(self) -> str:
+        """The kind, the numbers of file and block, the offset in the block, and how many bytes."""
         return f'{self.kind} {self.file_number} {self.block} {self.offset} {len(self.data)}'
 
     @property
     def fields(self) -> Dict[str, Any]:
+        """The file, the block's number, the offset in the block, and how many bytes."""
         write = {'block': self.block, 'at': self.offset, 'count': len(self.data)}
         return {**self.file_fields, **write}
 
@@ -260,10 +271,12 @@ class SetFileRights(SetRights):
 
     @property
     def text(self) -> str:
+        """The kind, `file` and the file's number, and what is set."""
         return f'{self.kind} file {self.file_number} {self.rights_text}'
 
     @property
     def fields(self) -> Dict[str, Any]:
+        """The file, and what is set."""
         return {**self.file_fields, **self.rights_fields}
 
 
@@ -279,10 +292,12 @@ class SetDirectoryRights(SetRights):
 
     @property
     def text(self) -> str:
+        """The kind, `dir` and the directory's path, and what is set."""
         return f'{self.kind} dir {self.path} {self.rights_text}'
 
     @property
     def fields(self) -> Dict[str, Any]:
+        """The directory's path, and what is set."""
         return {'path': self.path, **self.rights_fields}
 
 
@@ -293,4 +308,5 @@ class Acknowledgement(MicroOperation):
 
     @property
     def fields(self) -> Dict[str, Any]:
+        """None: no field is only of this kind."""
         return {}
