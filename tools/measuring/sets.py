@@ -8,7 +8,7 @@ from __future__ import annotations
 import subprocess
 import tempfile
 from pathlib import Path
-from typing import List, NamedTuple, Tuple
+from typing import List, NamedTuple, Sequence, Tuple
 
 from building.usage import Usage, wait_for_usage
 
@@ -19,10 +19,10 @@ SAY = '{"op":"say","text":"stored"}'
 CREAT = '{"op":"creat","path":"/f%d","owner":"cat","group":"staff","mode":"644"}'
 
 
-class Row(NamedTuple):
-    """A command of `picks` that is measured, and the bounds of its figures. The first figure is its
-    processor time divided by `divisor`. The second is its memory divided by `divisor`: also the
-    memory that the program needs for any trace is counted."""
+class PicksCommand(NamedTuple):
+    """A command of `picks` that is measured, and the bounds of its rows. The first row has its
+    processor time divided by `divisor`, the second its memory divided by `divisor`: also the memory
+    that the program needs for any trace is counted."""
 
     label: str
     # How many acknowledged lines its trace has, and then how many new files.
@@ -36,12 +36,12 @@ class Row(NamedTuple):
     unit: str
     unit_seconds: float
     most: float
-    # How many bytes the second figure may be; 0 if there is none.
+    # How many bytes the second row may have; 0 if there is no second row.
     most_bytes: int = 0
 
 
-ROWS = (
-    Row(
+COMMANDS = (
+    PicksCommand(
         label='a million sets of 100 micro-operations, printed',
         say_count=80,
         file_count=20,
@@ -52,7 +52,7 @@ ROWS = (
         unit_seconds=1.0,
         most=1.05,
     ),
-    Row(
+    PicksCommand(
         label='a class of sets that are compared',
         say_count=0,
         file_count=16,
@@ -65,7 +65,7 @@ ROWS = (
         most=5.0,
         most_bytes=300,
     ),
-    Row(
+    PicksCommand(
         label='the sets of 128 independent places, counted',
         say_count=0,
         file_count=128,
@@ -76,7 +76,7 @@ ROWS = (
         unit_seconds=1e-3,
         most=10.0,
     ),
-    Row(
+    PicksCommand(
         label='a set of 63 independent places, drawn',
         say_count=0,
         file_count=63,
@@ -111,35 +111,37 @@ def measure_usage(words: List[str], line_count: int, output_path: Path) -> Usage
     return usage
 
 
-def measure_row(program: str, row: Row, folder: Path) -> Usage:
-    """Runs the command of a row on its trace, by this program, and returns what it used. The trace
-    and what is printed are files in the folder, in which they replace those of an earlier row.
+def measure_command(program: str, command: PicksCommand, folder: Path) -> Usage:
+    """Runs a command on its trace, by this program, and returns what it used. The trace and what is
+    printed are files in the folder, in which they replace those of an earlier command.
     OSError as measure_usage(), or if the trace can't be written."""
     trace_path = folder / 'sets.trace'
-    trace_path.write_text(independent_files_trace(row.say_count, row.file_count))
-    words = [program, 'picks', '--trace', str(trace_path), *row.options]
-    return measure_usage(words, row.line_count, folder / 'printed')
+    trace_path.write_text(independent_files_trace(command.say_count, command.file_count))
+    words = [program, 'picks', '--trace', str(trace_path), *command.options]
+    return measure_usage(words, command.line_count, folder / 'printed')
 
 
-def add_set_rows(programs: Programs, tally: Tally, rows: Tuple[Row, ...] = ROWS) -> None:
-    """Measures and prints the rows of sets. If a command of `picks` fails, that is a failure of the
-    tally, and its row isn't printed. The program `crashfs` must be built."""
+def add_set_rows(
+    programs: Programs, tally: Tally, commands: Sequence[PicksCommand] = COMMANDS
+) -> None:
+    """Measures the commands, and prints their rows. If a command fails, that is a failure of the
+    tally, and no row of the command is printed. The program `crashfs` must be built."""
     program = programs.path('crashfs')
     with tempfile.TemporaryDirectory() as folder:
-        for row in rows:
+        for command in commands:
             try:
-                usage = measure_row(program, row, Path(folder))
+                usage = measure_command(program, command, Path(folder))
             except OSError as error:
                 tally.add_failure(str(error))
             else:
-                add_row_figures(row, usage, tally)
+                add_command_rows(command, usage, tally)
 
 
-def add_row_figures(row: Row, usage: Usage, tally: Tally) -> None:
-    """Prints the first figure of a row, and the second if it has one, from what its command
-    used."""
-    time_figure = usage.processor_seconds / row.unit_seconds / row.divisor
-    tally.add_figure(row.label, time_figure, row.unit, row.most)
-    if row.most_bytes:
-        memory_figure = usage.memory_bytes / row.divisor
-        tally.add_figure(f'{row.label}: memory', memory_figure, 'bytes', row.most_bytes)
+def add_command_rows(command: PicksCommand, usage: Usage, tally: Tally) -> None:
+    """Prints the row of a command's time, and that of its memory if this has a bound, from what the
+    command used."""
+    time_figure = usage.processor_seconds / command.unit_seconds / command.divisor
+    tally.add_figure(command.label, time_figure, command.unit, command.most)
+    if command.most_bytes:
+        memory_figure = usage.memory_bytes / command.divisor
+        tally.add_figure(f'{command.label}: memory', memory_figure, 'bytes', command.most_bytes)

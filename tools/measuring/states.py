@@ -23,6 +23,7 @@ CHECK = Path(__file__).parents[1] / 'crashfs-check'
 TRACE = Path(__file__).parents[2] / 'examples' / 'sqlite' / 'full.trace'
 # The mean sizes of the two files that the example's states have.
 SIZES = ['8192', '6560']
+# The counts are read from what each check prints: to write more would be measured too.
 TRIED = re.compile(r' ([\d,]+) states, ([\d,]+) different: none fails')
 # A state may take so many times as long as in the C program, and so many milliseconds of a check by
 # all processors; of so many checks the least figures count.

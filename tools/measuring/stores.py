@@ -18,6 +18,7 @@ from pathlib import Path
 from typing import List
 
 from crashfs_tools.common.signals import Stopped, raise_on_stop_signals
+from crashfs_tools.common.trace_fields import parse_lines
 from inventory.results import Row
 
 from .store_rows import ResultsFile, disk_counts, row_of_check
@@ -123,17 +124,16 @@ class SessionCheck:
 
     def disk_options(self) -> List[str]:
         """The option of crashfs-check for disks, with its value; empty if --disks isn't given, or
-        if the session is too long to be made again for each crash. OSError as has_few_operations().
+        if the session is too long to be made again for each crash. Errors as has_few_operations().
         """
         may_try_disks = self.options.disks and self.has_few_operations()
         return ['--disks', self.options.disks] if may_try_disks else []
 
     def has_few_operations(self) -> bool:
-        """Whether the trace, which must be as crashfs-record writes it, has MOST_OPERATIONS
-        operations at most; acknowledged lines count as operations. OSError if make_trace() hasn't
-        made the trace."""
-        trace_bytes = self.trace_path.read_bytes()
-        return trace_bytes.count(b'\n{"op":') <= MOST_OPERATIONS
+        """Whether the trace has at most MOST_OPERATIONS operations, acknowledged lines among them.
+        OSError if make_trace() hasn't made the trace, TraceError if a line isn't JSON."""
+        with self.trace_path.open(encoding='utf-8') as lines:
+            return sum('op' in fields for _, fields in parse_lines(lines)) <= MOST_OPERATIONS
 
 
 def run_command(words: List[str]) -> str:

@@ -14,8 +14,7 @@ from unittest import mock
 
 from building.usage import Usage
 from measuring.programs import Programs, Tally
-from measuring.sets import ROWS as SET_ROWS
-from measuring.sets import add_row_figures, add_set_rows
+from measuring.sets import COMMANDS, add_command_rows, add_set_rows
 from measuring.states import AllTimes, Checks, Times, add_rate_lines, add_time_rows
 
 from .support import FAKE as READING
@@ -194,16 +193,16 @@ class Sets(WithPrograms):
     """Rows of sets, of as few files as the second reading finds at once."""
 
     def printed(self, lines: List[int]) -> str:
-        """What is printed of the rows with 4 files each and without acknowledged lines, of which
-        each must have so many lines."""
-        rows = [
-            row._replace(say_count=0, file_count=4, line_count=count)
-            for row, count in zip(SET_ROWS, lines)
+        """What is printed of the commands with 4 files each and without acknowledged lines; each
+        must print so many lines."""
+        commands = [
+            command._replace(say_count=0, file_count=4, line_count=count)
+            for command, count in zip(COMMANDS, lines)
         ]
         with contextlib.redirect_stdout(io.StringIO()) as out:
             tally = Tally()
             tally.begin_benchmark('sets')
-            add_set_rows(Programs(Path(self.folder)), tally, tuple(rows))
+            add_set_rows(Programs(Path(self.folder)), tally, commands)
         return out.getvalue()
 
     def test_each_way_to_find_sets_is_measured(self) -> None:
@@ -211,14 +210,14 @@ class Sets(WithPrograms):
         printed = self.printed([16, 16, 1, 16_384])
         self.assertNotIn('failed', printed)
         verdict = r'(within|past) \(at most [\d.]+\)'
-        for row in SET_ROWS:
-            self.assertRegex(printed, rf'(?m)^{row.label}: [\d.]+ {row.unit}, {verdict}$')
+        for one in COMMANDS:
+            self.assertRegex(printed, rf'(?m)^{one.label}: [\d.]+ {one.unit}, {verdict}$')
         self.assertRegex(printed, rf'(?m)^a class .*: memory: -?[\d.]+ bytes, {verdict}$')
 
     def test_figures_are_for_one_of_the_things_that_a_command_finds(self) -> None:
-        row = SET_ROWS[1]._replace(label='a set', divisor=4, most=2.0, most_bytes=300)
+        command = COMMANDS[1]._replace(label='a set', divisor=4, most=2.0, most_bytes=300)
         with contextlib.redirect_stdout(io.StringIO()) as out:
-            add_row_figures(row, Usage(processor_seconds=12e-6, memory_bytes=1_000), Tally())
+            add_command_rows(command, Usage(processor_seconds=12e-6, memory_bytes=1_000), Tally())
         self.assertEqual(
             out.getvalue(),
             'a set: 3.000 us, past (at most 2)\n'
@@ -234,5 +233,5 @@ class Sets(WithPrograms):
     def test_a_start_that_fails_has_no_row(self) -> None:
         self.program('crashfs', ['#!/bin/sh', 'exit 4'])
         printed = self.measure('sets').stdout
-        self.assertEqual(printed.count('sets failed: '), len(SET_ROWS))
+        self.assertEqual(printed.count('sets failed: '), len(COMMANDS))
         self.assertIn('0 rows within, 0 past; failed: sets', printed)

@@ -302,6 +302,18 @@ class Faults(unittest.TestCase):
         with self.assertRaisesRegex(ReadingFault, '^plan too large$'):
             make_plan(parse_trace(wide.encode()), has_holes=True)
 
+    def test_a_plan_has_16_384_states_at_most(self):
+        reading = parse_trace(HEADERS[3].encode())
+        plan = make_plan(reading, picks=[()] * 16_383)
+        self.assertEqual(len(plan.states), 16_384)
+        for add in (
+            lambda: plan.add_pick([]),
+            lambda: make_plan(reading, picks=[()] * 16_384),
+        ):
+            with self.assertRaisesRegex(ReadingFault, '^plan too large$'):
+                add()
+        self.assertEqual(len(plan.states), 16_384)
+
     def test_picks_are_arrays_of_places(self):
         self.assertEqual(read_picks(b'[0,1]\r\n\n[]\n'), [[0, 1], []])
         for line in (b' ', b'[1.0]', b'[-1]', b'{}', b'[4294967296]', b'\xff'):

@@ -12,6 +12,8 @@ from .picking import Options, is_number_text, picks_lines, refuse_picks_options
 from .plan import StatePlan, add_families, make_plan, read_picks
 from .trace import parse_trace
 
+# The options of each command that take no value, and those that take one. They are read without
+# argparse: importing it takes longer than to list a small trace.
 FLAGS = {
     'list': ('--holes', '--lines', '--same', '--json', '--lost', '--files'),
     'picks': ('--lost', '--files', '--every', '--different', '--count', '--help'),

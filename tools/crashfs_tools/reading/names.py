@@ -45,7 +45,7 @@ class NameTree:
     file is. In versions 1 to 3 a directory's number is that of its path: one that is made again has
     the old number. Methods that change the tree rely on refuse_unfit_line(): call it first."""
 
-    def __init__(self, version: int = 1) -> None:
+    def __init__(self, version: int) -> None:
         """A tree that has only the root, for a trace of this version."""
         self.version = version
         # What each directory holds, by its number.

@@ -58,7 +58,7 @@ class Reading:
         self.rights: Dict[Inode, Rights] = {}
         self.operations: List[MicroOperation] = []
         self.syncs: List[SyncPoint] = []
-        self.names = NameTree()
+        self.names = NameTree(self.version)
 
     def read_line(self, line: Line) -> None:
         """Adds what a line does. LineFault if it doesn't fit the lines before it; then nothing was
