@@ -11,12 +11,13 @@ from pathlib import Path
 from typing import List, NamedTuple, Sequence, Tuple
 
 from building.usage import Usage, wait_for_usage
+from crashfs_tools.checker.states.steps import trace_text
+from crashfs_tools.common.trace import Creat, Header, Say, Trace
 
 from .programs import Programs, Tally
 
-HEADER = '{"trace":3,"profile":"blocks","block":4096,"owner":"cat","group":"staff","mode":"775"}'
-SAY = '{"op":"say","text":"stored"}'
-CREAT = '{"op":"creat","path":"/f%d","owner":"cat","group":"staff","mode":"644"}'
+# The owner and the group of all files, and of the root.
+OWNER = 'cat', 'staff'
 
 
 class PicksCommand(NamedTuple):
@@ -90,11 +91,11 @@ COMMANDS = (
 )
 
 
-def independent_files_trace(say_count: int, file_count: int) -> str:
-    """The text of a trace with say_count acknowledged lines, and then file_count new files in the
-    root."""
-    new_files = (CREAT % number for number in range(file_count))
-    return '\n'.join([HEADER, *[SAY] * say_count, *new_files]) + '\n'
+def independent_files_trace(say_count: int, file_count: int) -> Trace:
+    """A trace with say_count acknowledged lines, and then file_count new files in the root."""
+    says = [Say('stored')] * say_count
+    new_files = [Creat(f'/f{number}', *OWNER, 0o644) for number in range(file_count)]
+    return Trace(Header(*OWNER, 0o775), operations=[*says, *new_files])
 
 
 def measure_usage(words: List[str], line_count: int, output_path: Path) -> Usage:
@@ -116,7 +117,8 @@ def measure_command(program: str, command: PicksCommand, folder: Path) -> Usage:
     printed are files in the folder, in which they replace those of an earlier command.
     OSError as measure_usage(), or if the trace can't be written."""
     trace_path = folder / 'sets.trace'
-    trace_path.write_text(independent_files_trace(command.say_count, command.file_count))
+    trace = independent_files_trace(command.say_count, command.file_count)
+    trace_path.write_text(trace_text(trace), 'utf-8')
     words = [program, 'picks', '--trace', str(trace_path), *command.options]
     return measure_usage(words, command.line_count, folder / 'printed')
 

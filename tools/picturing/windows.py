@@ -10,8 +10,10 @@ from typing import List, NamedTuple
 from crashfs_tools.checker.checked_trace import CheckedTrace
 from crashfs_tools.checker.options import Options
 from crashfs_tools.checker.states.plan import PlannedTrace
+from crashfs_tools.checker.states.steps import trace_text
 from crashfs_tools.common.guard import Guard
 from crashfs_tools.common.program import Crashfs
+from crashfs_tools.common.trace import Creat, Fsync, Header, Operation, Say, Trace, Write
 
 from .svg import LINE, MARGIN, Picture, rectangle_element, text_element
 
@@ -28,8 +30,8 @@ EXPLANATION = (
     'first operation that no sync has made durable, but at least half a window after this '
     'one began.'
 )
-HEADER = '{"trace":3,"profile":"blocks","block":4096,"owner":"u","group":"u","mode":"755"}\n'
-RIGHTS = '"owner":"u","group":"u","mode":"644"'
+# The owner and the group of all files and directories.
+OWNER = 'u', 'u'
 
 
 class Window(NamedTuple):
@@ -41,18 +43,17 @@ class Window(NamedTuple):
     create_places: List[int]
 
 
-def session_text() -> str:
-    """The trace of a session that appends ROWS rows to a log, each with a sync and an acknowledged
-    line. Before the row TABLE_ROW the session makes a file, whose directory it never syncs
-    afterwards."""
-    lines = [HEADER, f'{{"op":"creat","path":"/log",{RIGHTS}}}\n', '{"op":"fsync","path":"/"}\n']
+def long_session() -> Trace:
+    """A session that appends ROWS rows to a log, each with a sync and an acknowledged line. Before
+    the row TABLE_ROW the session makes a file, whose directory it never syncs afterwards."""
+    operations: List[Operation] = [Creat('/log', *OWNER, 0o644), Fsync('/')]
     for row in range(ROWS):
         if row == TABLE_ROW:
-            lines.append(f'{{"op":"creat","path":"/table",{RIGHTS}}}\n')
-        lines.append(f'{{"op":"write","path":"/log","offset":{8 * row},"text":"row {row:3}\\n"}}\n')
-        lines.append('{"op":"fsync","path":"/log"}\n')
-        lines.append(f'{{"op":"say","text":"row {row}"}}\n')
-    return ''.join(lines)
+            operations.append(Creat('/table', *OWNER, 0o644))
+        row_bytes = f'row {row:3}\n'.encode()
+        operations += [Write('/log', len(row_bytes) * row, row_bytes), Fsync('/log')]
+        operations.append(Say(f'row {row}'))
+    return Trace(Header(*OWNER, 0o755), operations=operations)
 
 
 def window_of(planned: PlannedTrace) -> Window:
@@ -67,12 +68,12 @@ def window_of(planned: PlannedTrace) -> Window:
 
 
 def plan_windows() -> List[Window]:
-    """The windows into which a check divides the session of session_text(), in their order. No
+    """The windows into which a check divides the session of long_session(), in their order. No
     state is tried, and no file is left. This process stays a reaper, as after each Guard."""
     with tempfile.TemporaryDirectory() as folder, Guard('crashfs-picture') as guard:
-        trace = Path(folder, 'session.trace')
-        trace.write_text(session_text(), 'utf-8')
-        options = Options(str(trace), quick=True, window=LARGEST)
+        trace_path = Path(folder, 'session.trace')
+        trace_path.write_text(trace_text(long_session()), 'utf-8')
+        options = Options(str(trace_path), quick=True, window=LARGEST)
         checked = CheckedTrace.read(
             options, Crashfs.find_or_second_reading(None, is_unproved=True), guard
         )
