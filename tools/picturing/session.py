@@ -18,6 +18,10 @@ from crashfs_tools.reading.trace import Reading, parse_trace
 from .checked import CheckedExample
 
 
+# The rule by which both micro-operations that have a mark stay in order, by the mark's kind.
+RULES_OF_MARKS = {'entry': 'P2', 'directory': 'P2', 'rights': 'P7', 'block': 'P1', 'size': 'P1'}
+
+
 @dataclass(frozen=True)
 class Row:
     """A row of a picture of a session: a micro-operation with its place, or a line that syncs,
@@ -104,8 +108,9 @@ class ModelledSession:
         shared_marks = earlier_marks & set(changed_marks(operations[later]))
         if not shared_marks:
             return 'P3'
-        thing = str(next(iter(shared_marks))[0])
-        return {'entry': 'P2', 'directory': 'P2', 'rights': 'P7'}.get(thing, 'P1')
+        # Several shared marks are an entry and the directory that it gets or loses: one rule.
+        (rule,) = {RULES_OF_MARKS[str(mark[0])] for mark in shared_marks}
+        return rule
 
 
 def model_session(checked: CheckedExample, trace_path: Path) -> ModelledSession:

@@ -6,8 +6,9 @@ import re
 import textwrap
 from typing import Dict, List
 
-from crashfs_tools.checker.report.drawing import Drawing, drawing_of
+from crashfs_tools.checker.report.drawing import SIGNS, Drawing, drawing_of
 from crashfs_tools.checker.report.text import ReportText
+from crashfs_tools.checker.running.runner import BAD, GOOD
 
 from .checked import CheckedExample
 from .svg import LINE, MARGIN, WIDTH, Picture, path_element, rectangle_element, text_element
@@ -17,7 +18,10 @@ CELL = 5
 # So many characters of a text fit a line.
 COLUMNS = 60
 # The sign of a state's result in a drawing: its colour, and what the key says of it.
-RESULTS = {'g': ('good', 'recovery found all rows'), 'b': ('bad', 'an acknowledged row is lost')}
+RESULTS = {
+    SIGNS[GOOD]: ('good', 'recovery found all rows'),
+    SIGNS[BAD]: ('bad', 'an acknowledged row is lost'),
+}
 # The lines of the key: the colour that each explains, or none, and what it says.
 KEY = (
     *RESULTS.values(),
@@ -145,7 +149,7 @@ def alternative_text(checked: CheckedExample, drawing: Drawing) -> str:
         'column is a moment of the crash, each row the step that it lost; below are states with '
         'other losses. Red: an acknowledged row is lost. After each of the '
         f'{len(acknowledged_columns(checked))} acknowledged rows begins a row of red squares, the '
-        f'states without {lost_line.text}. {signs.count("b"):,} squares are red, of '
+        f'states without {lost_line.text}. {signs.count(SIGNS[BAD]):,} squares are red, of '
         f'{failing_count} different states.'
     )
 
