@@ -76,14 +76,14 @@ def read_options(words: List[str]) -> Options:
 
 
 def parse_options(command: str, words: List[str]) -> Options:
-    """The options in the words after a command: each with its value, or True if it takes none. If
-    the last option lacks its value, that is an empty text; if an option is given twice, the last
-    value counts. UsageFault for an option that the command doesn't have."""
+    """The options in the words after a command. If the last option lacks its value, that is an
+    empty text; if an option is given twice, the last value counts. UsageFault for an option that
+    the command doesn't have."""
     options: Options = {}
     words_left = iter(words)
     for word in words_left:
         if word in FLAGS[command]:
-            options[word] = True
+            options[word] = ''
         elif word in VALUED[command]:
             options[word] = next(words_left, '')
         else:
@@ -99,11 +99,11 @@ def print_output(command: str, options: Options) -> None:
     if '--help' in options:
         print(HELP)
         return
-    reading = parse_trace(read_file(str(options['--trace'])))
+    reading = parse_trace(read_file(options['--trace']))
     if command == 'picks':
         sys.stdout.writelines(picks_lines(reading, options))
         return
-    picks = read_picks(read_file(str(options['--picks']))) if '--picks' in options else []
+    picks = read_picks(read_file(options['--picks'])) if '--picks' in options else []
     plan = make_plan(reading, has_holes='--holes' in options, picks=picks)
     add_families(plan, options)
     if command == 'list' and '--json' in options:
@@ -145,12 +145,12 @@ def state_numbers(plan: StatePlan, options: Options) -> List[int]:
     list; a number may come twice. ReadingFault if the plan has no such state. UsageFault if the
     text is no number or list, or if neither option is given."""
     if '--state' in options:
-        text = str(options['--state'])
+        text = options['--state']
         if not is_number_text(text):
             raise UsageFault(f"invalid value '{text}' for '--state <N>'")
         ranges = [range(int(text), int(text) + 1)]
     else:
-        ranges = parse_ranges(str(options.get('--states', '')))
+        ranges = parse_ranges(options.get('--states', ''))
     # A range may have more numbers than there is memory for.
     if any(numbers[-1] >= len(plan.states) for numbers in ranges):
         raise ReadingFault('no such state')

@@ -4,7 +4,7 @@ from __future__ import annotations
 
 import json
 from itertools import islice
-from typing import Dict, Iterator, List, Union
+from typing import Dict, Iterator, List
 
 from .classes import SetClasses
 from .every import MOST_SETS, count_sets, drawn_sets, every_set
@@ -21,7 +21,8 @@ DEFAULT_MOST = 1_000_000
 RANGES = {'--most': range(1, 16_777_217), '--sample': range(1, 16_385), '--seed': range(2**64)}
 OPTIONS_OF_EVERY = ('--different', '--most', '--count', '--profile')
 
-Options = Dict[str, Union[str, bool]]
+# The options of a command line, each with its value: an empty text if it takes none.
+Options = Dict[str, str]
 
 
 def refuse_picks_options(options: Options) -> None:
@@ -48,7 +49,7 @@ def refuse_picks_options(options: Options) -> None:
 def option_number(options: Options, option: str) -> int:
     """The number that is the value of an option of RANGES. UsageFault if the value is no number, or
     not in the option's range. KeyError if the option isn't given."""
-    text = str(options[option])
+    text = options[option]
     if not is_number_text(text) or int(text) not in RANGES[option]:
         raise UsageFault(f"invalid value '{text}' for '{option} <N>'")
     return int(text)
@@ -104,8 +105,7 @@ def sets_of_every(reading: Reading, options: Options) -> Iterator[List[int]]:
     """The places of each set that --every asks for, with the options that go with it. All sets are
     found before the first one is returned: ReadingFault if there are more than --most, or if traces
     of this version can't have the profile."""
-    profile = options.get('--profile')
-    order = Order(reading) if profile is None else order_under(reading, str(profile))
+    order = order_under(reading, options.get('--profile', reading.profile))
     has_different = '--different' in options
     all_sets = SetClasses(reading, order).different_sets() if has_different else every_set(order)
     most = option_number(options, '--most') if '--most' in options else DEFAULT_MOST
