@@ -1,11 +1,9 @@
-"""The second reading: rows of version 3, the faults of lines, and its command line."""
+"""The second reading: rows of version 3, and the faults of lines."""
 
-import itertools
-import os
-import subprocess
 import sys
 import unittest
 from pathlib import Path
+from unittest import mock
 
 from crashfs_tools.reading import ReadingFault, make_plan, parse_trace
 from crashfs_tools.reading.listing import plain_listing
@@ -14,9 +12,7 @@ from crashfs_tools.reading.picking import different_places
 from crashfs_tools.reading.plan import file_sets, read_picks
 from crashfs_tools.reading.trees import Trees
 
-from .case_runs import Runner
 from .random_traces import RandomTrace
-from .support import EXAMPLES, FAKE, InFolder
 from .test_beside_program import NEEDS_LOST
 
 ROWS = Path(__file__).with_name('data') / 'version-3'
@@ -276,7 +272,8 @@ class Faults(unittest.TestCase):
             with self.subTest(text):
                 self.assertEqual(fault_of(say % text), wanted)
         odd = HEADERS[1] + '{"op":"x","y":%s}'
-        self.assertEqual(fault_of(odd % ('[' * 126 + ']' * 126)), '2: UnknownOp')
+        for value in ('[' * 126 + ']' * 126, '"' + '[' * 200 + '"', '1.5'):
+            self.assertEqual(fault_of(odd % value), '2: UnknownOp', value)
         for levels in (127, 500, 900, 5_000):
             self.assertEqual(fault_of(odd % ('[' * levels + ']' * levels)), '2: Syntax', levels)
             objects = '{"z":' * levels + '0' + '}' * levels
@@ -302,13 +299,33 @@ class Faults(unittest.TestCase):
         with self.assertRaisesRegex(ReadingFault, '^plan too large$'):
             make_plan(parse_trace(wide.encode()), has_holes=True)
 
+    def test_a_rename_into_another_directory_is_a_record_in_version_4(self):
+        fourth = HEADERS[3].replace('"trace":3', '"trace":4')
+        directory = '{"op":"mkdir","path":"/d",%s}\n' % RIGHTS
+        rename = '{"op":"rename","from":"/a","to":"%s"}\n'
+        link = '{"op":"link","from":"/a","to":"/d/a"}\n'
+        for text, most, wanted in [
+            (HEADERS[3] + A + B, 3, None),
+            (HEADERS[3] + A + B, 2, '3: TooLarge'),
+            (fourth + A + directory + rename % '/d/a', 4, None),
+            (fourth + A + directory + rename % '/d/a', 3, '4: TooLarge'),
+            (fourth + A + directory + rename % '/d/a' + B, 4, '5: TooLarge'),
+            (fourth + A + directory + rename % '/b', 3, None),
+            (HEADERS[3] + A + directory + rename % '/d/a', 3, None),
+            # This rename does nothing: both paths are of one file.
+            (fourth + A + directory + link + rename % '/d/a', 4, None),
+        ]:
+            with mock.patch('crashfs_tools.reading.names.RECORDS', most):
+                self.assertEqual(fault_of(text), wanted, text)
+
     def test_a_plan_has_16_384_states_at_most(self):
         reading = parse_trace(HEADERS[3].encode())
         plan = make_plan(reading, picks=[()] * 16_383)
         self.assertEqual(len(plan.states), 16_384)
         for add in (
             lambda: plan.add_pick([]),
-            lambda: make_plan(reading, picks=[()] * 16_384),
+            # That these picks aren't allowed is seen later.
+            lambda: make_plan(reading, picks=[(9,)] * 16_384),
         ):
             with self.assertRaisesRegex(ReadingFault, '^plan too large$'):
                 add()
@@ -319,76 +336,6 @@ class Faults(unittest.TestCase):
         for line in (b' ', b'[1.0]', b'[-1]', b'{}', b'[4294967296]', b'\xff'):
             with self.assertRaisesRegex(ReadingFault, '^picks line 2: Syntax$'):
                 read_picks(b'[]\n' + line)
-
-
-class AsAProgram(InFolder):
-    def run_reading(self, *words):
-        return subprocess.run(
-            [FAKE, *words],
-            cwd=self.folder,
-            stdout=subprocess.PIPE,
-            stderr=subprocess.PIPE,
-            text=True,
-            check=False,
-        )
-
-    def test_random_traces_are_read_in_all_versions(self):
-        runner = Runner(self.folder, None)
-        for version, seed in itertools.product((1, 2, 3, 4), range(20)):
-            text = RandomTrace(version, seed).text()
-            self.assertEqual(text, RandomTrace(version, seed).text())
-            for words in (['list'], ['picks', '--lost'], ['picks', '--files']):
-                self.assertIn(runner.run(words, {'trace': text.encode()}).status, (0, 1))
-
-    def test_faults_are_printed_as_the_program_prints_them_and_then_why(self):
-        mode = HEADERS[1].replace('775', '0775')
-        ran = self.run_reading('list', '--trace', self.write('mode.trace', mode))
-        self.assertEqual((ran.returncode, ran.stdout), (1, ''))
-        self.assertEqual(
-            ran.stderr.splitlines(),
-            [
-                'crashfs: trace line 1: Syntax',
-                f'crashfs: {self.path("mode.trace")}:1: mode "0775" is not three octal digits',
-            ],
-        )
-        ran = self.run_reading('list', '--trace', 'none')
-        self.assertEqual((ran.returncode, ran.stderr), (1, 'crashfs: none: cannot read\n'))
-
-    def test_command_lines_that_the_program_refuses_are_refused(self):
-        for words in (
-            [],
-            ['serve'],
-            ['list'],
-            ['list', '--trace', 'a', '--count'],
-            *(
-                ['tar', '--trace', str(EXAMPLES / 'store.trace'), '--states', states]
-                for states in ('', '3-1', '3-', 'x', '1,,2', '²', '١', '9' * 5000)
-            ),
-        ):
-            ran = self.run_reading(*words)
-            self.assertEqual((ran.returncode, ran.stdout), (2, ''), words)
-            self.assertTrue(ran.stderr.startswith('error: '), ran.stderr)
-        for option, states in (
-            ('--state', '99'),
-            ('--states', '0-99'),
-            ('--states', '0-99999999999999'),
-            ('--states', f'1,{2**64 - 1}'),
-        ):
-            words = 'tar', '--trace', str(EXAMPLES / 'store.trace'), option, states
-            ran = self.run_reading(*words)
-            self.assertEqual((ran.returncode, ran.stderr), (1, 'crashfs: no such state\n'), words)
-
-    def test_a_reader_that_leaves_is_no_fault_to_report(self):
-        reader, writer = os.pipe()
-        os.close(reader)
-        with os.fdopen(writer, 'w') as closed:
-            ran = subprocess.run(
-                [FAKE, 'list', '--trace', str(EXAMPLES / 'store.trace')],
-                stdout=closed,
-                stderr=subprocess.PIPE,
-                check=False,
-            )
-        self.assertEqual((ran.returncode, ran.stderr), (1, b''))
 
 
 if __name__ == '__main__':
