@@ -6,7 +6,7 @@ import threading
 from dataclasses import dataclass, field
 from functools import lru_cache
 from pathlib import Path
-from typing import Dict, Iterator, List, Optional, Set, Tuple
+from typing import Dict, Iterator, List, NamedTuple, Optional, Set
 
 from .crates import TOP, crates_below
 
@@ -42,6 +42,13 @@ def chain_lengths(uses: Dict[str, List[str]]) -> Dict[str, int]:
         return count_crate_lines(name) + max((length_from(user) for user in users[name]), default=0)
 
     return {name: length_from(name) for name in uses}
+
+
+class NextCheck(NamedTuple):
+    """The check that is begun next: its crate, and its jobs, the number of its processors."""
+
+    crate: str
+    jobs: int
 
 
 @dataclass
@@ -87,9 +94,9 @@ class Work:
         )
         return min(MOST_JOBS, max(2 if is_longest else 1, spare_processors))
 
-    def choose_crate(self) -> Optional[Tuple[str, int]]:
-        """The crate to prove next, which is the ready one with the longest chain, and its number of
-        processors: jobs_wanted(), or fewer if fewer are idle. None if no crate is ready or no
+    def next_check(self) -> Optional[NextCheck]:
+        """The check to begin now: of the ready crate with the longest chain, with jobs_wanted(), or
+        fewer if fewer processors are idle. None if no check can begin now: no crate is ready, or no
         processor idle. Changes nothing; the caller must hold change_condition."""
         ready_crates = self.ready_crates()
         idle_processors = self.processors - sum(self.jobs.values())
@@ -97,20 +104,19 @@ class Work:
             return None
         name = max(ready_crates, key=lambda crate: self.chain_lengths[crate])
         jobs = self.jobs_wanted(name, idle_processors - (len(ready_crates) - 1))
-        return name, min(jobs, idle_processors)
+        return NextCheck(name, min(jobs, idle_processors))
 
-    def begin_next_crate(self) -> Optional[Tuple[str, int]]:
-        """Waits until a crate can be proved, marks it as begun, and returns it with its number of
-        processors. None if all are begun, or one was not proved. The caller must call end_crate()
-        for each crate that it gets: until then other threads may wait."""
+    def begin_next_crate(self) -> Optional[NextCheck]:
+        """Waits until a check can begin, marks its crate as begun, and returns it. None if all are
+        begun, or a crate was not proved. The caller must call end_crate() for each crate that it
+        gets: until then other threads may wait."""
         with self.change_condition:
             while not self.failed_crate and len(self.begun_crates) < len(self.uses):
-                choice = self.choose_crate()
-                if choice:
-                    name, jobs = choice
-                    self.begun_crates.add(name)
-                    self.jobs[name] = jobs
-                    return choice
+                check = self.next_check()
+                if check:
+                    self.begun_crates.add(check.crate)
+                    self.jobs[check.crate] = check.jobs
+                    return check
                 self.change_condition.wait()
             return None
 

@@ -37,7 +37,7 @@ def all_ready(work: Work) -> List[Tuple[str, int]]:
     """Takes each crate that can begin now, with its processors."""
     taken: List[Tuple[str, int]] = []
     while True:
-        chosen: Optional[Tuple[str, int]] = work.choose_crate()
+        chosen = work.next_check()
         if chosen is None:
             return taken
         taken.append(chosen)

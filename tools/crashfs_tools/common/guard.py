@@ -16,7 +16,7 @@ import signal
 import tempfile
 import time
 from contextlib import ExitStack
-from typing import Dict, Iterable, Mapping, NoReturn, Optional, Set
+from typing import Dict, Iterable, Mapping, NamedTuple, NoReturn, Optional, Set
 
 from . import descendants
 from .command import print_line
@@ -30,6 +30,19 @@ VARIABLE = 'CRASHFS_GUARD'
 SCAN_PAUSE_SECONDS = 0.01
 # What counts as the answer of a watcher that was killed before it answered.
 WATCHER_KILLED = json.dumps([None, errno.ECHILD, 'its watcher was killed', 'temporary files'])
+
+
+class Watcher(NamedTuple):
+    """A watcher that runs: the number of its process, the end of the pipe whose closing it waits
+    for, and the directory that it made."""
+
+    process: int
+    alive_writer: int
+    directory: str
+
+
+# What a guard has before its `with`.
+NOT_STARTED = Watcher(0, -1, '')
 
 
 class Guard:
@@ -48,8 +61,7 @@ class Guard:
         self.token = os.urandom(16).hex()
         self.directory = ''
         self.is_reaper = False
-        # The watcher, and the end of the pipe whose closing it waits for, once it is started.
-        self.watcher, self.alive_writer = 0, -1
+        self.watcher = NOT_STARTED
         # Processes that could not be ended, with the names of their programs.
         self.still_running: Dict[int, str] = {}
 
@@ -63,37 +75,14 @@ class Guard:
             # A signal must not come before the watcher can be closed, nor reach the watcher before
             # that ignores signals. One that has waited is raised at the end of this block.
             with stop_signals_blocked():
-                self.start_watcher()
+                self.watcher = start_watcher(self.program, self.folder, self.token)
+                self.directory = self.watcher.directory
                 self.report_other_folder()
         except BaseException:
             if self.directory:
                 self.__exit__()
             raise
         return self
-
-    def start_watcher(self) -> None:
-        """Starts the watcher, waits until it has made the directory, and sets `watcher`,
-        `alive_writer` and `directory`. OSError, with the name of the place, if the watcher can't
-        make a directory, or is killed before: it has ended then. OSError without a name if it can't
-        be started: then no pipe stays open. The caller blocks the signals that stop a command."""
-        with ExitStack() as opened:
-            alive_reader, self.alive_writer = open_pipe(opened)
-            answer_reader, answer_writer = open_pipe(opened)
-            self.watcher = os.fork()
-            opened.pop_all()
-        if self.watcher == 0:
-            os.close(self.alive_writer)
-            os.close(answer_reader)
-            self.run_watcher(alive_reader, answer_writer)
-        os.close(alive_reader)
-        os.close(answer_writer)
-        with open(answer_reader, encoding='ascii') as stream:
-            directory, *fault = json.loads(stream.read() or WATCHER_KILLED)
-        if fault:
-            os.close(self.alive_writer)
-            os.waitpid(self.watcher, 0)
-            raise OSError(*fault)
-        self.directory = directory
 
     def report_other_folder(self) -> None:
         """Prints a line on standard error if the directory isn't in TMPDIR, because that can't be
@@ -118,7 +107,9 @@ class Guard:
         no reaper. OSError without /proc."""
         end_processes_with_token(self.token)
         if self.is_reaper:
-            children = descendants.end_children({self.watcher, *self.still_running, *spared})
+            children = descendants.end_children(
+                {self.watcher.process, *self.still_running, *spared}
+            )
             self.still_running.update(children)
         return self.still_running
 
@@ -131,7 +122,7 @@ class Guard:
         processes = processes_with_token(self.token)
         if self.is_reaper:
             processes |= descendants.descendant_processes()
-        for process in processes - {self.watcher, spared_process}:
+        for process in processes - {self.watcher.process, spared_process}:
             try:
                 os.kill(process, signal_number)
                 sent_count += 1
@@ -144,54 +135,86 @@ class Guard:
         prints on standard error what could not be removed. An exception of the `with` is raised
         after that. Children that weren't started with `environment` aren't ended: end_processes()
         does that."""
-        os.close(self.alive_writer)
-        os.waitpid(self.watcher, 0)
+        os.close(self.watcher.alive_writer)
+        os.waitpid(self.watcher.process, 0)
         for path in (self.directory, self.directory + TRASH_ENDING):
             if os.path.lexists(path):
                 print_line(self.program, f'{path} could not be removed')
 
-    def run_watcher(self, alive_reader: int, answer_writer: int) -> NoReturn:
-        """The watcher, which never returns: it makes the directory, waits until the first process
-        leaves the guard or ends, and cleans up. It makes the directory itself, so that a kill of
-        the first process always leaves a process that removes it."""
-        try:
-            # The first process may be gone before it reads the answer: that is no signal.
-            ignore_signals((*STOPS, signal.SIGPIPE))
-            os.setsid()
-            descendants.become_cleaner()
-            null_device = os.open(os.devnull, os.O_RDWR)
-            for stream in (0, 1, 2):
-                os.dup2(null_device, stream)
-            self.make_and_send_directory(answer_writer)
-            os.read(alive_reader, 1)
-            self.clean_up()
-        finally:
-            os._exit(0)
 
-    def make_and_send_directory(self, answer_writer: int) -> None:
-        """In the watcher: makes the directory, writes the answer to the pipe, and closes the pipe.
-        The answer is a JSON array, as start_watcher() reads it: the path, or null and the arguments
-        of the OSError. `directory` stays empty if it can't be made."""
-        try:
-            self.directory = make_temporary_directory(f'{self.program}-', self.folder)
-            answer = json.dumps([self.directory])
-        except OSError as error:
-            answer = json.dumps([None, error.errno, error.strerror, error.filename])
-        try:
-            os.write(answer_writer, answer.encode())
-        except BrokenPipeError:
-            pass
-        os.close(answer_writer)
+def start_watcher(program: str, folder: Optional[str], token: str) -> Watcher:
+    """Starts the watcher of a guard, and waits until it has made the directory. OSError, with the
+    name of the place, if the watcher can't make a directory, or is killed before: it has ended
+    then. OSError without a name if it can't be started: then no pipe stays open. The caller blocks
+    the signals that stop a command."""
+    with ExitStack() as opened:
+        alive_reader, alive_writer = open_pipe(opened)
+        answer_reader, answer_writer = open_pipe(opened)
+        process = os.fork()
+        opened.pop_all()
+    if process == 0:
+        os.close(alive_writer)
+        os.close(answer_reader)
+        run_watcher(program, folder, token, alive_reader, answer_writer)
+    os.close(alive_reader)
+    os.close(answer_writer)
+    with open(answer_reader, encoding='ascii') as stream:
+        directory, *fault = json.loads(stream.read() or WATCHER_KILLED)
+    if fault:
+        os.close(alive_writer)
+        os.waitpid(process, 0)
+        raise OSError(*fault)
+    return Watcher(process, alive_writer, directory)
 
-    def clean_up(self) -> None:
-        """In the watcher: ends the processes with the token. If there is a directory, unmounts what
-        is mounted below it, and removes it; what can't be unmounted or removed stays in it, or
-        next to it in a directory whose name ends with TRASH_ENDING."""
-        end_processes_with_token(self.token)
-        if self.directory:
-            table = MountTable()
-            table.unmount(table.points_below(self.directory))
-            remove_tree(self.directory)
+
+def run_watcher(
+    program: str, folder: Optional[str], token: str, alive_reader: int, answer_writer: int
+) -> NoReturn:
+    """The watcher, which never returns: it makes the directory, waits until the first process
+    leaves the guard or ends, and cleans up. It makes the directory itself, so that a kill of the
+    first process always leaves a process that removes it."""
+    try:
+        # The first process may be gone before it reads the answer: that is no signal.
+        ignore_signals((*STOPS, signal.SIGPIPE))
+        os.setsid()
+        descendants.become_cleaner()
+        null_device = os.open(os.devnull, os.O_RDWR)
+        for stream in (0, 1, 2):
+            os.dup2(null_device, stream)
+        directory = make_and_send_directory(program, folder, answer_writer)
+        os.read(alive_reader, 1)
+        clean_up(token, directory)
+    finally:
+        os._exit(0)
+
+
+def make_and_send_directory(program: str, folder: Optional[str], answer_writer: int) -> str:
+    """In the watcher: makes the directory, writes the answer to the pipe, and closes the pipe. The
+    answer is a JSON array, as start_watcher() reads it: the path, or null and the arguments of the
+    OSError. Returns the path, which is empty if the directory can't be made."""
+    directory = ''
+    try:
+        directory = make_temporary_directory(f'{program}-', folder)
+        answer = json.dumps([directory])
+    except OSError as error:
+        answer = json.dumps([None, error.errno, error.strerror, error.filename])
+    try:
+        os.write(answer_writer, answer.encode())
+    except BrokenPipeError:
+        pass
+    os.close(answer_writer)
+    return directory
+
+
+def clean_up(token: str, directory: str) -> None:
+    """In the watcher: ends the processes with the token. If the directory was made, unmounts what
+    is mounted below it, and removes it; what can't be unmounted or removed stays in it, or next to
+    it in a directory whose name ends with TRASH_ENDING."""
+    end_processes_with_token(token)
+    if directory:
+        table = MountTable()
+        table.unmount(table.points_below(directory))
+        remove_tree(directory)
 
 
 def make_temporary_directory(prefix: str, folder: Optional[str]) -> str:
