@@ -13,8 +13,8 @@ from .recording import Recording
 
 class LateStart:
     """Begins the trace again after an acknowledged line: the one with a number, from 1, or the
-    first one that a pattern matches. From then on the recording's has_late_start is True. Its
-    on_acknowledged must be count_line()."""
+    first one that a pattern matches. The recording's on_acknowledged must be count_line(); its
+    has_late_start is True once that line has come."""
 
     def __init__(self, recording: Recording, number_or_pattern: str) -> None:
         """What parse_number() takes is a number; any other text is a pattern of fnmatch."""

@@ -141,7 +141,7 @@ class CallQueue:
 
     def place_sync(self, sync: Call, changes: List[Call]) -> None:
         """Places a sync and the changes that ran at the same time, as move_after_sync() does, if
-        the sync may cover them; adds it to unrelated_syncs of the others."""
+        the sync may cover them; adds the sync to unrelated_syncs of the others."""
         for change in changes:
             if may_cover(sync, change):
                 self.move_after_sync(sync, change)

@@ -242,9 +242,9 @@ class LiveFiles:
     # Changes
 
     def add_new_node(self, path: str, node: Node) -> None:
-        """Adds a new file, directory or symbolic link at a free path. The trace gets it too, if the
-        trace has its directory. If the trace can't have it, that is reported, and it is only in the
-        live tree."""
+        """Adds a new file, directory or symbolic link at a free path. The trace gets the node too,
+        if it has the node's directory. If it can't have the node, that is reported, and the node is
+        only in the live tree."""
         self.tree.add_name(path, node)
         parent = self.tree.node_at(parent_of(path))
         if parent is None or parent.traced_path is None:
