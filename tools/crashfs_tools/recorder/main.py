@@ -179,10 +179,12 @@ def report_written_trace(
 
 def print_error(error: Exception, out: str, outcome: str) -> None:
     """Prints a line on an error, with `outcome`: whether the trace is written to the path `out`. An
-    OSError is printed as error_text(), of `out` if it names no file; an error of another type is an
-    internal one."""
+    OSError is printed as error_text(), of `out` if it names no file; any other error but Refused is
+    an internal one."""
     if isinstance(error, OSError):
         print_text(f'{error_text(error, out)}; {outcome}')
+    elif isinstance(error, Refused):
+        print_text(f'{error}; {outcome}')
     else:
         print_own_fault(NAME, error, outcome)
 
