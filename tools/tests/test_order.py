@@ -216,6 +216,17 @@ CASES = [
         for call in ('close(3</d/f>', 'close_range(3, 3, 0')
     ],
     (
+        'an open and a read of a file while it is synced do not move the sync',
+        [
+            '1 fsync(3</d/f> <unfinished ...>',
+            '2 openat(AT_FDCWD</d>, "f", O_RDONLY) = 5</d/f>',
+            '2 read(5</d/f>, 0x7ffc, 1) = 1',
+            '2 pwrite64(4</d/g>, "a", 1, 0) = 1',
+            '1 <... fsync resumed>) = 0',
+        ],
+        ['write /g 0 a', 'fsync /f'],
+    ),
+    (
         'an entry that comes while its directory is synced is not covered',
         [
             '1 openat(AT_FDCWD</d>, ".", O_RDONLY) = 5</d>',
