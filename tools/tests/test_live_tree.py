@@ -1,11 +1,11 @@
-"""The files of the live tree: changes whose order the log doesn't have, and lengths."""
+"""The files of the live tree: changes whose order the log doesn't have, names, and lengths."""
 
 import unittest
 from typing import List, Optional, Tuple
 from unittest import mock
 
 from crashfs_tools.common import limits
-from crashfs_tools.recorder.live_tree import END, Change, Node
+from crashfs_tools.recorder.live_tree import END, Change, LiveTree, Node
 
 SHARED, OTHER = object(), object()
 
@@ -48,7 +48,7 @@ CHANGES: List[Tuple[str, List[Change], List[bool]]] = [
     ),
     (
         'changes of bytes side by side, at once',
-        [change(1, (1, 3), (0, 4)), change(2, (2, 4), (4, 9)), change(3, (2, 4), (9, 12))],
+        [change(1, (1, 3), (4, 9)), change(2, (2, 4), (0, 4)), change(3, (2, 4), (9, 12))],
         [False, False, False],
     ),
     (
@@ -83,6 +83,11 @@ CHANGES: List[Tuple[str, List[Change], List[bool]]] = [
         [False, False],
     ),
     (
+        'a change of what was there while another writes at the end',
+        [change(1, (1, 3), (0, 4)), change(2, (2, 4), (8, 9), END, is_past_end=True)],
+        [False, False],
+    ),
+    (
         'writes past the end at offsets of their own',
         [
             change(1, (1, 3), (8, 9), is_past_end=True),
@@ -110,11 +115,60 @@ class Changes(unittest.TestCase):
                 node = Node.file(0o644)
                 self.assertEqual([node.add_change(one) for one in changes], are_unordered)
 
+    def test_changes_one_after_the_other_are_in_order_whichever_is_asked(self) -> None:
+        first, second = change(1, (1, 2), (0, 4)), change(2, (3, 4), (0, 4))
+        self.assertFalse(first.is_unordered_with(second))
+        self.assertFalse(second.is_unordered_with(first))
+
     def test_only_changes_that_a_later_one_may_overlap_are_kept(self) -> None:
         node = Node.file(0o644)
         for number in range(1, 10):
             node.add_change(change(1, (number, number), (0, 4)))
         self.assertEqual(len(node.recent_changes), 1)
+
+
+class Names(unittest.TestCase):
+    def setUp(self) -> None:
+        self.tree = LiveTree(Node(is_directory=True, mode=0o755))
+        for path in ('/s', '/s/t', '/s.t', '/s/t/f'):
+            node = Node(is_directory=path != '/s/t/f', mode=0o755, traced_paths={path})
+            self.tree.add_name(path, node)
+
+    def test_a_directory_moves_with_all_that_is_below_it(self) -> None:
+        nodes = dict(self.tree.nodes)
+        self.assertEqual(self.tree.paths_below('/s'), ['/s/t', '/s/t/f'])
+        self.tree.move_node('/s', '/u')
+        self.assertEqual(
+            self.tree.nodes,
+            {
+                '/': nodes['/'],
+                '/s.t': nodes['/s.t'],
+                '/u': nodes['/s'],
+                '/u/t': nodes['/s/t'],
+                '/u/t/f': nodes['/s/t/f'],
+            },
+        )
+        for path, node in self.tree.nodes.items():
+            self.assertEqual((node.names, node.name), ({path}, path))
+
+    def test_only_paths_that_the_trace_has_move_in_it(self) -> None:
+        self.tree.nodes['/s/t'].traced_paths = {'/other'}
+        self.tree.move_node('/s', '/u')
+        self.tree.move_traced_paths('/s', '/u')
+        traced_paths = {path: node.traced_paths for path, node in self.tree.nodes.items()}
+        self.assertEqual(
+            traced_paths,
+            {'/': set(), '/s.t': {'/s.t'}, '/u': {'/u'}, '/u/t': {'/other'}, '/u/t/f': {'/u/t/f'}},
+        )
+
+    def test_a_report_names_a_file_by_its_first_name(self) -> None:
+        node = Node.unknown()
+        self.assertEqual((node.name, node.traced_path), ('(a file without a name)', None))
+        for path in ('/b', '/a'):
+            self.tree.add_name(path, node)
+        self.assertEqual(node.name, '/a')
+        self.assertIs(self.tree.remove_name('/a'), node)
+        self.assertEqual((node.name, self.tree.node_at('/a')), ('/b', None))
 
 
 class Lengths(unittest.TestCase):
