@@ -102,6 +102,17 @@ class Calls(unittest.TestCase):
             self.assertEqual(is_private(recording.trace), wanted)
             self.assertEqual(recording.trace.notes, {})
 
+    def test_a_trace_of_the_newest_version_has_the_reason_for_it(self):
+        link = ['1 symlink("f", "l") = 0']
+        for version, log, wanted in (
+            (3, [], ''),
+            (4, [], '--trace-version 4'),
+            (4, link, '--trace-version 4'),
+            (None, [], ''),
+            (None, link, '/l is a symbolic link'),
+        ):
+            self.assertEqual(recording_of(log, FILE, version=version).version_reason, wanted)
+
     def test_only_a_fork_that_succeeded_makes_a_process(self):
         lines = ['fork() = 2', 'write(1</d/f>, "ab", 2) = 2', 'fork() = -1 EAGAIN', 'vfork() = 2']
         calls = read_log([f'1 {line}' for line in lines]).calls
