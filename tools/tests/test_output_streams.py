@@ -64,6 +64,8 @@ class Lines(unittest.TestCase):
         self.assertEqual(recording.streams.inherited_streams[1].most_gaps, 1)
 
     def test_a_write_that_is_an_acknowledgement_is_noted_only_if_it_is_changed(self):
+        recording = output_of([f'1 write(1<pipe:[7]>, "{"o" * 1025}\n", 1026) = 1026'])
+        self.assertEqual([one.is_note for one in recording.troubles.values()], [False])
         accepted = '1 accept4(3<socket:[1]>, NULL, NULL, 0) = 4<socket:[8]>'
         for text, wanted in (('on', 0), ('o' * 1025, 1)):
             sent = f'1 sendto(4<socket:[8]>, "{text}", {len(text)}, 0, NULL, 0) = {len(text)}'
@@ -88,6 +90,12 @@ class Lines(unittest.TestCase):
         ]
         recording = output_of(log, ['6'])
         self.assertEqual([short(one) for one in recording.trace.operations], ['write /f 0 J'])
+
+    def test_a_last_line_without_a_line_feed_is_held_if_files_change_after_it(self):
+        change, part = '1 mkdir("a", 0777) = 0', '1 write(1<pipe:[7]>, "on", 2) = 2'
+        for log, wanted in (([part, change], True), ([change, part], False)):
+            recording = output_of(log)
+            self.assertEqual(recording.streams.inherited_streams[1].is_held, wanted)
 
     def test_a_stream_that_exec_closes_is_none_any_more(self):
         log = [

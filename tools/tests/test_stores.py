@@ -205,6 +205,12 @@ class Stores(unittest.TestCase):
             )
             self.assertEqual(recording.troubles, {})
 
+    def test_a_copy_before_the_first_call_shows_no_store(self):
+        recording = after_copies([FileCopy(0, 1, True, {0: b'parent\0\0'})])
+        self.assertEqual(
+            [short(one) for one in recording.trace.operations], ['fsyncrange /f 0 4096']
+        )
+
     def test_what_the_last_copy_shows_is_after_the_last_call(self):
         recording = after_copies([FileCopy(8, 0, True, {0: b'parent\0\0'})])
         self.assertEqual(

@@ -111,7 +111,9 @@ class Calls(unittest.TestCase):
             (None, [], ''),
             (None, link, '/l is a symbolic link'),
         ):
-            self.assertEqual(recording_of(log, FILE, version=version).version_reason, wanted)
+            recording = recording_of(log, FILE, version=version)
+            self.assertEqual(recording.version_reason, wanted)
+            self.assertEqual(len(recording.trace.operations), len(log))
 
     def test_only_a_fork_that_succeeded_makes_a_process(self):
         lines = ['fork() = 2', 'write(1</d/f>, "ab", 2) = 2', 'fork() = -1 EAGAIN', 'vfork() = 2']

@@ -152,11 +152,14 @@ CASES = [
         ['write /f 0 J'],
     ),
     (
-        'close_range closes at once, or at the next exec',
+        'close_range closes at once, or at the next exec; a number that is used again at once',
         FILE,
         [
             OPEN_F,
             '1 dup2(3</d/f>, 4) = 4',
+            '1 dup2(3</d/f>, 5) = 5',
+            '1 openat(AT_FDCWD</d>, "/etc/x", O_RDWR) = 5</etc/x>',
+            '1 write(5</etc/x>, "a", 1) = 1',
             '1 close_range(4, 4, 0) = 0',
             '1 write(4</etc/x>, "a", 1) = 1',
             '1 close_range(3, 3, CLOSE_RANGE_CLOEXEC) = 0',
