@@ -1,9 +1,12 @@
 """The plan as it is listed, and the pair of each failing state."""
 
 import unittest
+from dataclasses import replace
+from unittest import mock
 
 from crashfs_tools.checker.findings.groups import Findings
 from crashfs_tools.checker.findings.pairs import Loss, Pair, Pairs
+from crashfs_tools.checker.report import text
 from crashfs_tools.checker.report.report import CheckReport
 from crashfs_tools.checker.report.text import ReportText
 from crashfs_tools.checker.running.results import Head, Results
@@ -276,6 +279,24 @@ class Text(unittest.TestCase):
             ],
         )
         self.assertEqual(report.status, 1)
+
+    def test_a_state_of_several_entries_is_counted_once_as_a_further_one(self):
+        report = self.report({0: LOST})
+        (group,) = report.groups()
+        entries = [
+            replace(group, tried_states=frozenset((number,) for number in numbers))
+            for numbers in ((1, 2), (2, 3), (3, 4, 5), (1,))
+        ]
+        end = '(all are in the file of --json)'
+        for shown_count, words in (
+            (0, '5 more states in 4 other entries'),
+            (1, '3 more states in 3 other entries'),
+            (2, '2 more states in 2 other entries'),
+            (3, '1 other entry'),
+        ):
+            with self.subTest(shown_count), mock.patch.object(text, 'SHOWN_GROUPS', shown_count):
+                line = ReportText(report).entry_lines(entries)[-1]
+                self.assertEqual(line, f'  and {words} {end}')
 
     def test_states_that_the_window_before_tried_are_not_counted_again(self):
         results = Results(read_plan(LISTED), numbers_before={0: 40, 1: 41})

@@ -3,7 +3,7 @@
 from __future__ import annotations
 
 from dataclasses import dataclass, field, replace
-from typing import Dict, FrozenSet, Iterable, List, NamedTuple, Optional, Tuple
+from typing import Dict, FrozenSet, Iterable, List, NamedTuple, Optional, Set, Tuple
 
 from crashfs_tools.checker.running.results import Head, Results
 from crashfs_tools.checker.running.runner import GOOD, GOOD_OUTCOME, Outcome
@@ -368,3 +368,9 @@ def merged_groups(groups: Iterable[Group]) -> List[Group]:
         if first is not group:
             first.add_group(group)
     return sorted(groups_by_key.values(), key=lambda group: (-group.count, group.example.number))
+
+
+def all_tried_states(groups: Iterable[Group]) -> Set[TriedState]:
+    """The different states of some groups that were tried in their windows. States that are equal
+    may be in several groups, but are one here."""
+    return {state for group in groups for state in group.tried_states}

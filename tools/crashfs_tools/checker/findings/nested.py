@@ -28,7 +28,7 @@ from crashfs_tools.common.trace_lines import parse_trace_text, without_numbers, 
 from crashfs_tools.common.trace_read import read_lines
 
 from .details import rerun_examples
-from .groups import Findings, Group
+from .groups import Findings, Group, all_tried_states
 from .second_crashes import Recovery
 
 RECORD = code_to_run('recorder.main')
@@ -136,12 +136,10 @@ class SecondCrashTrials:
         findings = Findings(head, results, {}, ignored)
         rerun_examples(trials, findings)
         groups = findings.groups
-        # Equal states may be in several groups.
-        failing_states = set().union(*(group.tried_states for group in groups))
         return Recovery(
             state.number,
             len(results.outcomes),
-            len(failing_states),
+            len(all_tried_states(groups)),
             groups,
             {group.example.number: crash_place(findings, group) for group in groups},
             unproved=trials.program.is_unproved,

@@ -5,9 +5,9 @@ from __future__ import annotations
 from collections import Counter
 from dataclasses import dataclass, field
 from typing import Counter as Counts
-from typing import Dict, Iterator, List, NamedTuple, Optional, Set
+from typing import Dict, Iterator, List, NamedTuple, Optional
 
-from crashfs_tools.checker.findings.groups import Findings, Group, TriedState
+from crashfs_tools.checker.findings.groups import Findings, Group, all_tried_states
 from crashfs_tools.checker.running.results import Head
 from crashfs_tools.checker.running.runner import BAD, Outcome
 from crashfs_tools.checker.states.plan import AllStates
@@ -167,8 +167,7 @@ def counts_by_profile(group: Group) -> Dict[str, int]:
 def count_accepted_states(groups: List[Group]) -> AcceptedStates:
     """Counts the different states that are only in accepted groups. A state of several accepted
     groups counts once, for the first of them; states that the window before tried don't count."""
-    counted: Set[TriedState] = set()
-    counted.update(*(group.tried_states for group in groups if group.accepted_entry is None))
+    counted = all_tried_states(group for group in groups if group.accepted_entry is None)
     cause_kinds: Counts[str] = Counter()
     for group in groups:
         if group.accepted_entry is not None:

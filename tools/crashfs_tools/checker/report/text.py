@@ -5,7 +5,7 @@ from __future__ import annotations
 from dataclasses import dataclass
 from typing import TYPE_CHECKING, List, Optional
 
-from crashfs_tools.checker.findings.groups import Group
+from crashfs_tools.checker.findings.groups import Group, all_tried_states
 from crashfs_tools.checker.findings.accepted_failures import AcceptedFailure
 from crashfs_tools.checker.findings.wording import fail_text, joined_by
 from crashfs_tools.checker.running.runner import BAD, GOOD
@@ -75,14 +75,15 @@ class ReportText:
         ]
 
     def entry_lines(self, shown: List[Group]) -> List[str]:
-        """The lines of the first SHOWN_GROUPS entries, and a line that says how many more there
-        are, if there are any."""
+        """The lines of the first SHOWN_GROUPS entries. If there are more, a line that counts these,
+        and the different states that are only in them: a state may be in several entries."""
         lines = [line for group in shown[:SHOWN_GROUPS] for line in self.group_lines(group)]
         others = shown[SHOWN_GROUPS:]
         if others:
-            states = count_text(sum(group.count for group in others), 'more state')
             entries = f'{len(others):,} other {"entry" if len(others) == 1 else "entries"}'
-            lines.append(f'  and {states} in {entries} (all are in the file of --json)')
+            more = all_tried_states(others) - all_tried_states(shown[:SHOWN_GROUPS])
+            states = f'{count_text(len(more), "more state")} in ' if more else ''
+            lines.append(f'  and {states}{entries} (all are in the file of --json)')
         return lines
 
     def accepted_lines(self, accepted: List[Group]) -> List[str]:
