@@ -306,7 +306,7 @@ class Text(unittest.TestCase):
         rows = [state.number for state, _, _ in report.state_outcomes]
         self.assertEqual(rows, [6, 7, 11, 12])
         self.assertEqual((report.counts.all_failing_states, report.counts.tried_states), (4, 0))
-        groups = report.groups_of_windows[0]
+        groups = report.windows[0].groups
         self.assertEqual(sorted(state.number for group in groups for state in group.states), rows)
         self.assertEqual({group.tried_states for group in groups}, {frozenset()})
 

@@ -118,7 +118,7 @@ class Pages(unittest.TestCase):
     def test_nothing_controls_a_terminal_or_is_no_utf_8(self):
         report = odd_report()
         report.head.trace = '\x1b]0;owned\x07\udcff\u202e'
-        group = report.groups_of_windows[0][0]
+        group = report.windows[0].groups[0]
         group.outcome = Outcome(BAD, 'lost: \x1b[31m\udcff', '\x1b[31m\n')
         failure = DiskFailure(group.outcome, [0], {}, {}, Explanation(Reason.OUTSIDE))
         report.sightings = Sightings({'ext4': DiskCounts(9, 9, 1)}, {}, [failure])
@@ -294,8 +294,9 @@ class JUnit(unittest.TestCase):
 
     def test_names_of_cases_are_unique(self):
         report = odd_report()
-        first = report.groups_of_windows[0][0]
-        report.groups_of_windows[0] = [
+        groups = report.windows[0].groups
+        first = groups[0]
+        groups[:] = [
             replace(first, kept_line=None, lost_line=TraceLine(number, f'word {letter}'))
             for number, letter in enumerate('abc')
         ]

@@ -4,7 +4,7 @@ from __future__ import annotations
 
 import time
 from dataclasses import dataclass, field, replace
-from typing import TYPE_CHECKING, List, Optional, Tuple
+from typing import TYPE_CHECKING, List, NamedTuple, Optional, Tuple
 
 from crashfs_tools.checker.findings.advice import AllSyncs, FailingCounts
 from crashfs_tools.checker.findings.groups import Findings, Group, merged_groups, set_all_advice
@@ -29,6 +29,15 @@ NONE_FAILS, SOME_FAIL, NOT_ALL_TRIED = 0, 1, 3
 StateRow = Tuple[State, Outcome, List[str]]
 
 
+class ReportedWindow(NamedTuple):
+    """What a report keeps of a window: its groups, its advised syncs, None if they weren't tried,
+    and packed_results(), empty unless the report keeps what the JSON has."""
+
+    groups: List[Group]
+    all_syncs: Optional[AllSyncs]
+    packed_results: bytes
+
+
 @dataclass
 class CheckReport:
     """The findings of a check, window by window; none at first. With has_json it keeps all that the
@@ -46,10 +55,7 @@ class CheckReport:
     # The names of the trace's profiles; none before the first window.
     profiles: Tuple[str, ...] = ()
     state_outcomes: List[StateRow] = field(default_factory=list)
-    # Of each window: its groups, its advised syncs and, with has_json, its packed_results().
-    groups_of_windows: List[List[Group]] = field(default_factory=list)
-    syncs_of_windows: List[Optional[AllSyncs]] = field(default_factory=list)
-    packed_windows: List[bytes] = field(default_factory=list)
+    windows: List[ReportedWindow] = field(default_factory=list)
     drawings: List[Drawing] = field(default_factory=list)
     recoveries: List[Recovery] = field(default_factory=list)
     sightings: Optional[Sightings] = None
@@ -68,10 +74,7 @@ class CheckReport:
         self.profiles = findings.plan.profiles.names
         if self.has_states:
             self.state_outcomes += state_rows(findings)
-        self.groups_of_windows.append(findings.groups)
-        self.syncs_of_windows.append(findings.all_syncs)
-        if self.has_json:
-            self.packed_windows.append(packed_results(findings))
+        self.windows.append(self.reported_window(findings))
         if self.has_page and (findings.groups or not self.drawings):
             from .drawing import drawing_of
 
@@ -81,10 +84,17 @@ class CheckReport:
         """Replaces the groups, the advised syncs and the results of the last window that was added
         by those of its findings, to which something was added since. The counts, the outcomes of
         states and the drawing stay. A window must have been added."""
-        self.groups_of_windows[-1] = findings.groups
-        self.syncs_of_windows[-1] = findings.all_syncs
-        if self.has_json:
-            self.packed_windows[-1] = packed_results(findings)
+        self.windows[-1] = self.reported_window(findings)
+
+    def reported_window(self, findings: Findings) -> ReportedWindow:
+        """What the report keeps of the window of some findings, as it is now."""
+        results = packed_results(findings) if self.has_json else b''
+        return ReportedWindow(findings.groups, findings.all_syncs, results)
+
+    @property
+    def packed_windows(self) -> List[bytes]:
+        """The packed results of all windows; none if the report was made without has_json."""
+        return [window.packed_results for window in self.windows if window.packed_results]
 
     @property
     def seconds(self) -> float:
@@ -97,8 +107,8 @@ class CheckReport:
         hint. Each call makes new copies, which may be slow."""
         merged = merged_groups(
             replace(group, states=list(group.states), advice=replace(group.advice))
-            for groups in self.groups_of_windows
-            for group in groups
+            for window in self.windows
+            for group in window.groups
         )
         set_all_advice(merged, self.head.lines)
         for group in merged:
@@ -146,8 +156,7 @@ class CheckReport:
         """The advised syncs of all windows with failures as one, with the sums of their counts, in
         which a state that two windows have counts twice. None if no window has failures, or if the
         syncs of one of these windows weren't tried."""
-        windows = zip(self.groups_of_windows, self.syncs_of_windows)
-        with_failures = [syncs for groups, syncs in windows if groups]
+        with_failures = [window.all_syncs for window in self.windows if window.groups]
         tried = [syncs for syncs in with_failures if syncs is not None]
         if not tried or len(tried) < len(with_failures):
             return None
