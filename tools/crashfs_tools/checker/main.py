@@ -6,9 +6,7 @@ from __future__ import annotations
 import os
 import sys
 import tempfile
-from functools import reduce
-from operator import and_
-from typing import Dict, List, Optional
+from typing import Callable, List, NamedTuple, Optional
 
 from crashfs_tools.api.reports import Report
 from crashfs_tools.checker.report.report import NOT_ALL_TRIED
@@ -27,12 +25,22 @@ from crashfs_tools.common.streams import (
 )
 from crashfs_tools.common.whole_files import folder_to_write
 
-from .checked_trace import mode_of_report, refuse_unreadable
-from .checking import Interrupted, check_trace
+from .checking import CheckResult, Interrupted, check_trace
 from .command_line import read_options
 from .options import NAME, Options
 
 BAD_INPUT = 2
+# The path of an output that is no file.
+STANDARD_OUTPUT = '-'
+
+
+class Output(NamedTuple):
+    """A file to write: the option that names it, its path, which may be STANDARD_OUTPUT, and the
+    method that writes it."""
+
+    option: str
+    path: str
+    write: Callable[[Report, str], None]
 
 
 def carry_out(options: Options) -> int:
@@ -43,6 +51,8 @@ def carry_out(options: Options) -> int:
     starts later inherit only the standard streams."""
     refuse_wrong_outputs(options)
     if options.merge is not None:
+        from .merging import merge_reports
+
         return write_and_print(options, merge_reports(options))
     limit_inherited_descriptors()
     with Guard(NAME) as guard:
@@ -51,23 +61,10 @@ def carry_out(options: Options) -> int:
 
             return show_state(options, guard)
         checked = check_trace(options, guard, Progress(sys.stderr))
-    status = write_and_print(options, Report(checked.report, checked.mode))
+    status = write_and_print(options, checked)
     if checked.exception is not None:
         raise checked.exception
     return status
-
-
-def merge_reports(options: Options) -> Report:
-    """The report of the files of --merge. Files that are written of it get the strictest mode of
-    those of --merge and, if it is given, TRACE. Refused as merged_report(), or if TRACE can't be
-    read; OSError if a file is gone."""
-    from .merging import merged_report
-
-    sources = list(options.merge or [])
-    if options.trace is not None:
-        refuse_unreadable(options.trace)
-        sources.append(options.trace)
-    return Report(merged_report(options), strictest_mode(sources))
 
 
 def refuse_wrong_outputs(options: Options) -> None:
@@ -76,54 +73,40 @@ def refuse_wrong_outputs(options: Options) -> None:
     reports of --resume and --merge may be replaced."""
     inputs = {'TRACE': options.trace, '--accept': options.accept}
     names = {os.path.realpath(path): name for name, path in inputs.items() if path is not None}
-    for name, path in outputs_of(options).items():
+    for name, path, _ in outputs_of(options):
         folder_to_write(path)
+        is_file_name = path != STANDARD_OUTPUT
         # No real path is `-`: standard output is never taken for a file with that name.
-        real_path = path if path == '-' else os.path.realpath(path)
-        first_name = names.setdefault(real_path, name)
-        is_device = path != '-' and os.path.exists(path) and not os.path.isfile(path)
+        first_name = names.setdefault(os.path.realpath(path) if is_file_name else path, name)
+        is_device = is_file_name and os.path.exists(path) and not os.path.isfile(path)
         if first_name != name and not is_device:
             raise Refused(f'{name} {path}: that is {first_name}')
 
 
-def outputs_of(options: Options) -> Dict[str, str]:
-    """The paths of the files to write, by the options that name them, in the order in which they
-    are written; `-` is standard output."""
-    outputs = {
-        '--json': options.json,
-        '--junit': options.junit,
-        '--tap': options.tap,
-        '--html': options.html,
-    }
-    return {name: path for name, path in outputs.items() if path is not None}
+def outputs_of(options: Options) -> List[Output]:
+    """The files to write, in the order in which they are written."""
+    outputs = [
+        ('--json', options.json, Report.write_json),
+        ('--junit', options.junit, Report.write_junit),
+        ('--tap', options.tap, Report.write_tap),
+        ('--html', options.html, Report.write_html),
+    ]
+    return [Output(option, path, write) for option, path, write in outputs if path is not None]
 
 
-def strictest_mode(paths: List[str]) -> int:
-    """The mode of a file that shows parts of the files at all these paths, at least one: as
-    mode_of_report(), but users other than its owner have only rights that they have to each of
-    these files. OSError if a file is gone."""
-    return reduce(and_, (mode_of_report(os.stat(path)) for path in paths))
-
-
-def write_and_print(options: Options, report: Report) -> int:
+def write_and_print(options: Options, checked: CheckResult) -> int:
     """Writes the files of outputs_of(), in their order, then prints the report: on standard error
     if one of the files is standard output. Returns the exit status. If a file can't be written, the
     later ones aren't written either; the report is printed nevertheless, and then the OSError is
     raised; an OSError of the printing is raised in its place."""
-    writers = {
-        '--json': report.write_json,
-        '--junit': report.write_junit,
-        '--tap': report.write_tap,
-        '--html': report.write_html,
-    }
-    outputs = outputs_of(options)
+    report, outputs = Report(checked.report, checked.mode), outputs_of(options)
     write_error = None
     try:
-        for name, path in outputs.items():
-            writers[name](path)
+        for output in outputs:
+            output.write(report, output.path)
     except OSError as error:
         write_error = error
-    if '-' in outputs.values():
+    if any(output.path == STANDARD_OUTPUT for output in outputs):
         print(report, file=sys.stderr)
     else:
         with flushed_output():

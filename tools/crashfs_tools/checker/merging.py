@@ -2,7 +2,10 @@
 
 from __future__ import annotations
 
-from typing import Dict, Optional
+import os
+from functools import reduce
+from operator import and_
+from typing import Dict, List, Optional
 
 from crashfs_tools.checker.findings.groups import Findings
 from crashfs_tools.checker.findings.tree_diff import find_differences
@@ -16,8 +19,8 @@ from crashfs_tools.common.command import Refused
 from crashfs_tools.common.guard import Guard
 from crashfs_tools.common.program import Crashfs
 
-from .checked_trace import CheckedTrace
-from .checking import new_report
+from .checked_trace import CheckedTrace, mode_of_report, refuse_unreadable
+from .checking import CheckResult, new_report
 from .options import NAME, Options
 
 OTHER_TRACE = 'that is not the trace of the reports'
@@ -27,7 +30,25 @@ OTHER_PLAN = (
 )
 
 
-def merged_report(options: Options) -> CheckReport:
+def merge_reports(options: Options) -> CheckResult:
+    """The report of the files of --merge, at least one, with the strictest_mode() of these and, if
+    it is given, TRACE. Refused as report_of_shards(), or if TRACE can't be read; OSError if a file
+    is gone."""
+    sources = list(options.merge or [])
+    if options.trace is not None:
+        refuse_unreadable(options.trace)
+        sources.append(options.trace)
+    return CheckResult(report_of_shards(options), strictest_mode(sources))
+
+
+def strictest_mode(paths: List[str]) -> int:
+    """The mode of a file that shows parts of the files at all these paths, at least one: as
+    mode_of_report(), but users other than its owner have only rights that they have to each of
+    these files. OSError if a file is gone."""
+    return reduce(and_, (mode_of_report(os.stat(path)) for path in paths))
+
+
+def report_of_shards(options: Options) -> CheckReport:
     """The report of the files of --merge, at least one. If TRACE is given, its states are made
     again to show how files differ; otherwise no program runs. Refused as read_shard(),
     merge_shards() and report_of_results(), if the files are of another trace, or if the program
