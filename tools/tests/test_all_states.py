@@ -50,7 +50,7 @@ def wanted_trials(text: str) -> Set[Tuple[object, int]]:
 class Listing(InFolder):
     def planner(self, program: Any, most: int = 20_000) -> Planner:
         options: Any = SimpleNamespace(
-            **OPTIONS, has_every=True, most_states=most, profile=None, draw_count=50
+            **OPTIONS, may_try_all=True, most_states=most, profile=None, draw_count=50
         )
         guard: Any = SimpleNamespace(directory=self.temporary, environment=None)
         return Planner(options, program, guard)

@@ -75,7 +75,7 @@ class AllWindows(InFolder):
     ) -> Tuple[Windows, int, Set[Tuple[object, int]]]:
         """The windows, how many they are, and what all their states leave."""
         options: Any = SimpleNamespace(
-            **OPTIONS, has_every=True, most_states=most, profile=None, draw_count=50
+            **OPTIONS, may_try_all=True, most_states=most, profile=None, draw_count=50
         )
         guard: Any = SimpleNamespace(directory=self.temporary, environment=None)
         program: Any = Reader()

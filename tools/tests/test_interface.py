@@ -15,7 +15,7 @@ from typing import List
 
 import crashfs_tools
 from crashfs_tools import Refused, check, record, states
-from crashfs_tools.api.checks import set_recovery
+from crashfs_tools.api.checks import with_text_path
 from crashfs_tools.checker.options import Options
 from crashfs_tools.checker.running.recoveries import FunctionRecovery, cause_text
 
@@ -189,10 +189,8 @@ class Checks(InterfaceCase):
             (Opening(), 'test_interface.Opening'),
             (Opening().reads, 'test_interface.Opening.reads'),
         ):
-            options = Options('t')
-            set_recovery(options, named)
-            assert options.function is not None
-            self.assertEqual(FunctionRecovery(options.function).words, [f'{__package__}.{name}'])
+            words = FunctionRecovery(with_text_path(named)).words
+            self.assertEqual(words, [f'{__package__}.{name}'])
 
     def test_what_a_function_starts_can_be_ended_by_the_guard(self) -> None:
         outer = os.environ.get('CRASHFS_GUARD')

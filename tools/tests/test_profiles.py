@@ -50,7 +50,7 @@ def allowed_trees(text: str) -> Dict[TreeAndCount, Set[str]]:
 class Planning(InFolder):
     def planner(self, profile: str, program: Any) -> Planner:
         options: Any = SimpleNamespace(
-            **OPTIONS, has_every=True, most_states=20_000, profile=profile, draw_count=50
+            **OPTIONS, may_try_all=True, most_states=20_000, profile=profile, draw_count=50
         )
         guard: Any = SimpleNamespace(directory=self.temporary, environment=None)
         return Planner(options, program, guard)

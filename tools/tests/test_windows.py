@@ -107,7 +107,7 @@ class InWindows(InStore):
             has_lost=not quick,
             has_files=not quick,
             serve=None,
-            has_every=False,
+            may_try_all=False,
             profile=None,
         )
         guard = SimpleNamespace(directory=self.temporary, environment={})

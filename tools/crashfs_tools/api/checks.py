@@ -5,11 +5,18 @@ from __future__ import annotations
 import functools
 import io
 import os
+from dataclasses import replace
 from pathlib import Path
-from typing import Any, Callable, List, Optional, Sequence, Union
+from typing import Any, Callable, List, Optional, Sequence, Tuple, Union
 
 from crashfs_tools.checker.checking import check_trace
-from crashfs_tools.checker.options import NAME, TIMEOUT, Options, processor_count
+from crashfs_tools.checker.options import (
+    NAME,
+    TIMEOUT,
+    Options,
+    RecoveryFunction,
+    processor_count,
+)
 from crashfs_tools.checker.running.progress import Progress
 from crashfs_tools.common.command import Refused
 from crashfs_tools.common.guard import Guard
@@ -58,18 +65,17 @@ def check(
     options.jobs, options.nested, options.fail_fast = jobs or processor_count(), nested, fail_fast
     options.time_limit, options.timeout = time_limit, timeout
     options.crashfs, options.accept, options.cache = map(path_text, (crashfs, accept, cache))
-    options.json = options.html = '-'  # The report keeps what they need; nothing is written.
-    set_recovery(options, recovery)
+    options.command, options.function = command_and_function(recovery)
     return run_check(options)
 
 
 def run_check(options: Options) -> Report:
-    """Runs a check with these options, which must have their recovery, and returns its report. An
-    exception that ends the check early is raised, and what was tried is lost then. Refused too as
-    in refuse_every_with_families()."""
-    refuse_every_with_families(options)
+    """Runs a check with these options, which must have their recovery, and returns its report,
+    which keeps all that a Report has. An exception that ends the check early is raised, and what
+    was tried is lost then. Refused too as in refuse_wrong_options()."""
+    refuse_wrong_options(options)
     with Guard(NAME, may_reap=False) as guard:
-        checked = check_trace(options, guard, Progress(io.StringIO()), has_states=True)
+        checked = check_trace(replace(options, keeps_all=True), guard, Progress(io.StringIO()))
     if checked.exception is not None:
         raise checked.exception.__cause__ or checked.exception
     return Report(checked.report, checked.mode)
@@ -80,11 +86,37 @@ def path_text(path: Optional[PathLike]) -> Optional[str]:
     return None if path is None else os.fspath(path)
 
 
-def refuse_every_with_families(options: Options) -> None:
-    """Refused if the options have `every` and ask only for families of states: these can't be
-    combined."""
-    if options.every is not None and not options.has_every:
+def refuse_wrong_options(options: Options) -> None:
+    """Refused if some of the options can't be combined: a recovery function with nested or cache,
+    or `every` with families of states."""
+    if options.function is not None and (options.nested or options.cache):
+        raise Refused('nested and cache need a recovery that is a command')
+    if options.every is not None and not options.may_try_all:
         raise Refused('every goes with no families, prefixes or quick')
+
+
+def command_and_function(
+    recovery: Union[PathRecovery, Sequence[str]]
+) -> Tuple[List[str], Optional[RecoveryFunction]]:
+    """What the options have of a recovery, as `command` and `function`: a list of words, or a text
+    as the only word, is a command. The other one of the two is empty or None."""
+    if isinstance(recovery, str):
+        return [recovery], None
+    if isinstance(recovery, Sequence):
+        return list(recovery), None
+    return [], with_text_path(recovery)
+
+
+def with_text_path(recovery: PathRecovery) -> RecoveryFunction:
+    """A function that takes its directory as a text, and calls a recovery with it as a Path. It has
+    the module and the name of named_callable()."""
+
+    @functools.wraps(named_callable(recovery), updated=())
+    def recover_in_text_path(directory: str, lines: List[str]) -> object:
+        """Calls the recovery with the directory as a Path. What it raises is passed on."""
+        return recovery(Path(directory), lines)
+
+    return recover_in_text_path
 
 
 def named_callable(recovery: PathRecovery) -> Any:
@@ -94,25 +126,3 @@ def named_callable(recovery: PathRecovery) -> Any:
     while isinstance(recovery, functools.partial):
         recovery = recovery.func
     return recovery if hasattr(recovery, '__qualname__') else type(recovery)
-
-
-def set_recovery(options: Options, recovery: Union[PathRecovery, Sequence[str]]) -> None:
-    """Sets a recovery in the options: a list of words, or a text that is one program, as COMMAND; a
-    function as one that gets its directory as a Path, with the module and name of named_callable().
-    Refused for a function if the options have nested or cache, which need a command and must be set
-    before."""
-    if isinstance(recovery, Sequence):
-        options.command = [recovery] if isinstance(recovery, str) else list(recovery)
-        return
-    if options.nested or options.cache:
-        raise Refused('nested and cache need a recovery that is a command')
-
-    # mypy forgets in an inner function that it is no Sequence.
-    function = recovery
-
-    @functools.wraps(named_callable(function), updated=())
-    def recover_in_text_path(directory: str, lines: List[str]) -> object:
-        """Calls the function with the directory as a Path. What it raises is passed on."""
-        return function(Path(directory), lines)
-
-    options.function = recover_in_text_path

@@ -20,7 +20,7 @@ from crashfs_tools.common.guard import Guard
 from crashfs_tools.common.program import Crashfs
 from crashfs_tools.common.removal import remove_tree
 
-from .checks import path_text, refuse_every_with_families
+from .checks import path_text, refuse_wrong_options
 from .reports import PathLike
 
 
@@ -82,7 +82,7 @@ def states(
     options = Options(os.fspath(trace), every=every, families=families, prefixes=prefixes)
     options.quick, options.profile = quick, profile
     options.crashfs, options.unproved = path_text(crashfs), unproved
-    refuse_every_with_families(options)
+    refuse_wrong_options(options)
     refuse_unreadable(os.fspath(trace))
     program = Crashfs.find_or_second_reading(options.crashfs, is_unproved=unproved)
     with Guard(NAME, may_reap=False) as guard:

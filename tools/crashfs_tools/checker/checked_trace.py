@@ -146,8 +146,9 @@ class CheckedTrace:
 
     def digest(self) -> str:
         """The trace's SHA-256, in hexadecimal digits; an empty text unless --json, --resume or
-        --merge is given, which need the digest."""
-        if not (self.options.json or self.options.resume or self.options.merge):
+        --merge is given, or keeps_all, which need the digest."""
+        options = self.options
+        if not (options.json or options.resume or options.merge or options.keeps_all):
             return ''
         import hashlib
 

@@ -5,6 +5,7 @@ from __future__ import annotations
 
 import os
 from contextlib import contextmanager
+from dataclasses import replace
 from functools import cached_property
 from typing import TYPE_CHECKING, Callable, Iterator, List, NamedTuple, Optional
 
@@ -51,10 +52,12 @@ class CheckResult(NamedTuple):
 
 
 class Window(NamedTuple):
-    """A window of a session, or the whole session: where its states are tried, and the findings."""
+    """A window of a session, or the whole session: where its states are tried, the findings, and
+    whether each state that was chosen has an outcome."""
 
     trials: Trials
     findings: Findings
+    is_whole: bool
 
 
 class Check:
@@ -109,18 +112,16 @@ class Check:
         return CheckResult(self.report, self.trace.mode, exception)
 
     def note_end(self, cause: str) -> None:
-        """Notes the cause that ended the check early. The report names it unless all states were
-        tried (has_tried_all). Of several causes the first one stays."""
+        """Notes the cause that ended the check early. Of several causes the first one stays."""
         self.end_cause = self.end_cause or cause
-        if not self.has_tried_all:
-            self.head.stopped = self.head.stopped or cause
 
     def complete_report(self) -> None:
-        """Adds to the report what is only known at the end: what wasn't tried and why, and how many
-        outcomes came from the cache. After the time limit it also runs the last window's examples
-        again; no run begins after RERUN_SECONDS. Saves the cache, also if these runs raise an
-        exception."""
+        """Adds to the report what is only known at the end: what stopped the check, unless all
+        states were tried, what wasn't tried and why, and how many outcomes came from the cache.
+        After the time limit it also runs the last window's examples again; no run begins after
+        RERUN_SECONDS. Saves the cache, also if these runs raise an exception."""
         window = self.last_window
+        self.head.stopped = '' if self.has_tried_all else self.end_cause
         self.head.has_rest = window is not None and not window.trials.planned.is_last
         if self.trace.windows is not None:
             self.head.cut_off = self.trace.windows.cut_off
@@ -149,25 +150,23 @@ class Check:
         of a second crash ends it after its recovery. Any other early end is an exception."""
         for planned in self.trace.all_planned():
             trials = Trials(self.trace.workplace, planned, loads_all_trees=True)
-            is_whole = self.try_window(trials)
-            assert self.last_window is not None
-            window = self.last_window
+            window = self.try_window(trials)
             self.report_losses(window)
             self.report_reruns(window)
-            self.has_tried_all = planned.is_last and is_whole
+            self.has_tried_all = planned.is_last and window.is_whole
             may_end_early = self.options.fail_fast and not self.has_tried_all
-            if not is_whole or (may_end_early and window.findings.groups):
+            if not window.is_whole or (may_end_early and window.findings.groups):
                 self.note_end(FIRST_FAILURE)
                 return
             self.report_details(window)
             if self.end_cause:
                 return
 
-    def try_window(self, trials: Trials) -> bool:
-        """Tries the states of a window, and returns whether each that was chosen has an outcome.
-        Sets last_window, and adds the findings to the report, also after an exception of the
-        trials, as in Trials.try_all(). Before the trials it is Refused if --resume has another
-        window here; for the first window other errors as in prepare_first_window()."""
+    def try_window(self, trials: Trials) -> Window:
+        """Tries the states of a window, and returns the window. Sets last_window, and adds the
+        findings to the report, also after an exception of the trials, as in Trials.try_all().
+        Before the trials it is Refused if --resume has another window here; for the first window
+        other errors as in prepare_first_window()."""
         previous, planned = self.last_window, trials.planned
         numbers_before = find_numbers_before(previous.trials.plan, planned.plan) if previous else {}
         results = Results(planned.plan, numbers_before=numbers_before)
@@ -175,12 +174,16 @@ class Check:
             self.add_earlier_outcomes(results, self.earlier_results.windows)
         if previous is None:
             self.prepare_first_window(trials, results)
+        is_whole = False
         try:
-            return trials.try_all(results, self.make_saver(results, has_rest=not planned.is_last))
+            save = self.make_saver(results, has_rest=not planned.is_last)
+            is_whole = trials.try_all(results, save)
         finally:
             previous_outcomes = previous.findings.outcomes_by_state if previous else {}
-            self.last_window = Window(trials, Findings(self.head, results, previous_outcomes))
-            self.report.add(self.last_window.findings)
+            window = Window(trials, Findings(self.head, results, previous_outcomes), is_whole)
+            self.last_window = window
+            self.report.add(window.findings)
+        return window
 
     def prepare_first_window(self, trials: Trials, results: Results) -> None:
         """Sets the lines of the head, opens the cache of --cache, and tries the tree at the
@@ -309,11 +312,10 @@ class Check:
         return SecondCrashTrials(self.options.nested)
 
 
-def new_check(trace: CheckedTrace, *, has_states: bool = False) -> Check:
+def new_check(trace: CheckedTrace) -> Check:
     """A check of a trace that isn't begun. Reads the files of --accept and --resume, if they are
-    given. With has_states the report keeps the outcome of each state. Refused as new_report() and
-    read_earlier_results()."""
-    report = new_report(trace.new_head(), trace.options, has_states=has_states)
+    given. Refused as new_report() and read_earlier_results()."""
+    report = new_report(trace.new_head(), trace.options)
     return Check(trace, report, read_earlier_results(trace.options.resume, report.head))
 
 
@@ -338,23 +340,23 @@ def interrupted_by(fault: Exception) -> Interrupted:
     return interrupted
 
 
-def new_report(head: Head, options: Options, *, has_states: bool = False) -> CheckReport:
+def new_report(head: Head, options: Options) -> CheckReport:
     """A report without findings, with the failures of --accept if it is given. It keeps what --json
-    and --html need only if the options have them, and the outcome of each state with has_states.
-    Refused if the file of --accept can't be read, or isn't a list of accepted failures."""
+    and --html need if the options have them, and all with keeps_all. Refused if the file of
+    --accept can't be read, or isn't a list of accepted failures."""
     return CheckReport(
         head,
-        has_json=options.json is not None,
-        has_page=options.html is not None,
-        has_states=has_states,
+        has_json=options.keeps_all or options.json is not None,
+        has_page=options.keeps_all or options.html is not None,
+        has_states=options.keeps_all,
         accept_list=AcceptedFailures.read(options.accept) if options.accept else None,
     )
 
 
 @contextmanager
 def open_trace(options: Options, guard: Guard, progress: Progress) -> Iterator[CheckedTrace]:
-    """Yields the trace that some options name, ready for a check. Changes their `command`: its
-    program gets its absolute path, or it becomes the name of the function. Refused if the trace,
+    """Yields the trace that some options name, ready for a check. Its own options have a `command`
+    with the absolute path of the program, or with the name of the function. Refused if the trace,
     the program, COMMAND or a file system of --disks can't be used, and in the place of a
     ProgramFault that is raised within the `with`. OSError as CheckedTrace.read()."""
     refuse_unreadable(options.trace or '')
@@ -364,19 +366,16 @@ def open_trace(options: Options, guard: Guard, progress: Progress) -> Iterator[C
         require_filesystems(options.disks)
     program = Crashfs.find_or_second_reading(options.crashfs, is_unproved=options.unproved)
     if options.function is None:
-        options.command = with_program_path(options.command)
+        command = with_program_path(options.command)
     else:
-        options.command = FunctionRecovery(options.function).words
-    trace = CheckedTrace.read(options, program, guard, progress)
+        command = FunctionRecovery(options.function).words
+    trace = CheckedTrace.read(replace(options, command=command), program, guard, progress)
     with trace.refused_faults():
         yield trace
 
 
-def check_trace(
-    options: Options, guard: Guard, progress: Progress, *, has_states: bool = False
-) -> CheckResult:
-    """Checks the trace that some options name; open_trace() changes their `command`. Returns or
-    raises what Check.run() does; raises too what open_trace() and new_check() do. With has_states
-    the report keeps the outcome of each state. `progress` shows how far the check is."""
+def check_trace(options: Options, guard: Guard, progress: Progress) -> CheckResult:
+    """Checks the trace that some options name. Returns or raises what Check.run() does; raises too
+    what open_trace() and new_check() do. `progress` shows how far the check is."""
     with open_trace(options, guard, progress) as trace:
-        return new_check(trace, has_states=has_states).run()
+        return new_check(trace).run()

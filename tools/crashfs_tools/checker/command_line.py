@@ -3,7 +3,7 @@
 from __future__ import annotations
 
 import argparse
-from typing import Any, Dict, List, Optional, Tuple
+from typing import Any, Dict, List
 
 from crashfs_tools.common.command import (
     parse_command_line,
@@ -13,7 +13,16 @@ from crashfs_tools.common.command import (
 )
 
 from .address import Address
-from .options import MOST_JOBS, MOST_STATES, NAME, TIMEOUT, Options, Shard, processor_count
+from .options import (
+    MOST_JOBS,
+    MOST_STATES,
+    NAME,
+    TIMEOUT,
+    Options,
+    Shard,
+    StateNumber,
+    processor_count,
+)
 
 DESCRIPTION = """\
 Runs COMMAND in the crash states of a trace, and reports in which states it fails, and why.
@@ -73,14 +82,14 @@ def parse_job_count(text: str) -> int:
     return count
 
 
-def parse_state(text: str) -> Tuple[int, Optional[int]]:
-    """N and None for the text `N`, which names a state; N and M for `N/M`, which names state M of
-    the recovery of state N. ArgumentTypeError for any other text."""
+def parse_state(text: str) -> StateNumber:
+    """The state of `N` or, for `N/M`, state M of the recovery of state N. ArgumentTypeError for any
+    other text."""
     state_text, separator, recovery_text = text.partition('/')
     state, recovery_state = parse_number(state_text), parse_number(recovery_text)
     if state is None or (separator and recovery_state is None):
         raise argparse.ArgumentTypeError(f'{text} is neither N nor N/M')
-    return state, recovery_state
+    return StateNumber(state, recovery_state)
 
 
 def parse_names(text: str) -> List[str]:
@@ -267,7 +276,8 @@ def make_parser() -> argparse.ArgumentParser:
 
 def with_default_every(words: List[str]) -> List[str]:
     """A copy of the arguments, in which each --every that no number follows has the number
-    MOST_STATES. An abbreviation such as --ever stays, and so does all after the first `--`."""
+    MOST_STATES: argparse would take the next argument, such as TRACE, for the number. An
+    abbreviation such as --ever stays, and so does all after the first `--`."""
     end = words.index('--') if '--' in words else len(words)
     next_words = [*words[1:end], '']
     own_words = [

@@ -4,7 +4,7 @@ from __future__ import annotations
 
 import os
 from dataclasses import dataclass, field
-from typing import Callable, List, NamedTuple, Optional, Tuple
+from typing import Callable, List, NamedTuple, Optional
 
 from .address import Address
 
@@ -39,11 +39,20 @@ class Shard(NamedTuple):
         return numbers[self.part - 1 :: self.parts]
 
 
+class StateNumber(NamedTuple):
+    """The state that --state names: a state of the trace, by its number. With recovery_number it is
+    the state with that number of the recovery of this state."""
+
+    number: int
+    recovery_number: Optional[int] = None
+
+
 @dataclass
 class Options:
     """What a check does, as the options of the command line say it, by their names; command is what
     follows `--`. function is a recovery in the place of COMMAND. window is the most
-    micro-operations of a window, for tests."""
+    micro-operations of a window, for tests. With keeps_all, which is for programs, the report keeps
+    the outcome of each state, and what --json and --html need."""
 
     trace: Optional[str] = None
     command: List[str] = field(default_factory=list)
@@ -58,7 +67,7 @@ class Options:
     lost: bool = False
     files: bool = False
     nested: int = 0
-    state: Optional[Tuple[int, Optional[int]]] = None
+    state: Optional[StateNumber] = None
     fail_fast: bool = False
     time_limit: Optional[float] = None
     json: Optional[str] = None
@@ -76,6 +85,7 @@ class Options:
     accept: Optional[str] = None
     cache: Optional[str] = None
     function: Optional[RecoveryFunction] = None
+    keeps_all: bool = False
 
     @property
     def recovery_name(self) -> str:
@@ -89,7 +99,7 @@ class Options:
         return self.quick or self.prefixes or self.serve is not None
 
     @property
-    def has_every(self) -> bool:
+    def may_try_all(self) -> bool:
         """Whether all crash states are asked for, not only families. They are tried if they aren't
         too many (most_states) and not too slow (most_seconds). False for families, even if `every`
         is set."""

@@ -60,10 +60,10 @@ class Planner:
         if the readings differ in what a micro-operation needs; ProgramFault if the program fails to
         print sets; OSError if a file can't be read or written."""
         options = self.options
-        if not (options.has_lost or options.has_files or options.has_every or options.profile):
+        if not (options.has_lost or options.has_files or options.may_try_all or options.profile):
             return self.plan_picks(trace, offsets, [])
         reading_sets = self.read_trace(trace)
-        if options.has_every:
+        if options.may_try_all:
             all_crash_sets = all_sets(self.program, self.guard.environment, reading_sets)
             with all_crash_sets.started(options.most_states):
                 planned = self.plan_all_states(trace, offsets, reading_sets, all_crash_sets)
@@ -239,7 +239,7 @@ class Planner:
         sets = list(needs.masks) if self.options.has_lost else []
         if self.options.has_files:
             sets += file_sets(reading_sets.trace_order, reading_sets.trees)
-        if self.options.has_every:
+        if self.options.may_try_all:
             operations = reading_sets.reading.operations
             sets += needs.sets_without_lines(operation.line_number for operation in operations)
         return self.without_listed(needs, dict.fromkeys(sets))
