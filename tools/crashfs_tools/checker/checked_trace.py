@@ -59,8 +59,7 @@ def read_trace_file(path: str, guard: Guard) -> TraceFile:
 @dataclass
 class CheckedTrace:
     """A trace that is checked by one program, which must take traces of this version. path, text
-    and mode are those of its TraceFile. windows is None until all_planned() finds that the trace
-    needs windows; for a trace that is tried whole it stays None."""
+    and mode are those of its TraceFile."""
 
     options: Options
     path: str
@@ -70,7 +69,6 @@ class CheckedTrace:
     guard: Guard
     planner: Planner
     progress: Progress
-    windows: Optional[Windows] = None
 
     @staticmethod
     def read(
@@ -86,25 +84,40 @@ class CheckedTrace:
         planner, progress = Planner(options, program, guard), progress or Progress(None)
         return CheckedTrace(options, path, text, mode, program, guard, planner, progress)
 
-    def all_planned(self) -> Iterator[PlannedTrace]:
-        """Yields the plan of the trace or, if --window is given or the trace is too long for one
-        plan, that of each window, whose files are removed when the next plan is asked for. Each
-        call plans again, and sets `windows` for a trace in windows. Refused for a trace with a
-        fault, and for one that is too long with --serve or --disks; PlanError or ProgramFault if
-        the program fails otherwise; OSError if a file can't be read, written or removed."""
-        if self.options.window is None:
-            try:
-                yield self.planner.plan(self.path)
-                return
-            except TooLarge as fault:
-                if self.options.serve is not None:
-                    raise Refused(f'{fault} (--serve has no windows)') from fault
-                if self.options.disks is not None:
-                    raise Refused(f'{fault} (--disks has no windows)') from fault
+    @cached_property
+    def whole_plan(self) -> Optional[PlannedTrace]:
+        """The plan of the whole trace. None if --window is given, or if the trace is too long for
+        one plan: then it has windows. Refused for a trace with a fault, and for one that is too
+        long with --serve or --disks; PlanError or ProgramFault if the program fails otherwise;
+        OSError if a file can't be read or written."""
+        if self.options.window is not None:
+            return None
+        try:
+            return self.planner.plan(self.path)
+        except TooLarge as fault:
+            if self.options.serve is not None:
+                raise Refused(f'{fault} (--serve has no windows)') from fault
+            if self.options.disks is not None:
+                raise Refused(f'{fault} (--disks has no windows)') from fault
+        return None
+
+    @cached_property
+    def windows(self) -> Optional[Windows]:
+        """The windows of a trace that has no whole_plan, else None. Errors as in whole_plan."""
+        if self.whole_plan is not None:
+            return None
         from crashfs_tools.checker.states.windows import windows_of
 
-        self.windows = windows_of(self.planner, self.options, self.text)
-        yield from self.windows.all_planned()
+        return windows_of(self.planner, self.options, self.text)
+
+    def all_planned(self) -> Iterator[PlannedTrace]:
+        """Yields whole_plan or, for a trace in windows, the plan of each window, whose files are
+        removed when the next plan is asked for. Call it once for a trace in windows. Errors as in
+        whole_plan; OSError also if a file can't be removed."""
+        if self.windows is not None:
+            yield from self.windows.all_planned()
+        elif self.whole_plan is not None:
+            yield self.whole_plan
 
     @cached_property
     def lines(self) -> TraceText:
@@ -157,9 +170,8 @@ class CheckedTrace:
     def plan_end(self) -> Optional[PlannedTrace]:
         """Plans the end of a session in windows: a trace that starts with the tree there and does
         nothing. Its only state is that tree with all acknowledged lines; the state's number is
-        NUMBER_OF_END. None for a session in one plan, which has that tree. Call it after
-        all_planned() has yielded a plan. Errors as in Planner.plan(); OSError if the trace can't be
-        written."""
+        NUMBER_OF_END. None for a session in one plan, which has that tree. Errors as in whole_plan;
+        OSError also if the trace can't be written."""
         if self.windows is None:
             return None
         path, line_count = self.windows.write_end(), len(self.lines.acknowledged)

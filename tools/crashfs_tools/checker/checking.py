@@ -123,7 +123,7 @@ class Check:
         window = self.last_window
         self.head.stopped = '' if self.has_tried_all else self.end_cause
         self.head.has_rest = window is not None and not window.trials.planned.is_last
-        if self.trace.windows is not None:
+        if window is not None and self.trace.windows is not None:
             self.head.cut_off = self.trace.windows.cut_off
         self.report.not_done = list(self.options_not_done())
         try:
