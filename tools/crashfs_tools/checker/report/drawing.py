@@ -57,8 +57,8 @@ def picks_of(findings: Findings) -> List[List[Any]]:
         if state.trial not in shown_trials:
             shown_trials.add(state.trial)
             lost_count = size_of(plan.set_lost_by(state))
-            picks.append([state.number, sign_of(findings, state), lost_count])
-    return sorted(picks, key=lambda pick: (pick[2], pick[0]))
+            picks.append((lost_count, state.number, sign_of(findings, state)))
+    return [[number, sign, lost_count] for lost_count, number, sign in sorted(picks)]
 
 
 def sign_of(findings: Findings, state: State) -> str:

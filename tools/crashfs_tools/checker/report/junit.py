@@ -32,17 +32,17 @@ def junit_lines(report: CheckReport) -> Iterator[str]:
     entries: List[ReportEntry] = [(group, None) for group in report.groups()]
     entries += report.recovery_groups()
     seconds = report.seconds
-    name = xml_attribute(f'crashfs-check {report.head.trace}')
+    suite = f'crashfs-check {report.head.trace}'
+    counts = suite_counts(report, entries)
     yield '<?xml version="1.0" encoding="UTF-8"?>\n'
-    yield f'<testsuite name={name} {suite_counts(report, entries)} time="{seconds:.3f}">\n'
+    yield f'<testsuite name={xml_attribute(suite)} {counts} time="{seconds:.3f}">\n'
     for entry, case_name in zip(entries, case_names(entries)):
-        attributes = f'classname={name} name={xml_attribute(case_name)}'
-        yield from case_lines(report, *entry, attributes)
+        yield from case_lines(report, *entry, suite, case_name)
     yield from chain.from_iterable(
-        disk_case_lines(failure, name) for failure in report.disk_failures()
+        disk_case_lines(failure, suite) for failure in report.disk_failures()
     )
     other_seconds = seconds - sum(group.rerun_seconds for group, _ in entries)
-    yield from others_case_lines(report, name, max(0.0, other_seconds))
+    yield from others_case_lines(report, suite, max(0.0, other_seconds))
     yield '</testsuite>\n'
 
 
@@ -60,26 +60,34 @@ def suite_counts(report: CheckReport, entries: List[ReportEntry]) -> str:
     """How many test cases the suite has, and how many of them are failures, errors and skipped, as
     attributes in XML. The case of all other states is counted too: as an error if the report isn't
     whole."""
-    results = [group.outcome.result for group, _ in entries if group.accepted_entry is None]
-    results += [failure.outcome.result for failure in report.disk_failures()]
-    skipped = sum(group.accepted_entry is not None for group, _ in entries)
-    failures = results.count(BAD)
-    errors = len(results) - failures + (0 if report.is_whole else 1)
+    disk_failures = report.disk_failures()
+    kinds = Counter(
+        fault_kind(group.outcome) if group.accepted_entry is None else 'skipped'
+        for group, _ in entries
+    )
+    kinds.update(fault_kind(failure.outcome) for failure in disk_failures)
+    errors = kinds['error'] + (0 if report.is_whole else 1)
     return (
-        f'tests="{len(results) + skipped + 1}" failures="{failures}" errors="{errors}" '
-        f'skipped="{skipped}"'
+        f'tests="{len(entries) + len(disk_failures) + 1}" failures="{kinds["failure"]}" '
+        f'errors="{errors}" skipped="{kinds["skipped"]}"'
     )
 
 
+def case_tag(suite: str, name: str, seconds: float) -> str:
+    """The tag that begins a test case of a suite, with the case's name and time."""
+    attributes = f'classname={xml_attribute(suite)} name={xml_attribute(name)}'
+    return f'<testcase {attributes} time="{seconds:.3f}">\n'
+
+
 def case_lines(
-    report: CheckReport, group: Group, second_crash: Optional[SecondCrash], attributes: str
+    report: CheckReport, group: Group, second_crash: Optional[SecondCrash], suite: str, name: str
 ) -> Iterator[str]:
     """The test case of an entry: a failure, or an error if COMMAND gave no answer. If the entry is
-    accepted, the case is skipped, and only has the reason. attributes has the class and the name of
-    the case, quoted. second_crash is None unless the entry is one of second crashes."""
+    accepted, the case is skipped, and only has the reason. `name` is that of the case, which isn't
+    always the cause. second_crash is None unless the entry is one of second crashes."""
     first_line, *details = ReportText(report).group_lines(group, second_crash)
     message = ' '.join(group.advice.lines()) or first_line.strip()
-    yield f'<testcase {attributes} time="{group.rerun_seconds:.3f}">\n'
+    yield case_tag(suite, name, group.rerun_seconds)
     if group.accepted_entry is not None:
         reason = xml_attribute(accepted_text(group.accepted_entry))
         yield f'<skipped message={reason}/>\n</testcase>\n'
@@ -89,24 +97,21 @@ def case_lines(
     yield '</testcase>\n'
 
 
-def others_case_lines(report: CheckReport, class_name: str, seconds: float) -> Iterator[str]:
+def others_case_lines(report: CheckReport, suite: str, seconds: float) -> Iterator[str]:
     """The test case of all states that are in no entry: an error if the report isn't whole, because
-    a state or a recovery wasn't tried. Its time is `seconds`. class_name has its quotes, and is
-    escaped."""
+    a state or a recovery wasn't tried. Its time is `seconds`."""
     report_text = ReportText(report)
-    name = xml_attribute(report_text.others_name)
-    yield f'<testcase classname={class_name} name={name} time="{seconds:.3f}">\n'
+    yield case_tag(suite, report_text.others_name, seconds)
     lines = report_text.others_fault_lines()
     if lines:
         yield fault_element('error', lines[0], lines)
     yield '</testcase>\n'
 
 
-def disk_case_lines(failure: DiskFailure, class_name: str) -> Iterator[str]:
+def disk_case_lines(failure: DiskFailure, suite: str) -> Iterator[str]:
     """The test case of a failure on disks that no tried state has: an error if COMMAND gave no
-    answer there. Its time is 0. class_name has its quotes, and is escaped."""
-    name = xml_attribute(failure.name)
-    yield f'<testcase classname={class_name} name={name} time="0.000">\n'
+    answer there. Its time is 0."""
+    yield case_tag(suite, failure.name, 0)
     lines = failure.lines()
     yield fault_element(fault_kind(failure.outcome), lines[0], lines)
     yield f'<system-out>{xml_text(failure.outcome.output)}</system-out>\n'

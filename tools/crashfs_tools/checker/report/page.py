@@ -37,7 +37,7 @@ def page_pieces(report: CheckReport) -> Iterator[str]:
     first_lines = [*report_text.first_lines(), *report_text.question_lines()]
     if report.recoveries:
         first_lines += report_text.recovery_counts()
-    yield elements('p class="summary"', first_lines)
+    yield elements('p', first_lines, css_class='summary')
     yield about_line(report)
     groups = sorted(report.groups(), key=lambda group: group.accepted_entry is not None)
     yield from chain.from_iterable(entry_section(report, group) for group in groups)
@@ -57,11 +57,11 @@ def shown_text(text: str) -> str:
     return html_text(text, '\n\t')
 
 
-def elements(tag: str, lines: Iterable[str]) -> str:
-    """Lines as HTML, each as an element with this tag: its name, such as `p` or `li`, and perhaps
-    attributes after a blank."""
-    name = tag.partition(' ')[0]
-    return ''.join(f'<{tag}>{shown_text(line)}</{name}>\n' for line in lines)
+def elements(tag: str, lines: Iterable[str], *, css_class: str = '') -> str:
+    """Lines as HTML, each as an element with this tag, such as `p` or `li`, and with this class of
+    the page's style, if it isn't empty."""
+    attribute = f' class="{css_class}"' if css_class else ''
+    return ''.join(f'<{tag}{attribute}>{shown_text(line)}</{tag}>\n' for line in lines)
 
 
 def states_section(report: CheckReport) -> Iterator[str]:
