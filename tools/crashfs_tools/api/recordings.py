@@ -10,7 +10,13 @@ from dataclasses import dataclass
 from pathlib import Path
 from typing import Callable, List, Mapping, Optional, Sequence, Union
 
-from crashfs_tools.common.command import Refused, code_to_run
+from crashfs_tools.common.command import (
+    TRACE_NOT_WHOLE,
+    TRACE_NOTED,
+    TRACE_WHOLE,
+    Refused,
+    code_to_run,
+)
 
 from .reports import PathLike
 
@@ -21,10 +27,10 @@ PathSession = Callable[[Path, Callable[[str], None]], object]
 RECORD = code_to_run('recorder.main')
 # Calls a function: its file, its module, its name, and where Python looks for modules.
 START = code_to_run('api.sessions')
-# The exit statuses of crashfs-record for a trace that is written; NOTED is that of a whole one.
-COMPLETE, NOTED, INCOMPLETE = 0, 4, 3
 # The descriptor for a function's acknowledged lines: what it prints is no such line.
 LINES = 3
+# A shell's command, for the words of another one. That has the descriptor open: crashfs-record sees
+# what is written to it, so this may be dropped.
 WITH_LINES = f'exec "$@" {LINES}>/dev/null'
 
 
@@ -102,9 +108,9 @@ def run_recorder(
     )
     lines = finished.stderr.decode('utf-8', 'replace').splitlines()
     messages = [line.removeprefix('crashfs-record: ') for line in lines]
-    if finished.returncode not in (COMPLETE, NOTED, INCOMPLETE):
+    if finished.returncode not in (TRACE_WHOLE, TRACE_NOTED, TRACE_NOT_WHOLE):
         raise Refused('\n'.join(messages) or f'crashfs-record: status {finished.returncode}')
-    return Recording(trace, finished.returncode != INCOMPLETE, messages)
+    return Recording(trace, finished.returncode != TRACE_NOT_WHOLE, messages)
 
 
 def session_command(session: Union[PathSession, Sequence[str]]) -> List[str]:

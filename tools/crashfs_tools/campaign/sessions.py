@@ -11,15 +11,19 @@ from dataclasses import dataclass, field
 from pathlib import Path
 from typing import Any, Dict, List, Optional, Sequence, Tuple
 
-from crashfs_tools.common.command import last_line
+from crashfs_tools.common.command import (
+    NONE_FAILS,
+    SOME_FAIL,
+    TRACE_NOTED,
+    TRACE_WHOLE,
+    last_line,
+)
 from crashfs_tools.common.removal import remove_tree
 
 from .options import CampaignOptions
 
 TOOLS = Path(__file__).resolve().parents[2]
 SEED = 'CRASHFS_SEED'
-RECORDED = (0, 4)
-NONE_FAILS, SOME_FAIL = 0, 1
 # The results of states in the check's JSON.
 BAD, NO_ANSWER = 'bad', 'no answer'
 NO_ENTRY = 'a failure has no entry in its report, as one of --nested'
@@ -72,7 +76,8 @@ class Sessions:
             shutil.copytree(self.options.start, store, symlinks=True)
         words = [*self.options.record, str(store), str(self.trace), '--', *self.options.session]
         status, error_text = self.run_tool('crashfs-record', words, {SEED: str(seed)})
-        return '' if status in RECORDED else fault_text('crashfs-record', status, error_text)
+        is_whole = status in (TRACE_WHOLE, TRACE_NOTED)
+        return '' if is_whole else fault_text('crashfs-record', status, error_text)
 
     def check(self, trace: Path, page: Optional[Path] = None) -> SessionVerdict:
         """Checks a trace with RECOVERY, and returns what verdict_of() makes of the report, or of

@@ -9,11 +9,10 @@ import tempfile
 from typing import Callable, List, NamedTuple, Optional
 
 from crashfs_tools.api.reports import Report
-from crashfs_tools.checker.report.report import NOT_ALL_TRIED
 from crashfs_tools.checker.running.progress import Progress
 from crashfs_tools.checker.running.runner import LeftRunning
 from crashfs_tools.checker.states.plan import PlanError
-from crashfs_tools.common.command import Refused, error_text, print_line
+from crashfs_tools.common.command import NOT_ALL_TRIED, Refused, error_text, print_line
 from crashfs_tools.common.guard import Guard
 from crashfs_tools.common.own_faults import print_own_fault
 from crashfs_tools.common.program import ProgramFault
@@ -34,7 +33,7 @@ BAD_INPUT = 2
 STANDARD_OUTPUT = '-'
 
 
-class Output(NamedTuple):
+class OutputFile(NamedTuple):
     """A file to write: the option that names it, its path, which may be STANDARD_OUTPUT, and the
     method that writes it."""
 
@@ -83,7 +82,7 @@ def refuse_wrong_outputs(options: Options) -> None:
             raise Refused(f'{name} {path}: that is {first_name}')
 
 
-def outputs_of(options: Options) -> List[Output]:
+def outputs_of(options: Options) -> List[OutputFile]:
     """The files to write, in the order in which they are written."""
     outputs = [
         ('--json', options.json, Report.write_json),
@@ -91,7 +90,7 @@ def outputs_of(options: Options) -> List[Output]:
         ('--tap', options.tap, Report.write_tap),
         ('--html', options.html, Report.write_html),
     ]
-    return [Output(option, path, write) for option, path, write in outputs if path is not None]
+    return [OutputFile(option, path, write) for option, path, write in outputs if path is not None]
 
 
 def write_and_print(options: Options, checked: CheckResult) -> int:
@@ -146,6 +145,7 @@ def main(arguments: Optional[List[str]] = None) -> int:
     except Interrupted as interrupted:
         print_fault(interrupted.__cause__ or interrupted)
     except (LeftRunning, OSError) as fault:
+        # A LeftRunning is a Refused too, but the input isn't bad.
         print_fault(fault)
     except (Refused, PlanError) as refused:
         print_fault(refused)

@@ -8,12 +8,11 @@ import tempfile
 from typing import List, Tuple
 
 from crashfs_tools.checker.findings.nested import RecoveryRecorder
-from crashfs_tools.checker.report.report import NONE_FAILS, NOT_ALL_TRIED, SOME_FAIL
 from crashfs_tools.checker.running.progress import Progress
 from crashfs_tools.checker.running.runner import BAD, GOOD, NO_ANSWER
 from crashfs_tools.checker.running.trials import Trials
 from crashfs_tools.checker.states.plan import State
-from crashfs_tools.common.command import write_text
+from crashfs_tools.common.command import NONE_FAILS, NOT_ALL_TRIED, SOME_FAIL, write_text
 from crashfs_tools.common.guard import Guard
 from crashfs_tools.common.removal import remove_tree
 from crashfs_tools.common.streams import flushed_output
@@ -22,6 +21,7 @@ from .checked_trace import no_such_state
 from .checking import open_trace
 from .options import Options
 
+# The exit statuses for the results of a state.
 STATUSES = {GOOD: NONE_FAILS, BAD: SOME_FAIL, NO_ANSWER: NOT_ALL_TRIED}
 
 

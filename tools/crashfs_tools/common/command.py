@@ -1,6 +1,6 @@
 """What the commands share: the command line's two halves, --version, running a command of this
-package by its module, finding COMMAND and saying how it ended, and the lines that a command prints
-of itself."""
+package by its module, finding COMMAND and saying how it ended, the lines that a command prints of
+itself, and the statuses that others read."""
 
 from __future__ import annotations
 
@@ -24,6 +24,10 @@ LIBRARY = os.path.dirname(os.path.dirname(os.path.dirname(os.path.realpath(__fil
 # How every file of text is read and written.
 TEXT: Dict[str, Any] = {'encoding': 'utf-8', 'errors': 'surrogateescape', 'newline': '\n'}
 
+# The exit statuses of crashfs-record if it wrote a trace: whole, not whole, or whole with notes.
+TRACE_WHOLE, TRACE_NOT_WHOLE, TRACE_NOTED = 0, 3, 4
+# Those of crashfs-check; NOT_ALL_TRIED is also that of a state without an answer.
+NONE_FAILS, SOME_FAIL, NOT_ALL_TRIED = 0, 1, 3
 # The status of a text that could not be printed.
 NOT_PRINTED = 3
 # No line is longer: a fault may name a number of millions of digits. A path has 4,096 bytes.

@@ -8,7 +8,7 @@ from dataclasses import dataclass
 from typing import List, Optional, Tuple
 
 from crashfs_tools.common import descendants
-from crashfs_tools.common.command import Refused, error_text, print_line
+from crashfs_tools.common.command import TRACE_NOT_WHOLE, Refused, error_text, print_line
 from crashfs_tools.common.guard import Guard
 from crashfs_tools.common.own_faults import print_own_fault
 from crashfs_tools.common.printable import escape_unprintable
@@ -166,7 +166,8 @@ def report_written_trace(
     options: RecordOptions, recording: Recording, start_scan: Scan, run: RecordedRun
 ) -> int:
     """Does what report_recording() does, and returns its status. An error or a signal is only
-    printed, as the trace is written already: the status is then NOT_WHOLE, or the signal's."""
+    printed, as the trace is written already: the status is then TRACE_NOT_WHOLE, or that of the
+    signal."""
     try:
         return report_recording(options, recording, start_scan, run)
     except Stopped as stopped:
@@ -174,7 +175,7 @@ def report_written_trace(
         return stopped.status
     except Exception as error:
         print_error(error, options.out, WRITTEN)
-    return summary.NOT_WHOLE
+    return TRACE_NOT_WHOLE
 
 
 def print_error(error: Exception, out: str, outcome: str) -> None:

@@ -7,7 +7,13 @@ from contextlib import suppress
 from dataclasses import dataclass
 from typing import Dict, List, Optional, Sequence, Tuple
 
-from crashfs_tools.common.command import ending_text, relative_path_arguments
+from crashfs_tools.common.command import (
+    TRACE_NOT_WHOLE,
+    TRACE_NOTED,
+    TRACE_WHOLE,
+    ending_text,
+    relative_path_arguments,
+)
 from crashfs_tools.common.entry import Entries
 from crashfs_tools.common.limits import MICRO_OPERATIONS
 from crashfs_tools.common.printable import count_text
@@ -28,7 +34,6 @@ from .options import RecordOptions
 from .output_streams import ERRORS, OutputStream
 from .recording import Recording, Trouble
 
-WHOLE, NOT_WHOLE, NOTED = 0, 3, 4
 NOT_COMPARED = 'its last state was compared with nothing'
 # What computed the last state.
 BY_PROGRAM, BY_REPLAY = 'crashfs tar', "the recorder's replay"
@@ -54,9 +59,9 @@ class FinalReport:
 
     @property
     def status(self) -> int:
-        """The exit status: NOT_WHOLE if there are lines, NOTED if there are only notes, WHOLE if
-        there is neither."""
-        return NOT_WHOLE if self.lines else NOTED if self.notes else WHOLE
+        """The exit status: TRACE_NOT_WHOLE if there are lines, TRACE_NOTED if there are only notes,
+        TRACE_WHOLE if there is neither."""
+        return TRACE_NOT_WHOLE if self.lines else TRACE_NOTED if self.notes else TRACE_WHOLE
 
 
 def final_report(

@@ -15,6 +15,9 @@ from crashfs_tools.checker.states.plan import Offsets, State
 from crashfs_tools.checker.states.planning import Planner
 from crashfs_tools.common.command import (
     TEXT,
+    TRACE_NOT_WHOLE,
+    TRACE_NOTED,
+    TRACE_WHOLE,
     Refused,
     code_to_run,
     ending_text,
@@ -34,8 +37,6 @@ from .second_crashes import Recovery
 RECORD = code_to_run('recorder.main')
 # Each line that the recorder prints begins with its name.
 RECORDER = 'crashfs-record'
-# The recorder's exit statuses for a trace that is written, whole or not.
-WRITTEN = (0, 3, 4)
 # A recorded command is slower than one that runs alone.
 SLOWER = 10
 
@@ -95,7 +96,7 @@ class RecoveryRecorder:
                 )
             except subprocess.TimeoutExpired as error:
                 raise Refused('its recording took too long') from error
-        if ran.returncode not in WRITTEN:
+        if ran.returncode not in (TRACE_WHOLE, TRACE_NOTED, TRACE_NOT_WHOLE):
             raise Refused(recorder_fault(ran.returncode, ran.stderr.decode('utf-8', 'replace')))
 
 

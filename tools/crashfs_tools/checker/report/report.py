@@ -12,6 +12,7 @@ from crashfs_tools.checker.findings.accepted_failures import AcceptedFailure, Ac
 from crashfs_tools.checker.running.results import Head
 from crashfs_tools.checker.running.runner import BAD, NO_ANSWER, Outcome
 from crashfs_tools.checker.states.plan import State
+from crashfs_tools.common.command import NONE_FAILS, NOT_ALL_TRIED, SOME_FAIL
 from crashfs_tools.common.trace import JOURNAL, ORDERED
 
 from .counts import StateCounts, counts_by_profile
@@ -22,8 +23,6 @@ if TYPE_CHECKING:
     from crashfs_tools.checker.findings.second_crashes import Recovery, SecondCrash
 
     from .drawing import Drawing
-
-NONE_FAILS, SOME_FAIL, NOT_ALL_TRIED = 0, 1, 3
 
 # A state, its outcome, and the names of the profiles that allow it.
 StateRow = Tuple[State, Outcome, List[str]]
