@@ -5,7 +5,13 @@ import unittest
 from pathlib import Path
 from unittest import mock
 
-from crashfs_tools.campaign.book import Book, KnownFailure, failure_key, read_book
+from crashfs_tools.campaign.book import (
+    WHOLE_SESSION,
+    Book,
+    KnownFailure,
+    failure_key,
+    read_book,
+)
 from crashfs_tools.campaign.sessions import Failure, SessionVerdict, read_report, verdict_of
 from crashfs_tools.campaign.shrinking import Shrinking, acknowledged_places, lines_of_trace
 from crashfs_tools.common.command import Refused
@@ -63,7 +69,7 @@ class Cuts(InFolder):
         for count in range(1, len(lines)):
             shrinking.find_failure(count)
             self.assertEqual(self.read('cut.trace').split('\n'), [*lines[: count + 1], ''])
-        shrinking.find_failure(0)
+        shrinking.find_failure(WHOLE_SESSION)
         self.assertEqual(self.read('cut.trace'), self.read('session.trace'))
 
     def test_the_page_of_a_kept_part_is_of_the_check_that_finds_its_failure(self):
@@ -77,6 +83,26 @@ class Cuts(InFolder):
         self.assertEqual(kept.read_text('utf-8'), '{"op":"say","text":"x"}\n')
         cut = Path(self.path('cut.trace'))
         self.assertEqual(sessions.check.call_args_list, [mock.call(cut, page)])
+
+    def test_the_shortest_part_has_the_fewest_lines_with_which_it_fails_if_any_has(self):
+        self.write('session.trace', '{"op":"say","text":"x"}\n' * 9 + '{"op":"sync"}\n')
+        sessions = mock.Mock(trace=Path(self.path('session.trace')), folder=Path(self.folder))
+        found = SessionVerdict([Failure('lost: a', [], 3, 1)])
+        for needed in (1, 4, 9, 10):
+            sessions.check.side_effect = lambda cut, page: (
+                found if cut.read_text('utf-8').count('\n') >= needed else SessionVerdict()
+            )
+            shrinking = Shrinking(sessions, 'lost', lines_of_trace(sessions.trace))
+            for most in (None, 0, 3, 4, 8, 20):
+                with self.subTest(needed=needed, most=most):
+                    limit = 9 if most is None else min(most, 9)
+                    length = shrinking.shortest_length(most)
+                    self.assertEqual(length, needed if needed <= limit else None)
+
+    def test_a_session_is_shorter_with_fewer_lines_or_as_many_as_a_whole_one_has(self):
+        for shortest, most in ((WHOLE_SESSION, 4), (4, 3), (1, 0)):
+            known = KnownFailure(Failure('lost: a', [], 3, 1), 1, 1, says=4, shortest=shortest)
+            self.assertEqual(known.most_lines, most)
 
 
 # An entry of a report.

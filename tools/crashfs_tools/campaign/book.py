@@ -15,6 +15,8 @@ from crashfs_tools.common.whole_files import write_whole_file
 from .sessions import Failure
 
 VERSION = 1
+# The length of a kept trace that is a whole session; any other is a number of acknowledged lines.
+WHOLE_SESSION = 0
 # What differs between sessions with the same failure: numbers of lines, texts, and random names.
 VARYING = re.compile(r'line \d+|"(?:[^"\\]|\\.)*"|\b[0-9a-f]{6,}\b|\d+')
 
@@ -24,14 +26,14 @@ class KnownFailure:
     """A failure of one or more sessions. `seed` is that of the first of these, `number` the
     failure's place in the book, from 1, and `sessions` how many have it. The kept trace is of the
     session of kept_seed, which acknowledges `says` lines, up to the line with the number
-    `shortest`; if that is 0, the trace is whole. The file has the names of the fields."""
+    `shortest`, unless that is WHOLE_SESSION. The file has the names of the fields."""
 
     failure: Failure
     seed: int
     number: int
     sessions: int = 1
     says: int = 0
-    shortest: int = 0
+    shortest: int = WHOLE_SESSION
     kept_seed: int = 0
 
     @property
@@ -47,9 +49,9 @@ class KnownFailure:
     @property
     def most_lines(self) -> int:
         """The most acknowledged lines with which another session is still shorter than the kept
-        one; 0 if none can be. A whole session counts as one line longer, for what it does after its
-        last line."""
-        return (self.shortest or self.says + 1) - 1
+        one; 0 if none can be. If a whole session is kept, these may be as many as it has: it also
+        has what it does after its last line."""
+        return self.says if self.shortest == WHOLE_SESSION else self.shortest - 1
 
 
 @dataclass
@@ -100,14 +102,14 @@ def read_book(path: Path, identity: List[object], first_seed: int) -> Book:
 def book_of_fields(path: Path, fields: Dict[str, Any], first_seed: int) -> Book:
     """The book whose save() wrote these fields; its next seed is at least first_seed. ValueError,
     KeyError, TypeError or AttributeError if the fields are of no book; of the numbers and texts in
-    them only next_seed is checked. The objects of `entries` in the fields lose their `key` and
-    `failure`."""
+    them only next_seed is checked."""
     next_seed = max(first_seed, fields['next_seed'])
     book = Book(path, fields['identity'], next_seed, fields['sessions'])
     book.faults = [(seed, text) for seed, text in fields['faults']]
-    for entry_fields in fields['entries']:
-        key, failure = entry_fields.pop('key'), Failure(**entry_fields.pop('failure'))
-        book.entries[key] = KnownFailure(failure, **entry_fields)
+    for entry in fields['entries']:
+        known_fields = {**entry, 'failure': Failure(**entry['failure'])}
+        key = known_fields.pop('key')
+        book.entries[key] = KnownFailure(**known_fields)
     return book
 
 

@@ -16,7 +16,7 @@ from crashfs_tools.common.signals import Stopped, raise_on_stop_signals
 from crashfs_tools.common.streams import flushed_output, set_utf8_streams
 from crashfs_tools.common.whole_files import folder_to_write, write_whole_file
 
-from .book import Book, KnownFailure, failures_by_key, read_book
+from .book import WHOLE_SESSION, Book, KnownFailure, failures_by_key, read_book
 from .options import NAME, CampaignOptions, read_options
 from .report import length_text, page_text, report_lines, verdict_line
 from .sessions import SessionVerdict, Failure, Sessions
@@ -48,7 +48,7 @@ class Campaign:
         one, and removed in the end, also after an exception; what remove_tree() can't remove stays,
         without an error. OSError if the folder can't be made, or as remove_tree(). Raises what
         try_seed() does: the next run tries that seed again, unless the book was saved with it."""
-        begin_time, last_seed = time.monotonic(), self.options.seeds[1]
+        begin_time, last_seed = time.monotonic(), self.options.seeds.last
         remove_tree(str(self.work))
         self.work.mkdir()
         try:
@@ -105,7 +105,8 @@ class Campaign:
         """Adds a failure that the book doesn't have, keeps its session, cut by `shrinking`, and
         prints a line. Raises what Shrinking does: then the book doesn't have it."""
         new_failure = KnownFailure(failure, seed, len(self.book.entries) + 1)
-        self.keep_session(new_failure, seed, shrinking, shrinking.shortest_length())
+        line_count = shrinking.shortest_length() or WHOLE_SESSION
+        self.keep_session(new_failure, seed, shrinking, line_count)
         self.book.entries[shrinking.key] = new_failure
         self.print_progress(f'seed {seed}: new: {failure.cause}')
 
@@ -117,7 +118,7 @@ class Campaign:
         that of this session. Raises what Shrinking does: then the session is counted."""
         known_failure.sessions += 1
         line_count = shrinking.shortest_length(known_failure.most_lines)
-        if line_count:
+        if line_count is not None:
             self.keep_session(known_failure, seed, shrinking, line_count)
             self.print_progress(
                 f'seed {seed}: shorter: {length_text(known_failure)}: {failure.cause}'
@@ -126,11 +127,11 @@ class Campaign:
     def keep_session(
         self, entry: KnownFailure, seed: int, shrinking: Shrinking, line_count: int
     ) -> None:
-        """Keeps the session of a seed, up to the acknowledged line number line_count (0: all of
-        it), as the shortest one of an entry's failure: replaces the entry's trace and page, and
-        then notes the session in the entry. If a check of the cut session finds the failure, the
-        entry describes it as found there. Raises what Shrinking.write_part() does: the entry is as
-        before, but a file of it may be replaced."""
+        """Keeps the session of a seed, up to the acknowledged line number line_count, or all of it
+        for WHOLE_SESSION, as the shortest one of an entry's failure: replaces the entry's trace and
+        page, and then notes the session in the entry. If a check of the cut session finds the
+        failure, the entry describes it as found there. Raises what Shrinking.write_part() does: the
+        entry is as before, but a file of it may be replaced."""
         cut_failure = shrinking.write_part(
             line_count, self.results / entry.trace, self.results / entry.page
         )
@@ -145,7 +146,7 @@ def read_or_begin_book(options: CampaignOptions) -> Book:
     results = Path(options.results)
     try:
         results.mkdir(parents=True, exist_ok=True)
-        return read_book(results / 'campaign.json', options.identity(), options.seeds[0])
+        return read_book(results / 'campaign.json', options.identity(), options.seeds.first)
     except FileExistsError as error:
         raise Refused(f'{options.results} is no directory') from error
     except OSError as error:

@@ -7,7 +7,7 @@ import os
 import shlex
 import sys
 from dataclasses import dataclass
-from typing import List, Optional, Tuple
+from typing import List, NamedTuple, Optional
 
 from crashfs_tools.common.command import (
     Refused,
@@ -20,9 +20,6 @@ from crashfs_tools.common.command import (
 )
 
 NAME = 'crashfs-campaign'
-SEEDS = (1, 100)
-# Those of a campaign that its time limit ends.
-ALL_SEEDS = (1, sys.maxsize)
 
 DESCRIPTION = """\
 Records SESSION with one seed after another, runs RECOVERY in the crash states of each, and keeps
@@ -43,15 +40,27 @@ Ctrl-C or SIGTERM.
 example: crashfs-campaign --time-limit 28800 found -- ./session.sh -- ./recover.sh"""
 
 
+class SeedRange(NamedTuple):
+    """The first and the last of the seeds to try."""
+
+    first: int
+    last: int
+
+
+SEEDS = SeedRange(1, 100)
+# Those of a campaign that its time limit ends.
+ALL_SEEDS = SeedRange(1, sys.maxsize)
+
+
 @dataclass
 class CampaignOptions:
-    """The options of a command line, with SESSION and RECOVERY. seeds has the first and the last
-    one; record and check are options of the two other commands."""
+    """The options of a command line, with SESSION and RECOVERY; record and check are options of the
+    two other commands."""
 
     results: str
     session: List[str]
     recovery: List[str]
-    seeds: Tuple[int, int]
+    seeds: SeedRange
     start: Optional[str]
     record: List[str]
     check: List[str]
@@ -65,13 +74,13 @@ class CampaignOptions:
         return [self.session, self.recovery, self.start, self.record, self.check]
 
 
-def parse_seeds(text: str) -> Tuple[int, int]:
-    """The first and the last seed of a range, as `1-100`. ArgumentTypeError if the text is no
-    range, or if the first seed is greater than the last."""
+def parse_seeds(text: str) -> SeedRange:
+    """The seeds of a range, as `1-100`. ArgumentTypeError if the text is no range, or if the first
+    seed is greater than the last."""
     first, last = map(parse_number, text.partition('-')[::2])
     if first is None or last is None or first > last:
         raise argparse.ArgumentTypeError(f'{text} is no range such as 1-100')
-    return first, last
+    return SeedRange(first, last)
 
 
 def parse_time_limit(text: str) -> float:

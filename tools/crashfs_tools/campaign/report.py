@@ -11,7 +11,7 @@ from crashfs_tools.common.command import version_text
 from crashfs_tools.common.pages import html_text, present_time
 from crashfs_tools.common.printable import count_text, escape_unprintable, folded_lines
 
-from .book import Book, KnownFailure
+from .book import WHOLE_SESSION, Book, KnownFailure
 from .options import NAME, CampaignOptions
 
 # That of the lines below the first one.
@@ -34,9 +34,15 @@ def length_text(entry: KnownFailure) -> str:
     the seed of that session, unless the failure came with it first. In an older book kept_seed is
     0: then it is the first seed."""
     lines = f'{count_text(entry.shortest, "acknowledged line")} of {entry.says:,}'
-    length = lines if entry.shortest else 'the whole session'
+    length = 'the whole session' if entry.shortest == WHOLE_SESSION else lines
     is_first = entry.kept_seed in (0, entry.seed)
     return length if is_first else f'{length} with seed {entry.kept_seed}'
+
+
+def sessions_text(entry: KnownFailure) -> str:
+    """In how many sessions a failure was found, in which one first, and what is kept of it."""
+    found = f'in {count_text(entry.sessions, "session")}, first with seed {entry.seed}'
+    return f'{found}; kept: {length_text(entry)}'
 
 
 def state_command(options: CampaignOptions, entry: KnownFailure) -> str:
@@ -63,10 +69,7 @@ def failure_lines(options: CampaignOptions, entry: KnownFailure) -> Iterator[str
     command that lays out its example. That may be copied, so its control characters aren't shown as
     escapes."""
     yield f'  {escape_unprintable(entry.failure.cause)}'
-    yield (
-        f'{INDENT}in {count_text(entry.sessions, "session")}, first with seed {entry.seed}; '
-        f'kept: {length_text(entry)}'
-    )
+    yield f'{INDENT}{sessions_text(entry)}'
     yield from folded_lines(entry.failure.text, INDENT, may_break_words=True)
     yield f'{INDENT}{state_command(options, entry)}'
 
@@ -108,9 +111,8 @@ def failure_section(options: CampaignOptions, entry: KnownFailure, folder: str) 
     page, its sessions, its sentences, and the command that lays out its example."""
     link = os.path.relpath(os.path.join(options.results, entry.page), folder)
     text = '<br>'.join(html_text(line) for line in entry.failure.text)
-    found = f'In {count_text(entry.sessions, "session")}, first with seed {entry.seed}'
     return (
         f'<h2><a href="{html.escape(link)}">{html_text(entry.failure.cause)}</a></h2>\n'
-        f'<p>{found}; kept: {length_text(entry)}.</p><p>{text}</p>\n'
+        f'<p>{sessions_text(entry).capitalize()}.</p><p>{text}</p>\n'
         f'<pre>{html_text(state_command(options, entry))}</pre>\n'
     )

@@ -8,7 +8,7 @@ from typing import List, Optional
 
 from crashfs_tools.common.trace_fields import parse_line
 
-from .book import failure_key
+from .book import WHOLE_SESSION, failure_key
 from .sessions import Failure, Sessions
 
 
@@ -46,26 +46,27 @@ class Shrinking:
         self.cut = sessions.folder / 'cut.trace'
 
     def find_failure(self, line_count: int, page: Optional[Path] = None) -> Optional[Failure]:
-        """Writes the session, up to the acknowledged line number line_count (0: all of it), to the
-        file `cut`, and checks that part, as Sessions.check() does with this page. Returns the
-        failure with the key; None if the check doesn't find it. Raises what Sessions.check() does,
-        and OSError if `cut` can't be written."""
-        last_place = self.say_places[line_count - 1] if line_count else len(self.lines) - 1
-        text = ''.join(self.lines[: last_place + 1])
+        """Writes the session, up to the acknowledged line number line_count, or all of it for
+        WHOLE_SESSION, to the file `cut`, and checks that part, as Sessions.check() does with this
+        page. Returns the failure with the key; None if the check doesn't find it. Raises what
+        Sessions.check() does, and OSError if `cut` can't be written."""
+        is_whole = line_count == WHOLE_SESSION
+        end = len(self.lines) if is_whole else self.say_places[line_count - 1] + 1
+        text = ''.join(self.lines[:end])
         self.cut.write_text(text, 'utf-8', 'surrogateescape')
         failures = self.sessions.check(self.cut, page).failures
         return next((failure for failure in failures if failure_key(failure) == self.key), None)
 
-    def shortest_length(self, most: Optional[int] = None) -> int:
+    def shortest_length(self, most: Optional[int] = None) -> Optional[int]:
         """The fewest acknowledged lines, at most `most` if that is given, with which the failure
         still comes, by binary search: what a part of a session may leave, a longer part may leave
-        too. 0 if it doesn't come with the most lines that are looked at, `most` or all: it needs
+        too. None if it doesn't come with the most lines that are looked at, `most` or all: it needs
         more lines, or what the session does after its last one. Raises what find_failure()
         does."""
         line_count = len(self.say_places)
         low, high = 0, line_count if most is None else min(most, line_count)
         if not high or self.find_failure(high) is None:
-            return 0
+            return None
         while high - low > 1:
             middle = (low + high) // 2
             if self.find_failure(middle) is None:
@@ -75,11 +76,11 @@ class Shrinking:
         return high
 
     def write_part(self, line_count: int, trace: Path, page: Path) -> Optional[Failure]:
-        """Writes the session, up to the acknowledged line number line_count (0: all of it), to the
-        file `trace`, and the report on it to `page`. Returns the failure as a check finds it in
-        this part; None if the check doesn't find it: the trace is written then too, and the page if
-        the check makes a report. Raises what find_failure() does, and OSError if the trace can't be
-        written."""
+        """Writes the session, up to the acknowledged line number line_count, or all of it for
+        WHOLE_SESSION, to the file `trace`, and the report on it to `page`. Returns the failure as a
+        check finds it in this part; None if the check doesn't find it: the trace is written then
+        too, and the page if the check makes a report. Raises what find_failure() does, and OSError
+        if the trace can't be written."""
         failure = self.find_failure(line_count, page)
         trace.write_bytes(self.cut.read_bytes())
         return failure
