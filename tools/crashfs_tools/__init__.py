@@ -40,6 +40,7 @@ PUBLIC = {
     'StateOutcome': 'api.reports',
     'Refused': 'common.command',
 }
+# The same names: linters read only a list of texts.
 __all__ = [
     'check',
     'CrashState',

@@ -41,6 +41,8 @@ class CrashStates:
     in its crash states."""
 
     def __init__(self, item: pytest.Item, folder: Path) -> None:
+        """`item` is the test, and folder its tmp_path, which gets the recorded directory and the
+        trace. Nothing is made yet."""
         self.item = item
         self.folder = folder
 

@@ -78,6 +78,7 @@ class InterfaceCase(InFolder):
 
 class Names(unittest.TestCase):
     def test_all_public_names_are_there_and_no_other(self) -> None:
+        self.assertEqual(list(crashfs_tools.PUBLIC), crashfs_tools.__all__)
         for name in crashfs_tools.__all__:
             self.assertTrue(callable(getattr(crashfs_tools, name)), name)
         with self.assertRaises(AttributeError):

@@ -20,12 +20,13 @@ class Address(NamedTuple):
         import socket
 
         try:
-            addresses = socket.getaddrinfo(self.host, self.port, type=socket.SOCK_STREAM)
+            found = socket.getaddrinfo(self.host, self.port, type=socket.SOCK_STREAM)
         except (OSError, UnicodeError) as error:
             why = error.strerror if isinstance(error, OSError) else 'no name of a host'
             raise Refused(f'--serve {self.host}: {why}') from error
-        preferred = min(addresses, key=lambda address: address[0] != socket.AF_INET)
-        return str(preferred[4][0])
+        addresses = [(family, str(address[0])) for family, _, _, _, address in found]
+        _, preferred = min(addresses, key=lambda address: address[0] != socket.AF_INET)
+        return preferred
 
     def __str__(self) -> str:
         """`HOST:PORT`, as it is printed: without brackets, also for an IPv6 host."""

@@ -29,7 +29,7 @@ class Summary:
         self.counts = counts
         self.accepted = accepted
         self.failing_count = counts.results[BAD] - accepted.total
-        self.is_whole = counts.has_tried_all(head)
+        self.has_tried_all = counts.has_tried_all(head)
 
     @property
     def line(self) -> str:
@@ -61,7 +61,7 @@ class Summary:
             return f'{tried}{under} tried{self.stop_text}'
         if not counts.are_all_listed:
             return f'{counts.states:,} states{under}, {counts.different_states:,} different'
-        all_of = 'all ' if self.is_whole and not self.head.cut_off else ''
+        all_of = 'all ' if self.has_tried_all and not self.head.cut_off else ''
         sets = f' ({count_text(counts.set_count, "set")})' if counts.set_count else ''
         states = 'crash states' if counts.different_states > 1 else 'crash state'
         states += ' of the windows' if self.head.cut_off else ''
@@ -90,7 +90,7 @@ class Summary:
             return []
         if self.failing_count:
             return [f'{count:,} more {fail_verb(count)}, accepted']
-        of_tried = '' if self.is_whole or self.counts.is_part else self.tried_words
+        of_tried = '' if self.has_tried_all or self.counts.is_part else self.tried_words
         return [f'{count:,}{of_tried} {fail_verb(count)}, accepted']
 
     @property
@@ -104,7 +104,7 @@ class Summary:
         kinds = (counts.cause_kinds - self.accepted.cause_kinds).most_common(SHOWN_KINDS)
         causes = ', '.join(f'{count:,} {escape_unprintable(kind)}' for kind, count in kinds)
         fail = fail_verb(self.failing_count)
-        if not self.is_whole and not counts.is_part:
+        if not self.has_tried_all and not counts.is_part:
             return [f'{self.failing_count:,}{self.tried_words} {fail}: {causes}']
         of_all = f' ({counts.all_failing_states:,} of all {counts.states:,} states)'
         return [f'{self.failing_count:,} {fail}{"" if counts.are_all_wanted else of_all}: {causes}']
@@ -115,7 +115,7 @@ class Summary:
         tried ones fails."""
         if self.counts.is_part:
             return 'none of these fails'
-        return 'none fails' if self.is_whole else f'none{self.tried_words} fails'
+        return 'none fails' if self.has_tried_all else f'none{self.tried_words} fails'
 
     @property
     def tried_words(self) -> str:
