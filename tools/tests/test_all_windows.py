@@ -4,10 +4,11 @@ from __future__ import annotations
 
 import os
 import unittest
+from collections import Counter
 from types import SimpleNamespace
 from typing import Any, List, Set, Tuple
 
-from crashfs_tools.checker.report.counts import NO_ACCEPTED, StateCounts
+from crashfs_tools.checker.report.counts import AcceptedStates, StateCounts
 from crashfs_tools.checker.report.summary import Summary
 from crashfs_tools.checker.running.results import Head
 from crashfs_tools.checker.states.plan import AllStates
@@ -154,7 +155,7 @@ class AllWindows(InFolder):
             ([(2, 7)], '40 crash states of the windows: none fails'),
         ]:
             head = Head('t', '', [], cut_off=cut_off)
-            self.assertEqual(Summary(head, counts, NO_ACCEPTED).line, begin + text)
+            self.assertEqual(Summary(head, counts, AcceptedStates(0, Counter())).line, begin + text)
 
 
 if __name__ == '__main__':

@@ -3,6 +3,7 @@
 import json
 import re
 import unittest
+from collections import Counter
 from dataclasses import replace
 from pathlib import Path
 from unittest import mock
@@ -11,7 +12,7 @@ from crashfs_tools.campaign import report as campaign_report
 from crashfs_tools.campaign.book import Book
 from crashfs_tools.checker.findings.accepted_failures import AcceptedFailure
 from crashfs_tools.checker.report import page, summary, text
-from crashfs_tools.checker.report.counts import NO_ACCEPTED, StateCounts
+from crashfs_tools.checker.report.counts import AcceptedStates, StateCounts
 from crashfs_tools.checker.report.summary import Summary
 from crashfs_tools.checker.report.text import ReportText
 from crashfs_tools.checker.running.results import Head
@@ -87,7 +88,7 @@ class Counts(unittest.TestCase):
         counts.cause_kinds.update({'torn': 1, 'lost': 4, 'old': 2})
         with mock.patch.object(summary, 'SHOWN_KINDS', 2):
             self.assertEqual(
-                Summary(Head('t', '', []), counts, NO_ACCEPTED).line,
+                Summary(Head('t', '', []), counts, AcceptedStates(0, Counter())).line,
                 't: 9 micro-operations, all 9 crash states (9 sets): 7 fail: 4 lost, 2 old',
             )
 

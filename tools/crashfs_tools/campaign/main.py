@@ -22,6 +22,7 @@ from .report import length_text, page_text, report_lines, verdict_line
 from .sessions import SessionVerdict, Failure, Sessions
 from .shrinking import Shrinking, lines_of_trace
 
+# The exit statuses, in addition to 0.
 SOME_FAIL, BAD_INPUT, NO_VERDICT = 1, 2, 3
 # If nothing else was printed for so long, a line says how many sessions were tried.
 EVERY_SECONDS = 60.0

@@ -23,7 +23,7 @@ from crashfs_tools.common.command import Refused, print_line, with_program_path
 from crashfs_tools.common.guard import Guard
 from crashfs_tools.common.program import Crashfs
 from crashfs_tools.common.signals import Stopped, TimeUp, time_limit
-from crashfs_tools.common.whole_files import write_whole_file
+from crashfs_tools.common.whole_files import STANDARD_OUTPUT, write_whole_file
 
 from .checked_trace import CheckedTrace, refuse_unreadable
 from .options import NAME, Options
@@ -235,8 +235,8 @@ class Check:
         session goes on after the window. Every SAVE_SECONDS that function writes what is known to
         the file of --json, so that a kill loses only what came later; an OSError is ignored. It
         does nothing without --json, or if the file is standard output."""
-        path = self.options.json or '-'
-        if path == '-':
+        path = self.options.json or STANDARD_OUTPUT
+        if path == STANDARD_OUTPUT:
             return do_nothing
         from crashfs_tools.checker.report.json_report import partial_pieces
         from crashfs_tools.checker.running.saving import Saver

@@ -22,15 +22,17 @@ from crashfs_tools.common.streams import (
     limit_inherited_descriptors,
     set_utf8_streams,
 )
-from crashfs_tools.common.whole_files import folder_to_write
+from crashfs_tools.common.whole_files import (
+    STANDARD_OUTPUT,
+    folder_to_write,
+    is_written_in_place,
+)
 
 from .checking import CheckResult, Interrupted, check_trace
 from .command_line import read_options
 from .options import NAME, Options
 
 BAD_INPUT = 2
-# The path of an output that is no file.
-STANDARD_OUTPUT = '-'
 
 
 class OutputFile(NamedTuple):
@@ -74,10 +76,10 @@ def refuse_wrong_outputs(options: Options) -> None:
     names = {os.path.realpath(path): name for name, path in inputs.items() if path is not None}
     for name, path, _ in outputs_of(options):
         folder_to_write(path)
-        is_file_name = path != STANDARD_OUTPUT
+        is_standard_output = path == STANDARD_OUTPUT
         # No real path is `-`: standard output is never taken for a file with that name.
-        first_name = names.setdefault(os.path.realpath(path) if is_file_name else path, name)
-        is_device = is_file_name and os.path.exists(path) and not os.path.isfile(path)
+        first_name = names.setdefault(path if is_standard_output else os.path.realpath(path), name)
+        is_device = is_written_in_place(path) and not is_standard_output
         if first_name != name and not is_device:
             raise Refused(f'{name} {path}: that is {first_name}')
 

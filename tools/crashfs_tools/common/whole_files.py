@@ -12,13 +12,16 @@ from typing import Iterable
 from .command import TEXT, Refused
 from .streams import flushed_output
 
+# The path that means standard output, also if there is a file of this name.
+STANDARD_OUTPUT = '-'
+
 
 def folder_to_write(path: str) -> str:
     """The directory in which write_whole_file() will write a path, or the target of a link at the
     path; for `-` this directory. Refused if the path is empty or a directory, or no file can be
     made there; what is_written_in_place() needs no right in the directory. A foreign file isn't
     refused here."""
-    if path == '-':
+    if path == STANDARD_OUTPUT:
         return os.getcwd()
     if not path:
         raise Refused('the name of a file to write is empty')
@@ -35,7 +38,7 @@ def folder_to_write(path: str) -> str:
 def is_written_in_place(path: str) -> bool:
     """Whether write_whole_file() writes a path in place: standard output (`-`), or something that
     is there and no plain file, such as a pipe or /dev/null."""
-    return path == '-' or (os.path.exists(path) and not os.path.isfile(path))
+    return path == STANDARD_OUTPUT or (os.path.exists(path) and not os.path.isfile(path))
 
 
 def write_whole_file(path: str, pieces: Iterable[str], mode: int = 0o666) -> None:
@@ -44,7 +47,7 @@ def write_whole_file(path: str, pieces: Iterable[str], mode: int = 0o666) -> Non
     OSError, also for a foreign file or from `pieces`, has this path, or the name of standard
     output. After it a plain file is as replace_file() leaves it; what is written in place may have
     a part."""
-    if path == '-':
+    if path == STANDARD_OUTPUT:
         with flushed_output():
             sys.stdout.writelines(pieces)
         return

@@ -16,7 +16,7 @@ from crashfs_tools.common.command import (
     with_program_path,
 )
 from crashfs_tools.common.trace import BLOCK_SIZES, BLOCKS, JOURNAL, PROFILES
-from crashfs_tools.common.whole_files import folder_to_write
+from crashfs_tools.common.whole_files import STANDARD_OUTPUT, folder_to_write
 
 from .ignore import IgnoreRules, Rule
 from .output_streams import DEFAULT_DESCRIPTORS, SOCKETS, SayEach
@@ -244,7 +244,7 @@ def prepared_options(options: RecordOptions) -> RecordOptions:
     if not os.path.isdir(options.directory):
         raise Refused(f'{options.directory} is no directory')
     directory = os.path.realpath(options.directory)
-    if options.out != '-':
+    if options.out != STANDARD_OUTPUT:
         refuse_output_path(options.out, directory)
     if options.keep_log is not None:
         refuse_output_path(options.keep_log, directory)

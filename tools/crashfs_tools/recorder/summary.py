@@ -19,6 +19,7 @@ from crashfs_tools.common.limits import MICRO_OPERATIONS
 from crashfs_tools.common.printable import count_text
 from crashfs_tools.common.program import Crashfs, ProgramFault
 from crashfs_tools.common.trace import Say, Trace
+from crashfs_tools.common.whole_files import STANDARD_OUTPUT
 
 from .comparison import (
     entries_by_program,
@@ -202,8 +203,7 @@ def read_last_state(options: RecordOptions, recording: Recording) -> Tuple[Entri
     program_for_last_state(), if it takes OUT; else a replay, of the trace in memory if OUT is no
     plain file. OSError if OUT can't be read; other errors as in program_for_last_state() and
     entries_by_replay()."""
-    # `-` is standard output, also if there is a file of this name.
-    if options.out == '-' or not os.path.isfile(options.out):
+    if options.out == STANDARD_OUTPUT or not os.path.isfile(options.out):
         return entries_by_replay(recording.trace.lines()), BY_REPLAY
     program = program_for_last_state(options, recording)
     if program is not None:

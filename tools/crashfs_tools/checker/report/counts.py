@@ -24,9 +24,6 @@ class AcceptedStates(NamedTuple):
     cause_kinds: Counts[str]
 
 
-NO_ACCEPTED = AcceptedStates(0, Counter())
-
-
 @dataclass
 class StateCounts:
     """What a check counts, over all windows. results and cause_kinds count different states, which
