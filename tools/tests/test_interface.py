@@ -16,7 +16,6 @@ from typing import List
 import crashfs_tools
 from crashfs_tools import Refused, check, record, states
 from crashfs_tools.api.checks import with_text_path
-from crashfs_tools.checker.options import Options
 from crashfs_tools.checker.running.recoveries import FunctionRecovery, cause_text
 
 from . import data_store
