@@ -5,7 +5,12 @@ import unittest
 from unittest import mock
 
 from crashfs_tools.checker.address import Address
-from crashfs_tools.checker.checked_trace import CheckedTrace, mode_of_report, refuse_unreadable
+from crashfs_tools.checker.checked_trace import (
+    CheckedTrace,
+    TraceFile,
+    mode_of_report,
+    refuse_unreadable,
+)
 from crashfs_tools.checker.options import Options
 from crashfs_tools.checker.states import windows
 from crashfs_tools.checker.states.planning import TooLarge
@@ -18,7 +23,9 @@ def trace_of(**options):
     """A trace whose planner plans it as `plan`, once."""
     planner = mock.Mock(**{'plan.side_effect': ['plan']})
     return CheckedTrace(
-        Options('t', **options), 't', '', 0o600, mock.Mock(), mock.Mock(), planner, mock.Mock()
+        Options('t', **options),
+        TraceFile('t', '', 0o600),
+        *(mock.Mock(), mock.Mock(), planner, mock.Mock()),
     )
 
 

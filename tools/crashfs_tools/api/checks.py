@@ -98,8 +98,9 @@ def refuse_wrong_options(options: Options) -> None:
 def command_and_function(
     recovery: Union[PathRecovery, Sequence[str]]
 ) -> Tuple[List[str], Optional[RecoveryFunction]]:
-    """What the options have of a recovery, as `command` and `function`: a list of words, or a text
-    as the only word, is a command. The other one of the two is empty or None."""
+    """The options `command` and `function` for a recovery. A list of words, or a text as the only
+    word, is the command, and there is no function. Else the command is empty, and the function is
+    with_text_path()."""
     if isinstance(recovery, str):
         return [recovery], None
     if isinstance(recovery, Sequence):

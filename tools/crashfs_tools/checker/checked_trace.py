@@ -58,13 +58,10 @@ def read_trace_file(path: str, guard: Guard) -> TraceFile:
 
 @dataclass
 class CheckedTrace:
-    """A trace that is checked by one program, which must take traces of this version. path, text
-    and mode are those of its TraceFile."""
+    """A trace that is checked by one program, which must take traces of this version."""
 
     options: Options
-    path: str
-    text: str
-    mode: int
+    file: TraceFile
     program: Crashfs
     guard: Guard
     planner: Planner
@@ -79,10 +76,10 @@ class CheckedTrace:
         shown. Exceptions as in read_trace_file() and
         Crashfs.program_for_version()."""
         assert options.trace is not None
-        path, text, mode = read_trace_file(options.trace, guard)
-        program = program.program_for_version(trace_version(text))
+        file = read_trace_file(options.trace, guard)
+        program = program.program_for_version(trace_version(file.text))
         planner, progress = Planner(options, program, guard), progress or Progress(None)
-        return CheckedTrace(options, path, text, mode, program, guard, planner, progress)
+        return CheckedTrace(options, file, program, guard, planner, progress)
 
     @cached_property
     def whole_plan(self) -> Optional[PlannedTrace]:
@@ -93,7 +90,7 @@ class CheckedTrace:
         if self.options.window is not None:
             return None
         try:
-            return self.planner.plan(self.path)
+            return self.planner.plan(self.file.path)
         except TooLarge as fault:
             if self.options.serve is not None:
                 raise Refused(f'{fault} (--serve has no windows)') from fault
@@ -108,7 +105,7 @@ class CheckedTrace:
             return None
         from crashfs_tools.checker.states.windows import windows_of
 
-        return windows_of(self.planner, self.options, self.text)
+        return windows_of(self.planner, self.options, self.file.text)
 
     def all_planned(self) -> Iterator[PlannedTrace]:
         """Yields whole_plan or, for a trace in windows, the plan of each window, whose files are
@@ -124,7 +121,7 @@ class CheckedTrace:
         """The trace's operations in words, and its acknowledged texts. Use them only after the
         program has accepted the trace: a fault in a line is a TraceError, KeyError or TypeError
         here."""
-        return parse_trace_text(self.text)
+        return parse_trace_text(self.file.text)
 
     @cached_property
     def workplace(self) -> Workplace:
@@ -165,7 +162,7 @@ class CheckedTrace:
             return ''
         import hashlib
 
-        return hashlib.sha256(self.text.encode('utf-8', 'surrogateescape')).hexdigest()
+        return hashlib.sha256(self.file.text.encode('utf-8', 'surrogateescape')).hexdigest()
 
     def plan_end(self) -> Optional[PlannedTrace]:
         """Plans the end of a session in windows: a trace that starts with the tree there and does

@@ -109,7 +109,7 @@ class Check:
             exception = stopped
         except Exception as fault:
             exception = exception or interrupted_by(fault)
-        return CheckResult(self.report, self.trace.mode, exception)
+        return CheckResult(self.report, self.trace.file.mode, exception)
 
     def note_end(self, cause: str) -> None:
         """Notes the cause that ended the check early. Of several causes the first one stays."""
@@ -244,7 +244,7 @@ class Check:
         def save() -> None:
             """Writes the file of --json as it is if the check is killed now."""
             pieces = partial_pieces(self.report, results, has_rest=has_rest)
-            write_whole_file(path, pieces, self.trace.mode)
+            write_whole_file(path, pieces, self.trace.file.mode)
 
         return Saver(save, SAVE_SECONDS).save_if_due
 

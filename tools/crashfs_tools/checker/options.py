@@ -114,7 +114,7 @@ class Options:
     @property
     def draw_count(self) -> int:
         """How many sets are drawn at random if not all crash states can be tried, for the plan of
-        the trace or of each window. None is drawn for a plan whose sets can't be counted."""
+        the trace or of each window. No set is drawn for a plan whose sets can't be counted."""
         return LIMITED_DRAWS if self.time_limit is not None else DRAWS
 
     @property

@@ -24,8 +24,13 @@ if TYPE_CHECKING:
 
     from .drawing import Drawing
 
-# A state, its outcome, and the names of the profiles that allow it.
-StateRow = Tuple[State, Outcome, List[str]]
+
+class StateRow(NamedTuple):
+    """A state, its outcome, and the names of the profiles that allow it."""
+
+    state: State
+    outcome: Outcome
+    profiles: List[str]
 
 
 class ReportedWindow(NamedTuple):
@@ -210,8 +215,9 @@ def packed_results(findings: Findings) -> bytes:
 def state_rows(findings: Findings) -> List[StateRow]:
     """A row for each state of a window that has an outcome, which may be that of an equal state.
     States that the window before has too have no row."""
+    outcomes, profile_names_of = findings.outcomes_by_state, findings.plan.profile_names_of
     return [
-        (state, findings.outcomes_by_state[state.number], findings.plan.profile_names_of(state))
+        StateRow(state, outcomes[state.number], profile_names_of(state))
         for state in findings.results.own_states
-        if state.number in findings.outcomes_by_state
+        if state.number in outcomes
     ]
