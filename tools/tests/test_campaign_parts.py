@@ -2,6 +2,7 @@
 
 import json
 import unittest
+from argparse import ArgumentTypeError
 from pathlib import Path
 from unittest import mock
 
@@ -12,6 +13,7 @@ from crashfs_tools.campaign.book import (
     failure_key,
     read_book,
 )
+from crashfs_tools.campaign.options import parse_time_limit
 from crashfs_tools.campaign.sessions import Failure, SessionVerdict, read_report, verdict_of
 from crashfs_tools.campaign.shrinking import Shrinking, acknowledged_places, lines_of_trace
 from crashfs_tools.common.command import Refused
@@ -105,6 +107,14 @@ class Cuts(InFolder):
             self.assertEqual(known.most_lines, most)
 
 
+class TimeLimits(unittest.TestCase):
+    def test_a_time_limit_is_above_0_or_endless(self):
+        self.assertEqual([parse_time_limit(text) for text in ('1.5', 'inf')], [1.5, float('inf')])
+        for text in ('0', '-1', 'nan', 'x', ''):
+            with self.assertRaisesRegex(ArgumentTypeError, f'^{text} is no number of seconds'):
+                parse_time_limit(text)
+
+
 # An entry of a report.
 ENTRY = {'cause': 'lost: a', 'text': [], 'example': 3, 'different': 1}
 
@@ -127,6 +137,11 @@ class Reports(InFolder):
             path.write_text(json.dumps(fields), 'utf-8')
             with self.subTest(fields=fields), self.assertRaisesRegex(OSError, 'another version'):
                 read_report(path)
+
+    def test_a_check_without_a_verdict_has_its_last_line_as_the_reason(self):
+        for printed, reason in (('a\nb: c\n \n', 'b: c'), (' \n', 'it printed nothing')):
+            verdict = verdict_of(2, printed, {'windows': [], 'groups': []})
+            self.assertEqual(verdict, SessionVerdict([], f'crashfs-check: status 2: {reason}'))
 
     def test_accepted_failures_are_none(self):
         known = {**ENTRY, 'accepted': {'cause': 'lost: a'}}

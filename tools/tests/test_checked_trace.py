@@ -11,6 +11,7 @@ from crashfs_tools.checker.checked_trace import (
     mode_of_report,
     refuse_unreadable,
 )
+from crashfs_tools.checker.merging import strictest_mode
 from crashfs_tools.checker.options import Options
 from crashfs_tools.checker.states import windows
 from crashfs_tools.checker.states.planning import TooLarge
@@ -61,6 +62,17 @@ class Files(InFolder):
         for mode, wanted in ((0o777, 0o666), (0o644, 0o644), (0o440, 0o640), (0o000, 0o600)):
             path = self.write('source', '', mode)
             self.assertEqual(mode_of_report(os.stat(path)), wanted)
+
+    def test_a_merged_report_may_be_read_by_those_who_may_read_all_its_files(self):
+        modes = {0o644: 'all', 0o640: 'group', 0o604: 'others', 0o600: 'none'}
+        paths = {name: self.write(name, '', mode) for mode, name in modes.items()}
+        for names, wanted in (
+            (['all'], 0o644),
+            (['all', 'group'], 0o640),
+            (['group', 'others'], 0o600),
+            (['none', 'all'], 0o600),
+        ):
+            self.assertEqual(strictest_mode([paths[name] for name in names]), wanted)
 
     def test_a_trace_is_a_file_or_a_pipe(self):
         refuse_unreadable(self.write('t.trace', ''))

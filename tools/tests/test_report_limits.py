@@ -92,6 +92,20 @@ class Counts(unittest.TestCase):
                 't: 9 micro-operations, all 9 crash states (9 sets): 7 fail: 4 lost, 2 old',
             )
 
+    def test_what_was_not_tried_is_counted_and_named(self):
+        for wanted, has_rest, untried in (
+            (9, False, ''),
+            (12, False, '; 3 not tried'),
+            (12, True, '; 3 and all states after micro-operation 8 not tried'),
+            (9, True, '; all states after micro-operation 8 not tried'),
+        ):
+            counts = StateCounts(1, 9, 9, 9, wanted, 9, all_states=[AllStates(9, True)])
+            head = Head('t', '', [], has_rest=has_rest)
+            verdict = Summary(head, counts, AcceptedStates(0, Counter())).verdict
+            self.assertEqual(
+                verdict, f'none of the 9 tried fails{untried}' if untried else 'none fails'
+            )
+
     def test_states_that_are_not_all_listed_are_counted_by_a_bound(self):
         for all_states, bound in (
             ([AllStates(5, True, most=100)], '40'),
