@@ -34,7 +34,7 @@ class StateRow(NamedTuple):
 
 
 class ReportedWindow(NamedTuple):
-    """What a report keeps of a window: its groups, its advised syncs, None if they weren't tried,
+    """What a report keeps of a window: its groups, all advised syncs (None if they weren't tried),
     and packed_results(), empty unless the report keeps what the JSON has."""
 
     groups: List[Group]
