@@ -107,7 +107,7 @@ def book_of_fields(path: Path, fields: Dict[str, Any], first_seed: int) -> Book:
     book = Book(path, fields['identity'], next_seed, fields['sessions'])
     book.faults = [(seed, text) for seed, text in fields['faults']]
     for entry in fields['entries']:
-        known_fields = {**entry, 'failure': Failure(**entry['failure'])}
+        known_fields: Dict[str, Any] = {**entry, 'failure': Failure(**entry['failure'])}
         key = known_fields.pop('key')
         book.entries[key] = KnownFailure(**known_fields)
     return book
