@@ -13,7 +13,7 @@ from crashfs_tools.recorder import arguments
 from crashfs_tools.recorder.arguments import LogError
 from crashfs_tools.recorder.directory import Scan
 from crashfs_tools.recorder.log_filter import LogFilter
-from crashfs_tools.recorder.log_stream import PipeLines
+from crashfs_tools.recorder.log_stream import FEW_BYTES, GATHER_SECONDS, PipeLines
 from crashfs_tools.recorder.live_files import StartConditions
 from crashfs_tools.recorder.start_tree import files_at_start
 from crashfs_tools.recorder.recording import Recording, TraceSettings
@@ -208,6 +208,21 @@ class Lines(unittest.TestCase):
         os.close(reading)
         self.assertEqual(found, [f'{number}\n' for number in range(400)])
         self.assertLess(reads.call_count, 200)
+
+    def test_only_a_reader_that_may_gather_waits_for_more_after_few_bytes(self):
+        many = b'a' * (FEW_BYTES - 1) + b'\n'
+        for may_gather, piece, waits in (
+            (True, b'a\n', 1),
+            (True, many[1:], 1),
+            (True, many, 0),
+            (True, b'', 0),
+            (False, b'a\n', 0),
+        ):
+            lines = PipeLines(-1, may_gather=may_gather)
+            with mock.patch('crashfs_tools.recorder.log_stream.poll_for_input'):
+                with mock.patch('os.read', return_value=piece), mock.patch('time.sleep') as sleep:
+                    self.assertEqual(lines.next_line(), piece.decode())
+            self.assertEqual(sleep.call_args_list, waits * [mock.call(GATHER_SECONDS)])
 
     def test_a_pipe_that_ends_after_a_line_has_no_more(self):
         lines = PipeLines(-1)

@@ -29,9 +29,10 @@ SAME_STOP_SECONDS = 0.005
 STOPPED = re.compile(r'^(\d+) +--- stopped by SIGSTOP ---')
 # How many bytes one read of the pipe takes at most.
 READ_BYTES = 1 << 18
-# For how many seconds a reader that need not see each line at once waits for more lines: one that
-# wakes up for each of them makes the writer of 50,000 lines take 1.7 times as long.
-GATHER_SECONDS = 0.002
+# For how many seconds a reader that need not see each line at once waits for more lines, after a
+# read of fewer than FEW_BYTES: one that wakes up for each of them makes the writer of 50,000 lines
+# take 1.7 times as long.
+GATHER_SECONDS, FEW_BYTES = 0.002, READ_BYTES // 4
 # The room that the pipe gets, if the system allows it, instead of the usual 64 KiB.
 PIPE_BYTES = 1 << 20
 # Linux's number of the call that sets the size of a pipe; Python has its name since 3.10.
@@ -47,7 +48,7 @@ def create_log(path: str) -> TextIO:
 
 class PipeLines:
     """Reads a pipe line by line. ready_lines are read and not returned yet; has_ended means that
-    the pipe's end is read. If may_gather is set, GATHER_SECONDS pass after a read of few bytes."""
+    the pipe's end is read. With may_gather, GATHER_SECONDS pass after a read under FEW_BYTES."""
 
     def __init__(self, descriptor: int, *, may_gather: bool = False) -> None:
         """Reads nothing yet. The descriptor is the caller's, who closes it."""
@@ -61,7 +62,7 @@ class PipeLines:
     def next_line(self, idle_seconds: Optional[float] = None) -> Optional[str]:
         """The next line, with its line feed, which the last one may lack; empty at the pipe's end,
         as readline() has it. None if no bytes come within idle_seconds; without these it waits
-        without a limit. If few bytes come, and may_gather is set, GATHER_SECONDS pass, so that the
+        without a limit. With may_gather, GATHER_SECONDS pass after a read of few bytes, so that the
         next read finds more. Bytes that aren't UTF-8 become surrogates, as in os.fsdecode. OSError
         if a read fails."""
         milliseconds = None if idle_seconds is None else idle_seconds * 1000
@@ -70,7 +71,7 @@ class PipeLines:
             if not poll_for_input(self.descriptor).poll(milliseconds):
                 return None
             piece = os.read(self.descriptor, READ_BYTES)
-            if self.may_gather and 0 < len(piece) < READ_BYTES // 4:
+            if self.may_gather and 0 < len(piece) < FEW_BYTES:
                 time.sleep(GATHER_SECONDS)
             self.add_bytes(piece)
         return self.ready_lines.popleft() if self.ready_lines else ''
