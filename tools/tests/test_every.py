@@ -193,6 +193,33 @@ class AllSets(unittest.TestCase):
         found = list(SetClasses(reading, order).different_sets())
         self.assertEqual(found, first_of_each(make_plan(reading), list(every_set(order))))
 
+    def test_sets_that_leave_one_tree_in_other_ways_are_equal(self) -> None:
+        mkdir = f'{{"op":"mkdir","path":"%s",{RIGHTS}}}'
+        fourth = HEADERS['blocks'].replace('"trace":3', '"trace":4')
+        for lines, wanted in (
+            # Two files of one name.
+            ([creat('/a'), '{"op":"unlink","path":"/a"}', creat('/a')], [0, 0b1]),
+            # A directory that is gone, after a file was made that can't be there without it.
+            (
+                [mkdir % '/d', fsync('/'), creat('/a'), '{"op":"rmdir","path":"/d"}'],
+                [0, 0b1, 0b11, 0b111],
+            ),
+            # A directory that moves with a file, and one that is made in its place.
+            (
+                [
+                    *(mkdir % '/d', creat('/d/a'), '{"op":"rename","from":"/d","to":"/e"}'),
+                    *(mkdir % '/d', creat('/d/a')),
+                ],
+                [0, 0b1, 0b11, 0b101, 0b111, 0b1101, 0b1111, 0b11101, 0b11111],
+            ),
+            (['{"op":"chmod","path":"/","mode":"700"}'], [0, 0b1]),
+        ):
+            reading = reading_of([fourth, *lines])
+            order = Order(reading)
+            found = list(SetClasses(reading, order).different_sets())
+            self.assertEqual(found, first_of_each(make_plan(reading), list(every_set(order))))
+            self.assertEqual(sorted(found), wanted)
+
     def test_a_file_without_a_name_can_get_one_again(self) -> None:
         link = '{"op":"link","from":"%s","to":"%s"}'
         lines = [
