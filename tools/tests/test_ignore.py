@@ -1,5 +1,6 @@
 """--ignore has the rules of .gitignore."""
 
+import json
 import os
 import shutil
 import subprocess
@@ -9,7 +10,7 @@ from typing import List, Set, Tuple
 
 from crashfs_tools.recorder.ignore import IgnoreRules
 
-from .support import InFolder, needed
+from .support import InFolder, needed, needs_strace
 
 Case = Tuple[List[str], str, bool]
 # Nothing is there, so each path may be that of a directory.
@@ -127,6 +128,32 @@ class Patterns(unittest.TestCase):
         for glob, why in NEVER_MATCH.items():
             with self.subTest(glob), self.assertRaisesRegex(ValueError, why):
                 IgnoreRules([glob], NOWHERE)
+
+
+class RemovedFiles(InFolder):
+    def test_a_pattern_of_directories_matches_no_path_of_a_file_that_was_removed(self) -> None:
+        rules = IgnoreRules(['x/', 'y'], self.folder)
+        paths = ['/x', '/a/x', '/y', '/b/x']
+        self.assertEqual([rules(path) for path in paths], [True] * 4)
+        rules.add_removed_files(paths[:3])
+        self.assertEqual([rules(path) for path in paths], [False, False, True, True])
+
+    def test_what_is_there_now_decides_as_before(self) -> None:
+        os.mkdir(self.path('x'))
+        rules = IgnoreRules(['x/'], self.folder)
+        rules.add_removed_files(['/x'])
+        self.assertTrue(rules('/x'))
+
+    @needs_strace
+    def test_the_log_says_what_a_path_was(self) -> None:
+        os.mkdir(self.path('d'))
+        script = 'echo 1 > x; mv x y; echo 1; mkdir -p a/x; echo 2 > a/x/b; sync a/x; rm -r a/x'
+        words = ('--ignore', 'x/', 'd', 'out.trace', '--', 'sh', '-c', script)
+        ran = self.run_tool('crashfs-record', *words)
+        self.assertEqual(ran.returncode, 0, ran.stderr)
+        operations = [json.loads(line) for line in self.read('out.trace').splitlines()[1:]]
+        paths = [operation.get('path', operation.get('from')) for operation in operations]
+        self.assertEqual(paths, ['/x', '/x', '/x', None, '/a'])
 
 
 @needed(shutil.which('git') is not None, 'git is not there')

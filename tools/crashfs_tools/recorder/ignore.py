@@ -6,7 +6,7 @@ from __future__ import annotations
 import os
 import re
 from dataclasses import dataclass
-from typing import Dict, List, Tuple
+from typing import Dict, Iterable, List, Set, Tuple
 
 from crashfs_tools.common.entry import ancestors_and_path
 
@@ -142,7 +142,8 @@ def translate_item(pattern: str, item: re.Match[str]) -> str:
 class IgnoreRules:
     """All patterns of --ignore. The last one that matches a path decides, and what is below an
     ignored directory is ignored, too. `answers` has what was returned for a path, and for those
-    above it; nothing is kept if there are no patterns. The root is never ignored, as its syncs are
+    above it; nothing is kept if there are no patterns. removed_files has paths that patterns of
+    directories don't match, though nothing is there. The root is never ignored, as its syncs are
     needed."""
 
     def __init__(self, patterns: List[str], top: str) -> None:
@@ -151,11 +152,21 @@ class IgnoreRules:
         self.rules = [Rule.parse(pattern) for pattern in patterns]
         self.top = top
         self.answers: Dict[str, bool] = {}
+        self.removed_files: Set[str] = set()
+
+    def add_removed_files(self, paths: Iterable[str]) -> None:
+        """Adds those of some paths at which nothing is now to removed_files. Call it with the paths
+        at which files were during the session. An earlier answer for such a path is dropped."""
+        for path in set(paths):
+            if not os.path.lexists(self.top + path):
+                self.removed_files.add(path)
+                self.answers.pop(path, None)
 
     def __call__(self, path: str) -> bool:
         """Whether a path, which begins with `/`, or a directory above it is ignored. Patterns of
         directories look at the disk when the path is first asked for, and match a path at which
-        nothing is. That answer is kept, even if something else is there later."""
+        nothing is, unless removed_files has it. That answer is kept, even if something else is
+        there later."""
         if not self.rules or path in self.answers:
             return self.answers.get(path, False)
         is_ignored = False
@@ -179,6 +190,6 @@ class IgnoreRules:
         return is_ignored
 
     def is_file(self, path: str) -> bool:
-        """Whether a path is a plain file on the disk now, or a link to one. False if nothing is
-        there: patterns of directories match such a path too."""
-        return os.path.isfile(self.top + path)
+        """Whether a path is a plain file on the disk now, or a link to one, or among removed_files.
+        False if nothing else is known of it: patterns of directories match such a path too."""
+        return path in self.removed_files or os.path.isfile(self.top + path)

@@ -21,6 +21,7 @@ from crashfs_tools.common.whole_files import read_umask, write_whole_file
 from . import stacks, strace_run, summary
 from .begin_after import LateStart
 from .arguments import LogError
+from .calls.opens import opened_files
 from .directory import Scan, group_name, scan_directory, user_name
 from .log_filter import LogFilter
 from .live_files import LiveFiles, StartConditions, no_target
@@ -260,6 +261,8 @@ def translate_run(options: RecordOptions, files: LiveFiles, run: RecordedRun) ->
     recording = files.recording
     report_run_faults(options, recording, run)
     recording.streams.add_text_of_output(run.output_pipe)
+    if options.ignore:
+        options.is_ignored.add_removed_files(opened_files(files, run.log.calls))
     if options.stacks or any(call.frames for call in run.log.calls):
         note_functions(run.log.calls)
     translate_with_begin_after(options, files, run)

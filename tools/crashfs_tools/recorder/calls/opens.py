@@ -5,10 +5,11 @@ it."""
 from __future__ import annotations
 
 import re
-from typing import Optional
+from typing import Iterable, Iterator, Optional
 
 from crashfs_tools.recorder import arguments
 from crashfs_tools.recorder.arguments import parse_integer
+from crashfs_tools.recorder.call_order import OPENS
 from crashfs_tools.recorder.directory import PERMISSIONS
 from crashfs_tools.recorder.live_tree import Node
 from crashfs_tools.recorder.processes import OpenFile, Process
@@ -16,6 +17,8 @@ from crashfs_tools.recorder.live_files import UNKNOWN, LiveFiles
 from crashfs_tools.recorder.strace_log import Call
 
 CREAT_FLAGS = 'O_WRONLY|O_CREAT|O_TRUNC'
+# The flags of an open that no directory can be opened with.
+FILE_FLAGS = re.compile('O_WRONLY|O_RDWR|O_CREAT')
 
 
 def on_open(files: LiveFiles, process: Process, call: Call) -> None:
@@ -49,6 +52,22 @@ def may_follow_last_link(flags: str) -> bool:
     """Whether an open with these flags follows a symbolic link at its path's end. False with
     O_NOFOLLOW or O_EXCL."""
     return 'O_NOFOLLOW' not in flags and 'O_EXCL' not in flags
+
+
+def opened_files(files: LiveFiles, calls: Iterable[Call]) -> Iterator[str]:
+    """Yields the paths below the directory, also ignored ones, of the files that calls opened for
+    writing, or made by an open, as strace shows them."""
+    for call in calls:
+        path = files.resolver.path_below(call.result_descriptor.path)
+        if path is not None and has_file_flags(call):
+            yield path
+
+
+def has_file_flags(call: Call) -> bool:
+    """Whether a call is an open that can't have opened a directory."""
+    if call.name not in OPENS:
+        return False
+    return call.name == 'creat' or FILE_FLAGS.search(' '.join(call.arguments[1:])) is not None
 
 
 def open_path(
