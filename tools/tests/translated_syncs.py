@@ -158,6 +158,18 @@ SYNCS = [
         ],
     ),
     (
+        'a mapping of which a part is mapped a second time is still one',
+        FILE,
+        [
+            OPEN_F,
+            '1 mmap(NULL, 12288, PROT_READ, MAP_SHARED, 3</d/f>, 0) = 0x10000',
+            '1 mremap(0x11000, 0, 4096, MREMAP_MAYMOVE) = 0x90000',
+            '1 msync(0x10000, 12288, MS_SYNC) = 0',
+            '1 msync(0x90000, 4096, MS_SYNC) = 0',
+        ],
+        ['fsyncrange /f 0 12288', 'fsyncrange /f 4096 4096'],
+    ),
+    (
         'mappings belong to a process; threads and vfork share them',
         TWO_FILES,
         [

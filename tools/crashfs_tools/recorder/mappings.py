@@ -64,7 +64,8 @@ class Memory:
         if keep_old is set, or if old_length is 0: then they are mapped a second time."""
         # The kernel has one mapping there: if it is several here, they are adjacent in the file.
         moved = next(self.parts_in(old_address, 1), None)
-        if not keep_old:
+        # To unmap no bytes would divide a mapping in two.
+        if not keep_old and old_length:
             self.unmap(old_address, old_length)
         self.unmap(address, length)
         if moved is not None:
