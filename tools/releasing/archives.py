@@ -74,10 +74,9 @@ def member_header(path: str, kind: bytes, mode: int, seconds: int) -> tarfile.Ta
 
 
 def add_item(archive: tarfile.TarFile, path: str, item: Item, seconds: int) -> None:
-    """Adds an item to an archive at a path, with a time in seconds since 1970. A link has all
-    rights, a file those of its mode."""
-    kind = tarfile.SYMTYPE if item.target else tarfile.REGTYPE
-    header = member_header(path, kind, 0o777 if item.target else item.mode, seconds)
+    """Adds an item to an archive at a path, with its mode and a time in seconds since 1970."""
+    kind = tarfile.SYMTYPE if item.is_link else tarfile.REGTYPE
+    header = member_header(path, kind, item.mode, seconds)
     header.linkname, header.size = item.target, len(item.content)
     archive.addfile(header, io.BytesIO(item.content))
 
@@ -113,7 +112,7 @@ def write_below(folder: Path, items: Items, seconds: int) -> None:
     for name, item in items.items():
         path = folder / name
         path.parent.mkdir(parents=True, exist_ok=True)
-        if item.target:
+        if item.is_link:
             path.symlink_to(item.target)
         else:
             path.write_bytes(item.content)

@@ -25,8 +25,15 @@ class Item:
     target: str = ''
 
     @property
+    def is_link(self) -> bool:
+        """Whether it is a symbolic link."""
+        return bool(self.target)
+
+    @property
     def mode(self) -> int:
-        """The mode of the file. A link has another one."""
+        """The mode of the file, or that which every link has."""
+        if self.is_link:
+            return 0o777
         return 0o755 if self.is_program else 0o644
 
 

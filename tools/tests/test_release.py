@@ -229,7 +229,7 @@ class Layout(unittest.TestCase):
         links = {
             path: posixpath.normpath(posixpath.join(posixpath.dirname(path), item.target))
             for path, item in self.items.items()
-            if item.target
+            if item.is_link
         }
         commands = ('campaign', 'check', 'record')
         self.assertEqual(set(links), {f'bin/crashfs-{name}' for name in commands})
@@ -320,14 +320,17 @@ class Archives(InFolder):
             self.assertEqual(content.read(), PROGRAM)
         names = [f'crashfs-1-linux-x86_64/{name}' for name in self.items]
         self.assertLessEqual(set(names), set(members))
+        modes = [item.mode for item in self.items.values()]
+        self.assertEqual(modes, [0o755, 0o777, 0o755, 0o644])
         for name, item in zip(names, self.items.values()):
-            self.assertEqual(members[name].linkname, item.target)
-            self.assertEqual(members[name].mode, 0o777 if item.target else item.mode)
+            member = members[name]
+            self.assertEqual((member.issym(), member.isreg()), (item.is_link, not item.is_link))
+            self.assertEqual((member.linkname, member.mode), (item.target, item.mode))
         for member in members.values():
             self.assertEqual(
                 (member.uid, member.gid, member.uname, member.mtime), (0, 0, 'root', SECONDS)
             )
-            self.assertTrue(member.isdir() or member.name in names, member.name)
+            self.assertTrue(member.isdir() or member.name in names)
         order = list(members)
         self.assertTrue(
             all(order.index(posixpath.dirname(name)) < order.index(name) for name in order[1:])
