@@ -3,11 +3,12 @@
 from __future__ import annotations
 
 import json
+from dataclasses import replace
 from types import SimpleNamespace
 from typing import Any, Dict, List, Set, Tuple
 from unittest import mock
 
-from crashfs_tools.checker.states.plan import PlannedTrace, Trial
+from crashfs_tools.checker.states.plan import Offsets, PlannedTrace, Trial
 from crashfs_tools.checker.states.planning import Planner
 from crashfs_tools.common import limits
 from crashfs_tools.common.program import Crashfs
@@ -91,6 +92,26 @@ class AllListed(Listing):
                 self.assertEqual([state.says for state in states], [says for _, says in tried])
                 few = self.planner(None, most=len(states) - 1)
                 self.assertIsNone(few.plan_different_states(path, plan))
+
+    def test_a_plan_of_other_sets_is_at_the_same_place_of_the_session(self) -> None:
+        text = HEADER + creat('/a') + creat('/b') + sync('/') + write('/b', 2)
+        path, planner = self.write('a.trace', text), self.planner(Reader())
+        for offsets, is_last in (
+            (Offsets(), False),
+            (Offsets(states=100, operations=7, lines=(0, 5, 6, 7, 8)), True),
+        ):
+            window = replace(planner.plan_picks(path, offsets, []), is_last=is_last)
+            found = planner.plan_sets(window, [0b10, 0b11, 0b10])
+            self.assertEqual((found.offsets, found.is_last), (offsets, is_last))
+            self.assertEqual(found.window_text(), window.window_text())
+            self.assertNotEqual(found.window_text(), '')
+            self.assertEqual(found.plan.first, window.plan.first)
+            self.assertEqual(found.plan.operations, window.plan.operations)
+            prefixes, picks = found.plan.listed[:-2], found.plan.listed[-2:]
+            self.assertEqual([found.plan.kept[state.number] for state in picks], [0b10, 0b11])
+            self.assertEqual({state.family for state in prefixes}, {'prefix'})
+            (part,) = found.parts
+            self.assertEqual((part.first, part.end), (found.plan.first, picks[-1].number + 1))
 
     def test_a_plan_in_parts_has_the_same_states_as_in_one(self) -> None:
         for name, text in trace_texts():

@@ -3,7 +3,7 @@
 from __future__ import annotations
 
 import os
-from dataclasses import dataclass
+from dataclasses import dataclass, replace
 from functools import reduce
 from operator import and_
 from typing import Iterable, List, Optional, Sequence, Tuple
@@ -215,14 +215,15 @@ class Planner:
         ]
 
     def plan_sets(self, planned: PlannedTrace, sets: Iterable[int]) -> PlannedTrace:
-        """A plan of the same trace as `planned`, with only the prefixes and these sets, each once,
-        as picks. Its first state has the same number as that of `planned`. The next call for this
+        """A plan of the same trace as `planned`, at the same place of the session, with only the
+        prefixes and these sets, each once, as picks. Its first state has the same number as that of
+        `planned`. The next call for this
         trace replaces the file of picks: then the states of this plan can't be made any more.
         Refused or TooLarge if the program refuses the plan; OSError as write_picks()."""
         path = self.write_picks(planned.trace, '.sets', dict.fromkeys(sets))
         options = PlanOptions(['--trace', planned.trace], path)
         plan = read_plan(self.list_plan(options), planned.offsets)
-        return PlannedTrace(planned.trace, make_parts(plan, [options], []), plan, planned.offsets)
+        return replace(planned, parts=make_parts(plan, [options], []), plan=plan)
 
     def plan_prefixes(self, trace: str) -> Plan:
         """A plan of only the prefixes of a trace: the options aren't looked at. TooLarge if the
