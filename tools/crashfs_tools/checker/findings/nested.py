@@ -166,28 +166,27 @@ class SecondCrashTrials:
 
         def rank(state: State) -> Tuple[int, int, int]:
             """More new features, then more lines, then a lower number rank higher."""
-            new_features = self.features_of(findings, state) - self.seen_features
+            new_features = features_of(findings, state) - self.seen_features
             return len(new_features), state.says, -state.number
 
         while states and len(chosen) < self.recoveries_left:
             best = max(states, key=rank)
-            new_features = self.features_of(findings, best) - self.seen_features
+            new_features = features_of(findings, best) - self.seen_features
             if not new_features:
                 break
             self.seen_features |= new_features
             chosen.append(best)
         return chosen
 
-    @staticmethod
-    def features_of(findings: Findings, state: State) -> Set[Tuple[str, str]]:
-        """Two features of a tried state, each after its name: the cause, and the kind and path of
-        the state's last micro-operation, both without numbers. The cause of a good state is an
-        empty text, and so is the second feature of a state without micro-operations."""
-        kept_set = findings.plan.kept[state.number]
-        last = findings.plan.operations[kept_set.bit_length() - 1] if kept_set else None
-        operation = f'{last.kind} {without_numbers(last.path)}' if last else ''
-        cause = findings.outcomes_by_state[state.number].cause_without_numbers
-        return {('cause', cause), ('last', operation)}
+
+def features_of(findings: Findings, state: State) -> Set[Tuple[str, str]]:
+    """Two features of a tried state, each after its name: the cause, and the kind and path of the
+    state's last micro-operation, both without numbers. The cause of a good state is an empty text,
+    and so is the second feature of a state without micro-operations."""
+    last = findings.plan.last_operation_of(state)
+    operation = f'{last.kind} {without_numbers(last.path)}' if last else ''
+    cause = findings.outcomes_by_state[state.number].cause_without_numbers
+    return {('cause', cause), ('last', operation)}
 
 
 def header_options(trace: str) -> List[str]:
@@ -224,8 +223,7 @@ def crash_place(findings: Findings, group: Group) -> str:
     """Where the second crash of a group's example was, as text: at the line of the example's last
     micro-operation, or before the recovery changed anything. The findings must be of the recovery's
     own trace."""
-    kept_set = findings.plan.kept[group.example.number]
-    if not kept_set:
+    last = findings.plan.last_operation_of(group.example)
+    if last is None:
         return 'before its recovery changed anything'
-    line = findings.plan.operations[kept_set.bit_length() - 1].line
-    return f'at line {line} of its recovery ({findings.head.lines[line].text})'
+    return f'at line {last.line} of its recovery ({findings.head.lines[last.line].text})'

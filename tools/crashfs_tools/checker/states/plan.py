@@ -272,6 +272,11 @@ class Plan:
         """The set of the places that a listed state lacks before the last place that it has."""
         return missing_set(self.kept[state.number])
 
+    def last_operation_of(self, state: State) -> Optional[PlannedMicroOperation]:
+        """The last micro-operation that a listed state has; None if it has none."""
+        kept_set = self.kept[state.number]
+        return self.operations[kept_set.bit_length() - 1] if kept_set else None
+
 
 class PlanOptions(NamedTuple):
     """What names a plan for the program: the options for its trace and its families, and the path
