@@ -5,13 +5,14 @@ import os
 import shutil
 import signal
 import unittest
+from argparse import ArgumentTypeError
 from dataclasses import replace
 from pathlib import Path
 from unittest import mock
 
 from crashfs_tools.campaign import main
 from crashfs_tools.campaign.book import Book, KnownFailure
-from crashfs_tools.campaign.options import read_options
+from crashfs_tools.campaign.options import parse_seeds, parse_time_limit, read_options
 from crashfs_tools.campaign.sessions import Failure, SessionVerdict
 from crashfs_tools.common.signals import Stopped
 
@@ -286,6 +287,18 @@ class Campaigns(InFolder):
         self.assertGreater(read_options(['--time-limit', '3600', *commands]).seeds[1], 10**9)
         words = ['--time-limit', '3600', '--seeds', '5-7', *commands]
         self.assertEqual(read_options(words).seeds, (5, 7))
+
+    def test_a_range_of_seeds_has_two_numbers_of_which_the_first_is_not_greater(self):
+        self.assertEqual(parse_seeds('3-3'), (3, 3))
+        for text in ('5-3', '3', '3-', '-3', '3-5-7', 'a-b', ''):
+            with self.assertRaisesRegex(ArgumentTypeError, '^.* is no range such as 1-100$'):
+                parse_seeds(text)
+
+    def test_a_time_limit_is_above_0(self):
+        self.assertEqual([parse_time_limit('1.5'), parse_time_limit('inf')], [1.5, float('inf')])
+        for text in ('0', '-1', 'nan', 'x', ''):
+            with self.assertRaisesRegex(ArgumentTypeError, '^.* is no number of seconds above 0$'):
+                parse_time_limit(text)
 
     def test_options_of_the_commands_are_quoted_as_for_a_shell(self):
         commands = ['found', '--', 'true', '--', 'true']

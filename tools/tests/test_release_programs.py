@@ -67,6 +67,18 @@ class Linking(WithPrograms):
         self.program('gcc', '#!/bin/sh\ntest "$1" = -dumpfullversion && echo 12.2.0\n')
         self.assertEqual(programs.linker_version(), 'gcc 12.2.0')
 
+    def test_a_program_that_fails_is_an_error_whatever_it_printed(self) -> None:
+        self.program('git', '#!/bin/sh\necho c1\nexit 128\n')
+        with self.assertRaises(subprocess.CalledProcessError):
+            programs.output_of('git', 'rev-parse', 'HEAD')
+        for printed, first_line in (('kit 1\nlogic', 'kit 1'), (' ', None)):
+            self.program('rt', f'#!/bin/sh\ntest "$1" = version && echo "{printed}"\n')
+            if first_line:
+                self.assertEqual(programs.kit_version(), first_line)
+            else:
+                with self.assertRaisesRegex(ValueError, '^rt version printed nothing$'):
+                    programs.kit_version()
+
 
 class Tree(InFolder):
     def git(self, *words: str) -> str:

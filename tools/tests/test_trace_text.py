@@ -14,6 +14,7 @@ from crashfs_tools.common.trace_fields import (
 )
 from crashfs_tools.common.trace_read import read_trace_with_numbers
 from crashfs_tools.common.trace_lines import (
+    TraceLine,
     is_large_trace,
     parse_trace_text,
     with_syncs,
@@ -67,6 +68,55 @@ class Lines(unittest.TestCase):
         trace, numbers = read_trace_with_numbers(TEXT)
         self.assertEqual(trace.operations, [Creat('/a', 'u', 'u', 0o644), Say('x' * 50)])
         self.assertEqual(numbers, [4, 5])
+
+
+class Paths(unittest.TestCase):
+    def test_a_line_may_change_what_is_at_or_below_its_path_or_at_its_target(self) -> None:
+        rename, same = TraceLine(1, 'rename', '/d', '/e'), TraceLine(1, 'rename', '/d', '/d')
+        unlink, rmdir = TraceLine(1, 'unlink', '/d'), TraceLine(1, 'rmdir', '/d')
+        for line, path, may_change in (
+            (rename, '/d', True),
+            (rename, '/d/f', True),
+            (rename, '/dd', False),
+            (rename, '/', False),
+            (rename, '/e', True),
+            (rename, '/e/f', False),
+            (same, '/d', False),
+            (same, '/d/f', False),
+            (unlink, '/d', True),
+            (unlink, '/e', False),
+            (rmdir, '/d', True),
+            (TraceLine(1, 'link', '/d', '/e'), '/e', False),
+            (TraceLine(1, 'write', '/d'), '/d', False),
+        ):
+            self.assertEqual(line.may_change_path(path), may_change, (line.text, path))
+
+    def test_lines_are_apart_if_no_path_is_at_or_above_one_of_the_other(self) -> None:
+        creat, rename = TraceLine(1, 'creat', '/d'), TraceLine(1, 'rename', '/a', '/b/c')
+        for line, other, are_apart in (
+            (creat, TraceLine(2, 'write', '/d'), False),
+            (creat, TraceLine(2, 'write', '/d/f'), False),
+            (creat, TraceLine(2, 'write', '/dd'), True),
+            (creat, TraceLine(2, 'fsync', '/'), False),
+            (creat, rename, True),
+            (TraceLine(2, 'fsync', '/b'), rename, False),
+            (TraceLine(2, 'fsync', '/'), rename, False),
+            (TraceLine(2, 'sync'), rename, True),
+        ):
+            self.assertEqual(line.is_apart_from(other), are_apart, (line.text, other.text))
+            self.assertEqual(other.is_apart_from(line), are_apart, (other.text, line.text))
+
+    def test_the_path_whose_fsync_makes_a_line_durable(self) -> None:
+        for line, path in (
+            (TraceLine(1, 'write', '/d/f'), '/d/f'),
+            (TraceLine(1, 'chmod', '/d'), '/d'),
+            (TraceLine(1, 'unlink', '/d/f'), '/d'),
+            (TraceLine(1, 'rename', '/d/f', '/e/f'), '/e'),
+            (TraceLine(1, 'link', '/d/f', '/f'), '/'),
+            (TraceLine(1, 'fsync', '/d/f'), None),
+            (TraceLine(1, 'say', details='a'), None),
+        ):
+            self.assertEqual(line.path_to_fsync, path, line.text)
 
 
 class Edits(unittest.TestCase):
