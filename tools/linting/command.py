@@ -58,8 +58,8 @@ def summary_line(faults_by_linter: Dict[str, Faults]) -> str:
 
 
 def faults_of_linter(linter: Callable[[], Faults]) -> Faults:
-    """What a linter finds. If it raises Refused, as for a wrong crates.txt, that is its one
-    fault."""
+    """What a linter finds. If it raises Refused, as for a wrong crates.txt or a page
+    without a section that it reads, that is its one fault."""
     try:
         return linter()
     except Refused as refused:

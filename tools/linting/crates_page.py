@@ -6,22 +6,27 @@ import re
 from typing import Dict, Iterator, List, Tuple
 
 from building.crates import read_uses
+from crashfs_tools.common.command import Refused
 
 from .sources import TOP
 
+PAGE = 'docs/internals/ARCHITECTURE.md'
 CRATE = re.compile(r'\b(?:cs_\w+|crashfs)\b')
 NOT_OF_THE_PROGRAM = re.compile(r'(_tests|_bench)$|^cs_test_')
 
 
 def page_section(page: str, title: str) -> str:
-    """The part of a page below a heading of the second level, up to the next such heading.
-    IndexError if the page doesn't have the heading."""
-    return page.split(f'\n## {title}\n', 1)[1].split('\n## ', 1)[0]
+    """The part of a page below a heading of the second level, up to the next such heading. Refused
+    if the page doesn't have the heading."""
+    _, heading, after_heading = page.partition(f'\n## {title}\n')
+    if not heading:
+        raise Refused(f'{PAGE} has no section "{title}"')
+    return after_heading.split('\n## ', 1)[0]
 
 
 def crate_rows(page: str) -> List[List[str]]:
     """The cells of each row of the page's table of crates, without its head and the line below
-    that. IndexError if the page lacks the section of the table."""
+    that. Refused if the page lacks the section of the table."""
     rows = [line for line in page_section(page, 'The crates').splitlines() if line.startswith('|')]
     return [[cell.strip() for cell in row.strip('|').split('|')] for row in rows[2:]]
 
@@ -29,7 +34,7 @@ def crate_rows(page: str) -> List[List[str]]:
 def crates_in_picture(page: str) -> List[Tuple[str, int]]:
     """Each crate of the page's picture with its layer, as often as it is there. A row that begins
     with a number of one digit begins the layer of this number; above the first such row the layer
-    is 0. IndexError if the page lacks the section of the picture."""
+    is 0. Refused if the page lacks the section of the picture."""
     crates, layer = [], 0
     for line in page_section(page, 'The layers').splitlines():
         number = re.match(r'\| (\d) ', line)
@@ -42,7 +47,7 @@ def crates_in_picture(page: str) -> List[Tuple[str, int]]:
 def crates_in_table(page: str) -> List[Tuple[str, int]]:
     """Each crate of the page's table with its layer, as often as it is there. The layer is the
     number of the nearest heading row above, or 0 if there is no such row, or no number in it.
-    IndexError if the page lacks the section of the table."""
+    Refused if the page lacks the section of the table."""
     crates, layer = [], 0
     for name, *_ in crate_rows(page):
         number = re.match(r'\*\*(\d) ', name)
@@ -92,8 +97,8 @@ def use_faults(layers: Dict[str, int], uses: Dict[str, List[str]]) -> List[str]:
 def crate_page_faults(page: str, uses: Dict[str, List[str]]) -> List[str]:
     """A sentence for each fault of the page: each crate of the program that isn't once in the
     picture, or not once in the table, and what layer_faults(), row_faults() and use_faults() find.
-    `uses` has the crates of crates.txt, each with those that it uses. IndexError if the page lacks
-    the picture or the table."""
+    `uses` has the crates of crates.txt, each with those that it uses. Refused if the page lacks the
+    section of the picture or that of the table."""
     picture, table = crates_in_picture(page), crates_in_table(page)
     layers = dict(picture)
     program_crates = [name for name in uses if not NOT_OF_THE_PROGRAM.search(name)]
@@ -107,8 +112,8 @@ def crate_page_faults(page: str, uses: Dict[str, List[str]]) -> List[str]:
 
 
 def architecture_faults() -> List[str]:
-    """The sentences of crate_page_faults() for ARCHITECTURE, each after the page's name. IndexError
-    as crate_page_faults(), Refused as in read_uses(); OSError if the page can't be read."""
-    page = (TOP / 'docs' / 'internals' / 'ARCHITECTURE.md').read_text('utf-8')
-    faults = crate_page_faults(page, read_uses(TOP))
-    return [f'docs/internals/ARCHITECTURE.md: {fault}' for fault in faults]
+    """The sentences of crate_page_faults() for PAGE and the crates of crates.txt, each after the
+    page's name. Refused as in crate_page_faults() and read_uses(); OSError if the page can't be
+    read."""
+    faults = crate_page_faults((TOP / PAGE).read_text('utf-8'), read_uses(TOP))
+    return [f'{PAGE}: {fault}' for fault in faults]

@@ -9,7 +9,7 @@ import subprocess
 from pathlib import Path
 from typing import Dict, List, Optional
 
-from .sources import TOP, TOOLS, path_from_top, program_files, python_files, test_files
+from .sources import TOP, path_from_top, program_files, python_files, test_files
 
 # The packages of Debian that have them.
 PACKAGES = ('flake8', 'black', 'mypy')
@@ -45,7 +45,6 @@ def run_linter(words: List[str], files: List[Path]) -> Optional[List[str]]:
         stdout=subprocess.PIPE,
         stderr=subprocess.STDOUT,
         text=True,
-        env={**os.environ, 'MYPYPATH': str(TOOLS)},
     )
     if completed.returncode == 0:
         return []

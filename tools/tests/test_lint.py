@@ -4,6 +4,7 @@ from __future__ import annotations
 
 import contextlib
 import io
+import tempfile
 import unittest
 from pathlib import Path
 from typing import Tuple
@@ -11,9 +12,9 @@ from unittest import mock
 
 from crashfs_tools.common.command import Refused
 from inventory.pages import BEGIN, END
-from linting import python, words
+from linting import crates_page, python, words
 from linting.command import LINTERS, Faults, run_linters
-from linting.crates_page import crate_page_faults
+from linting.crates_page import architecture_faults, crate_page_faults
 from linting.layout import CODE_COLUMNS, long_function_faults, long_lines
 from linting.python import (
     install_packages,
@@ -21,6 +22,7 @@ from linting.python import (
     unexplained_comments_in,
     unknown_name_faults,
 )
+from linting.sources import TOP
 from linting.words import (
     Line,
     name_faults,
@@ -132,6 +134,13 @@ class Python(unittest.TestCase):
         self.assertEqual(run_linter(['false'], []), ['false: status 1'])
         self.assertIsNone(run_linter(['no-such-linter'], []))
 
+    def test_a_linter_gets_paths_from_the_top_in_which_it_runs(self) -> None:
+        words = ['sh', '-c', 'pwd; printf "%s\\n" "$@"; exit 1', 'sh', '--check']
+        self.assertEqual(
+            run_linter(words, [Path(__file__), TOP / 'tools' / 'lint']),
+            [str(TOP), '--check', 'tools/tests/test_lint.py', 'tools/lint'],
+        )
+
     def test_a_name_that_nothing_has_is_a_fault_of_a_test(self) -> None:
         unknown = 'a.py:1: error: "Client" has no attribute "end"  [attr-defined]'
         faults = [unknown, 'a.py:2: error: Function is missing a return type  [no-untyped-def]']
@@ -168,6 +177,27 @@ class CratesPage(unittest.TestCase):
             ('| 1 below', '| 3 below', 'cs_b uses cs_a of a higher layer'),
         ):
             self.assertIn(fault, self.faults(old, new), new)
+
+    def test_the_page_is_read_with_the_list_of_crates(self) -> None:
+        with tempfile.TemporaryDirectory() as folder, mock.patch.object(
+            crates_page, 'TOP', Path(folder)
+        ):
+            page = Path(folder, crates_page.PAGE)
+            page.parent.mkdir(parents=True)
+            for name, uses in USES.items():
+                Path(folder, 'crates', name).mkdir(parents=True)
+                with open(Path(folder, 'crates.txt'), 'a', encoding='utf-8') as file:
+                    file.write(f'{name}: {" ".join(uses)}\n')
+            page.write_text(PAGE, 'utf-8')
+            self.assertEqual(architecture_faults(), [])
+            page.write_text(PAGE.replace('| cs_a | a | all |\n', ''), 'utf-8')
+            fault = f'{crates_page.PAGE}: cs_a is 0 times in the table, not 1 times'
+            self.assertEqual(architecture_faults(), [fault])
+
+    def test_a_page_without_a_section_is_refused(self) -> None:
+        for heading in ('The layers', 'The crates'):
+            with self.assertRaisesRegex(Refused, f'{crates_page.PAGE} has no section "{heading}"'):
+                self.faults(f'## {heading}', '## Another')
 
     def test_a_crate_that_the_picture_lacks_is_one_fault(self) -> None:
         fault = 'cs_b is 0 times in the picture, not 1 times'
