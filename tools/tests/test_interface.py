@@ -189,8 +189,8 @@ class Checks(InterfaceCase):
             (Opening(), 'test_interface.Opening'),
             (Opening().reads, 'test_interface.Opening.reads'),
         ):
-            words = FunctionRecovery(with_text_path(named)).words
-            self.assertEqual(words, [f'{__package__}.{name}'])
+            found = FunctionRecovery(with_text_path(named)).name
+            self.assertEqual(found, f'{__package__}.{name}')
 
     def test_what_a_function_starts_can_be_ended_by_the_guard(self) -> None:
         outer = os.environ.get('CRASHFS_GUARD')

@@ -198,13 +198,17 @@ class Faults(InFolder):
         """Why a recovery isn't recorded by a recorder that is this script."""
         acknowledged = self.write('acknowledged', '')
         checker = SimpleNamespace(
-            recovery=SimpleNamespace(words=['true']),
             environment=dict(os.environ),
             acknowledged_lines=SimpleNamespace(write_file=lambda count: acknowledged),
             timeout=PATIENCE,
         )
         planned = SimpleNamespace(trace=str(EXAMPLES / 'store.trace'))
-        trials = SimpleNamespace(guard=None, new_checker=lambda: checker, planned=planned)
+        trials = SimpleNamespace(
+            guard=None,
+            new_checker=lambda: checker,
+            planned=planned,
+            options=SimpleNamespace(command=['true']),
+        )
         state = SimpleNamespace(number=3, says=0)
         with mock.patch.object(nested_module, 'RECORD', recorder):
             with self.assertRaises(Refused) as refused:

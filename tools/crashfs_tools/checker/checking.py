@@ -368,7 +368,7 @@ def open_trace(options: Options, guard: Guard, progress: Progress) -> Iterator[C
     if options.function is None:
         command = with_program_path(options.command)
     else:
-        command = FunctionRecovery(options.function).words
+        command = [FunctionRecovery(options.function).name]
     trace = CheckedTrace.read(replace(options, command=command), program, guard, progress)
     with trace.refused_faults():
         yield trace

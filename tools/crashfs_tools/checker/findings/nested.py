@@ -43,7 +43,7 @@ SLOWER = 10
 
 class RecoveryRecorder:
     """Records COMMAND in a state by crashfs-record, in a trace without acknowledged lines: what
-    COMMAND prints acknowledges nothing."""
+    COMMAND prints acknowledges nothing. The trials must be of a command, not of a function."""
 
     def __init__(self, trials: Trials) -> None:
         self.trials = trials
@@ -86,7 +86,7 @@ class RecoveryRecorder:
         with open(checker.acknowledged_lines.write_file(state.says), 'rb') as acknowledged:
             try:
                 ran = subprocess.run(
-                    [*recorder_words, *checker.recovery.words],
+                    [*recorder_words, *self.trials.options.command],
                     stdin=acknowledged,
                     stdout=subprocess.DEVNULL,
                     stderr=subprocess.PIPE,

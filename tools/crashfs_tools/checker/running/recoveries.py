@@ -33,10 +33,6 @@ class StateRecovery(Protocol):
     """A recovery that is run in states. Each run is a process of its own, which starts in the
     directory of this process, in a session of its own."""
 
-    @property
-    def words(self) -> List[str]:
-        """The words by which reports name the recovery."""
-
     def start(self, environment: Dict[bytes, bytes], streams: StandardStreams) -> int:
         """Starts the recovery, and returns the number of its process, which the caller must wait
         for. OSError if the system has no room for a process, Refused if the recovery can't be
@@ -45,7 +41,7 @@ class StateRecovery(Protocol):
 
 @dataclass
 class CommandRecovery:
-    """A program with its arguments."""
+    """A program with its arguments, which are `words`."""
 
     words: List[str]
 
@@ -82,9 +78,9 @@ class FunctionRecovery:
     function: RecoveryFunction
 
     @property
-    def words(self) -> List[str]:
-        """The function's module and name."""
-        return [f'{self.function.__module__}.{self.function.__qualname__}']
+    def name(self) -> str:
+        """The function's module and name, by which reports name the recovery."""
+        return f'{self.function.__module__}.{self.function.__qualname__}'
 
     def start(self, environment: Dict[bytes, bytes], streams: StandardStreams) -> int:
         """Forks this process, calls the function in the fork, and returns the fork's number.
