@@ -24,7 +24,7 @@ from crashfs_tools.checker.findings.sightings import (
 )
 from crashfs_tools.checker.options import Options, Shard
 from crashfs_tools.checker.report.json_report import json_pieces
-from crashfs_tools.checker.report.junit import junit_lines
+from crashfs_tools.checker.report.junit import junit_pieces
 from crashfs_tools.checker.report.page import page_pieces
 from crashfs_tools.checker.report.report import CheckReport
 from crashfs_tools.checker.running.progress import Progress
@@ -114,10 +114,10 @@ class Reports(unittest.TestCase):
         self.seen = Sightings({'ext4': DiskCounts(1200, 9, 1)}, {}, [one])
 
     def test_a_failure_that_no_state_has_is_a_test_case(self) -> None:
-        before = ElementTree.fromstring(''.join(junit_lines(self.report)))
+        before = ElementTree.fromstring(''.join(junit_pieces(self.report)))
         self.assertEqual((before.get('tests'), before.get('failures')), ('1', '0'))
         self.report.sightings = self.seen
-        suite = ElementTree.fromstring(''.join(junit_lines(self.report)))
+        suite = ElementTree.fromstring(''.join(junit_pieces(self.report)))
         counts = suite.get('tests'), suite.get('failures'), suite.get('errors')
         self.assertEqual(counts, ('2', '1', '0'))
         case = suite[0]

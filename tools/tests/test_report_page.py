@@ -25,11 +25,11 @@ from crashfs_tools.checker.findings.tree_diff import (
     nearest_good_state,
 )
 from crashfs_tools.checker.report.drawing import drawing_of
-from crashfs_tools.checker.report.junit import junit_lines
+from crashfs_tools.checker.report.junit import junit_pieces
 from crashfs_tools.checker.report.page import page_pieces
 from crashfs_tools.checker.report.json_report import json_pieces
 from crashfs_tools.checker.report.report import CheckReport
-from crashfs_tools.checker.report.tap import tap_lines
+from crashfs_tools.checker.report.tap import tap_pieces
 from crashfs_tools.checker.report.text import ReportText
 from crashfs_tools.checker.running.results import Head
 from crashfs_tools.checker.running.runner import BAD, GOOD, NO_ANSWER, Outcome
@@ -125,8 +125,8 @@ class Pages(unittest.TestCase):
         shown = {
             'report': '\n'.join(ReportText(report).lines()),
             'page': ''.join(page_pieces(report)),
-            'junit': ''.join(junit_lines(report)),
-            'tap': ''.join(tap_lines(report)),
+            'junit': ''.join(junit_pieces(report)),
+            'tap': ''.join(tap_pieces(report)),
             'json': ''.join(json_pieces(report)),
         }
         for name, text in shown.items():
@@ -270,7 +270,7 @@ class JUnit(unittest.TestCase):
     def test_there_is_a_case_for_each_entry_and_one_for_the_others(self):
         report = odd_report()
         report.begin -= 8
-        suite = minidom.parseString(''.join(junit_lines(report))).documentElement
+        suite = minidom.parseString(''.join(junit_pieces(report))).documentElement
         cases = suite.getElementsByTagName('testcase')
         self.assertEqual(len(cases), len(report.groups()) + 1)
         self.assertEqual(int(suite.getAttribute('tests')), len(cases))
@@ -300,7 +300,7 @@ class JUnit(unittest.TestCase):
             replace(first, kept_line=None, lost_line=TraceLine(number, f'word {letter}'))
             for number, letter in enumerate('abc')
         ]
-        suite = minidom.parseString(''.join(junit_lines(report))).documentElement
+        suite = minidom.parseString(''.join(junit_pieces(report))).documentElement
         names = [one.getAttribute('name') for one in suite.getElementsByTagName('testcase')]
         self.assertEqual((len(names), len(set(names))), (4, 4))
         self.assertEqual(names[1], names[0] + ' (2)')
@@ -309,14 +309,14 @@ class JUnit(unittest.TestCase):
         for name in ['a\x1b\0.trace', 'b\udcff\ufffe.trace', 'c"<>&\n.trace', '\u202ed']:
             report = odd_report()
             report.head.trace = name
-            text = ''.join(junit_lines(report))
+            text = ''.join(junit_pieces(report))
             minidom.parseString(text.encode())
             self.assertNotIn('\u202e', text)
 
     def test_what_was_not_tried_is_an_error(self):
         report = odd_report()
         report.head.stopped = 'the time limit'
-        suite = minidom.parseString(''.join(junit_lines(report))).documentElement
+        suite = minidom.parseString(''.join(junit_pieces(report))).documentElement
         (error,) = suite.getElementsByTagName('error')
         self.assertEqual(suite.getAttribute('errors'), '1')
         self.assertRegex(error.parentNode.getAttribute('name'), '^all other states')
@@ -327,7 +327,7 @@ class JUnit(unittest.TestCase):
         for group in findings.groups:
             group.outcome = Outcome(NO_ANSWER, group.outcome.cause)
         report = reported(findings)
-        suite = minidom.parseString(''.join(junit_lines(report))).documentElement
+        suite = minidom.parseString(''.join(junit_pieces(report))).documentElement
         self.assertEqual(
             (suite.getAttribute('failures'), suite.getAttribute('errors')),
             ('0', str(len(report.groups()))),

@@ -22,7 +22,7 @@ from crashfs_tools.checker.findings.sightings import (
     Sightings,
 )
 from crashfs_tools.checker.report.report import CheckReport
-from crashfs_tools.checker.report.tap import tap_lines
+from crashfs_tools.checker.report.tap import tap_pieces
 from crashfs_tools.checker.report.text import ReportText
 from crashfs_tools.checker.running.runner import BAD, GOOD, NO_ANSWER, Outcome
 
@@ -52,7 +52,7 @@ def stopped(report: CheckReport) -> CheckReport:
 
 
 def tap(report: CheckReport) -> List[str]:
-    return ''.join(tap_lines(report)).splitlines()
+    return ''.join(tap_pieces(report)).splitlines()
 
 
 class Points(unittest.TestCase):
@@ -144,7 +144,7 @@ class Harness(InFolder):
             (known_failures(report), 0, 'Result: PASS\n'),
         ):
             report.accept_list = known
-            path = self.write('r.tap', ''.join(tap_lines(report)))
+            path = self.write('r.tap', ''.join(tap_pieces(report)))
             ran = subprocess.run(['prove', '-e', 'cat', path], stdout=PIPE, stderr=PIPE, text=True)
             self.assertEqual((ran.returncode, ran.stderr), (status, ''), ran.stdout)
             self.assertIn(wanted, ran.stdout)

@@ -134,16 +134,16 @@ class Report:
     def write_junit(self, path: PathLike) -> None:
         """Writes the report as JUnit XML. `-`, the file's rights, an old file and an OSError are as
         in write_json()."""
-        from crashfs_tools.checker.report.junit import junit_lines
+        from crashfs_tools.checker.report.junit import junit_pieces
 
-        self._write(path, junit_lines)
+        self._write(path, junit_pieces)
 
     def write_tap(self, path: PathLike) -> None:
         """Writes the report in the Test Anything Protocol. `-`, the file's rights, an old file and
         an OSError are as in write_json()."""
-        from crashfs_tools.checker.report.tap import tap_lines
+        from crashfs_tools.checker.report.tap import tap_pieces
 
-        self._write(path, tap_lines)
+        self._write(path, tap_pieces)
 
     def write_html(self, path: PathLike) -> None:
         """Writes the report as a page for a browser. `-`, the file's rights, an old file and an

@@ -24,7 +24,7 @@ SPACES = '\n\t'
 ReportEntry = Tuple[Group, Optional[SecondCrash]]
 
 
-def junit_lines(report: CheckReport) -> Iterator[str]:
+def junit_pieces(report: CheckReport) -> Iterator[str]:
     """The text of the file of --junit, in pieces: a test case for each entry of the report, also of
     second crashes, for each failure on disks that no tried state has, and for all other states. The
     time of an entry is that of its example's second run, 0 without one; that of the last case is

@@ -27,7 +27,7 @@ def page_pieces(report: CheckReport) -> Iterator[str]:
     """The text of the file of --html, in pieces. It draws the states of the first crash, in at most
     MOST_DRAWINGS windows. What windows cut off, all advised syncs at once, sets drawn at random and
     outcomes from the cache are only in the other reports."""
-    title = shown_text(report.head.trace)
+    title = multiline_html(report.head.trace)
     report_text = ReportText(report)
     yield (
         f'<!DOCTYPE html>\n<html lang="en"><head><meta charset="utf-8">'
@@ -52,8 +52,9 @@ def page_pieces(report: CheckReport) -> Iterator[str]:
     yield f'<script>const windows = {script_data(report)};\n{SCRIPT}</script>\n</body></html>\n'
 
 
-def shown_text(text: str) -> str:
-    """A text as html_text() has it, with newlines and tabs as they are."""
+def multiline_html(text: str) -> str:
+    """A text as HTML, between tags or in the value of an attribute: escaped as by html_text(), but
+    newlines and tabs stay as they are."""
     return html_text(text, '\n\t')
 
 
@@ -61,13 +62,13 @@ def elements(tag: str, lines: Iterable[str], *, css_class: str = '') -> str:
     """Lines as HTML, each as an element with this tag, such as `p` or `li`, and with this class of
     the page's style, if it isn't empty."""
     attribute = f' class="{css_class}"' if css_class else ''
-    return ''.join(f'<{tag}{attribute}>{shown_text(line)}</{tag}>\n' for line in lines)
+    return ''.join(f'<{tag}{attribute}>{multiline_html(line)}</{tag}>\n' for line in lines)
 
 
 def states_section(report: CheckReport) -> Iterator[str]:
     """The section of HTML with the states, which the page's script draws there: how many were
     tried and, if some windows aren't drawn, how many are."""
-    yield f'<h2>The states</h2>\n<p>{shown_text(report.counts.tried_text)}</p>\n'
+    yield f'<h2>The states</h2>\n<p>{multiline_html(report.counts.tried_text)}</p>\n'
     yield '<div id="states"></div><p id="shown"></p>\n'
     drawn_count = len(report.drawings[:MOST_DRAWINGS])
     if report.counts.windows > drawn_count:
@@ -87,14 +88,14 @@ def about_line(report: CheckReport) -> str:
         states,
         present_time(),
     ]
-    return f'<p class="about">{shown_text("; ".join(parts))}</p>\n'
+    return f'<p class="about">{multiline_html("; ".join(parts))}</p>\n'
 
 
 def entry_section(report: CheckReport, group: Group) -> Iterator[str]:
     """An entry as HTML: its cause, its details, its two lines of the trace, how files differ, and
     the end of what COMMAND printed in the example. What isn't known is left out. Of a line that the
     report doesn't have only the number is shown."""
-    cause, states = shown_text(group.outcome.cause), shown_text(states_and_example(group))
+    cause, states = multiline_html(group.outcome.cause), multiline_html(states_and_example(group))
     css_class = '' if group.accepted_entry is None else ' class="accepted"'
     yield f'<section{css_class}><h2>{cause}</h2><p>{states}</p>\n'
     yield f'<ul>\n{elements("li", ReportText(report).details(group))}</ul>\n'
@@ -104,7 +105,7 @@ def entry_section(report: CheckReport, group: Group) -> Iterator[str]:
     yield '</table>\n'
     yield from difference_section(group)
     if group.outcome.output:
-        yield f'<pre>{shown_text(group.outcome.output)}</pre>\n'
+        yield f'<pre>{multiline_html(group.outcome.output)}</pre>\n'
     yield '</section>\n'
 
 
@@ -126,10 +127,10 @@ def second_crash_lines(group: Group, second_crash: SecondCrash) -> Iterator[str]
     end of what COMMAND printed in the example, if it printed anything."""
     states = states_and_example(group, second_crash)
     details = second_crash_details(group, second_crash)
-    yield f'<h3>{shown_text(group.outcome.cause)}</h3>\n<p>{shown_text(states)}</p>\n'
+    yield f'<h3>{multiline_html(group.outcome.cause)}</h3>\n<p>{multiline_html(states)}</p>\n'
     yield f'<ul>\n{elements("li", details)}</ul>\n'
     if group.outcome.output:
-        yield f'<pre>{shown_text(group.outcome.output)}</pre>\n'
+        yield f'<pre>{multiline_html(group.outcome.output)}</pre>\n'
 
 
 def disk_section(report: CheckReport) -> Iterator[str]:
@@ -181,8 +182,8 @@ def line_row(line: TraceLine, mark: str) -> str:
     addition to that of the operation, or empty."""
     word = 'sync' if line.word in SYNCS else line.word
     return (
-        f'<tr class="{shown_text(word)} {mark}"><td>{line.number}</td>'
-        f'<td>{shown_text(line.text)}</td><td>{shown_text(line.note)}</td></tr>\n'
+        f'<tr class="{multiline_html(word)} {mark}"><td>{line.number}</td>'
+        f'<td>{multiline_html(line.text)}</td><td>{multiline_html(line.note)}</td></tr>\n'
     )
 
 

@@ -25,8 +25,8 @@ class TestPoint(NamedTuple):
     reason: str = ''
 
     def lines(self, number: int) -> Iterator[str]:
-        """The lines of the test in the file, in which it has this number. The lines of its failure
-        are comments."""
+        """The lines of the test in the file, each with its line end. The test has this number in
+        the file; the lines of its failure are comments."""
         result = 'not ok' if self.failure else 'ok'
         skipped = f' # SKIP {escape_unprintable(self.reason)}' if self.reason else ''
         yield f'{result} {number} - {escaped_name(self.name)}{skipped}\n'
@@ -34,7 +34,7 @@ class TestPoint(NamedTuple):
             yield f'# {escape_unprintable(line)}\n'
 
 
-def tap_lines(report: CheckReport) -> Iterator[str]:
+def tap_pieces(report: CheckReport) -> Iterator[str]:
     """The text of the file of --tap, in pieces: a test for each entry of the report, for each entry
     of second crashes, for each failure on disks that no tried state has, and one for all other
     states. One of them fails exactly if the check's status isn't 0."""
