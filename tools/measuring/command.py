@@ -66,13 +66,15 @@ def parse_words(words: List[str]) -> argparse.Namespace:
 
 
 def benchmark_of_program(name: str) -> Benchmark:
-    """The benchmark of a program that prints its rows itself, given by its name. Its add_rows
-    raises OSError if the program can't be started."""
+    """The benchmark of a program that prints its rows itself, given by its name. By the word `time`
+    each row has how long it took, and whether that is within its bound. Its add_rows raises OSError
+    if the program can't be started."""
 
-    def run_program(programs: Programs, tally: Tally) -> None:
+    def add_printed_rows(programs: Programs, tally: Tally) -> None:
+        """Adds the rows that the program prints."""
         tally.run_program([programs.path(name), 'time'])
 
-    return Benchmark([name], run_program)
+    return Benchmark([name], add_printed_rows)
 
 
 def measure_benchmark(programs: Programs, name: str, tally: Tally) -> None:

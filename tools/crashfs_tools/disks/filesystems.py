@@ -115,8 +115,9 @@ def filesystems_by_names(disk_names: Sequence[str]) -> List[FileSystem]:
 
 
 def require_filesystems(names: Sequence[str]) -> None:
-    """Refused if --disks names an unknown file system, or if this machine or user can't make and
-    mount one. OSError if the system can't fork."""
+    """Refused if --disks names an unknown file system, or if missing_requirement() finds one: root,
+    mounts of its own, loop devices, or a program. Whether the kernel can mount them isn't tried.
+    OSError if the system can't fork."""
     missing = missing_requirement(filesystems_by_names(names))
     if missing is not None:
         raise Refused(f'--disks: {missing}')

@@ -31,6 +31,7 @@ HANDLERS: Dict[str, Handler] = {
     **syncs.HANDLERS,
     **modes.HANDLERS,
 }
+# strace follows these calls only if sockets may acknowledge lines.
 SOCKET_HANDLERS: Dict[str, Handler] = dict(data_calls.SOCKET_HANDLERS)
 
 
@@ -131,8 +132,8 @@ class Translator:
 
     def translate_returned_call(self, call: Call) -> None:
         """Translates a call that returned, with the stores that its copies show: those to other
-        files before the call, and those to the file that the call itself changes after it. A call
-        without a handler changes nothing."""
+        files before the call, and those to the file that the call itself changes after it. An mmap
+        adds its file to those that get stores. A call without a handler changes nothing."""
         process = self.find_process(call.thread, call.end)
         handler = HANDLERS.get(call.name) or SOCKET_HANDLERS.get(call.name)
         changed_file = self.file_changed_by(process, call) if self.call_copies else None
