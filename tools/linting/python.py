@@ -13,8 +13,10 @@ from .sources import TOP, path_from_top, program_files, python_files, test_files
 
 # The packages of Debian that have them.
 PACKAGES = ('flake8', 'black', 'mypy')
-# What mypy's faults about a name that nothing has end with.
-UNKNOWN_NAME = re.compile(r'\[(?:attr-defined|name-defined|call-arg)\]$')
+# The codes of mypy's faults about a name that nothing has, and about a file that it can't read.
+UNKNOWN_NAME = re.compile(r'\[(?:attr-defined|name-defined|call-arg|syntax)\]$')
+# What else mypy prints if it has read all files: faults and notes at a line, and their count.
+OTHER_FAULT = re.compile(r'^\S+:\d+: (?:error|note): |^Found .* \(checked ')
 UNEXPLAINED = re.compile(r'#\s*(?:type: ignore|noqa)(?!(?:\[[\w, -]+\]|: [A-Z]\d+)  # \S)')
 
 
@@ -69,13 +71,16 @@ def mypy_faults() -> Optional[List[str]]:
 
 
 def unknown_name_faults() -> Optional[List[str]]:
-    """What mypy finds in the tests of names, attributes and arguments that nothing has; None if
-    mypy isn't installed. Its other lines are dropped, since the tests aren't typed: also a line
-    that says that mypy itself failed."""
+    """What mypy finds in the tests of names, attributes and arguments that nothing has, and what it
+    prints if it fails itself, as at a syntax error; None if it isn't installed. Its other lines are
+    dropped, since the tests aren't typed."""
     # The tests of the proved program run last: without this a changed name would be found late.
-    words = ['mypy', '--check-untyped-defs', '--implicit-reexport']
+    # Tests may take what another test imports.
+    words = ['mypy', '--implicit-reexport']
     lines = run_linter(words, test_files())
-    return None if lines is None else [line for line in lines if UNKNOWN_NAME.search(line)]
+    if lines is None:
+        return None
+    return [line for line in lines if UNKNOWN_NAME.search(line) or not OTHER_FAULT.search(line)]
 
 
 def unexplained_comments_in(sources: Dict[str, str]) -> List[str]:

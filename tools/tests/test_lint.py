@@ -4,6 +4,7 @@ from __future__ import annotations
 
 import contextlib
 import io
+import shutil
 import tempfile
 import unittest
 from pathlib import Path
@@ -143,12 +144,45 @@ class Python(unittest.TestCase):
 
     def test_a_name_that_nothing_has_is_a_fault_of_a_test(self) -> None:
         unknown = 'a.py:1: error: "Client" has no attribute "end"  [attr-defined]'
-        faults = [unknown, 'a.py:2: error: Function is missing a return type  [no-untyped-def]']
-        for ran, wanted in ((faults, [unknown]), ([], []), (None, None)):
+        others = [
+            'a.py:2: error: Function is missing a return type  [no-untyped-def]',
+            'a.py:2: note: Use "-> None" if function does not return a value',
+            'Found 2 errors in 1 file (checked 9 source files)',
+        ]
+        for ran, wanted in (([unknown, *others], [unknown]), ([], []), (None, None)):
             with mock.patch.object(python, 'run_linter', return_value=ran) as linter:
                 self.assertEqual(unknown_name_faults(), wanted)
             self.assertTrue(all(path.name != 'python.py' for path in linter.call_args.args[1]))
             self.assertIn(Path(__file__), linter.call_args.args[1])
+
+    def test_a_linter_that_fails_itself_is_a_fault_of_the_tests(self) -> None:
+        for fault in (
+            'a.py:1: error: invalid syntax  [syntax]',
+            'Found 1 error in 1 file (errors prevented further checking)',
+            "mypy: can't read file 'a.py': No such file or directory",
+            'mypy: status 2',
+        ):
+            with mock.patch.object(python, 'run_linter', return_value=[fault]):
+                self.assertEqual(unknown_name_faults(), [fault])
+
+    @unittest.skipUnless(shutil.which('mypy'), 'mypy is not installed')
+    def test_names_in_untyped_tests_and_of_other_tests_are_looked_up(self) -> None:
+        with tempfile.TemporaryDirectory() as folder:
+            names = {
+                'one': 'import os\n',
+                'two': 'from one import os\ndef f():\n    os.nothing()\n',
+            }
+            paths = [Path(folder, f'{name}.py') for name in names]
+            for path in paths:
+                path.write_text(names[path.stem])
+            with mock.patch.object(python, 'test_files', return_value=paths), mock.patch.object(
+                python, 'path_from_top', str
+            ), mock.patch.object(python, 'TOOLS', folder):
+                faults = unknown_name_faults()
+        self.assertEqual(
+            [fault.partition(': error: ')[2] for fault in faults or ()],
+            ['Module has no attribute "nothing"  [attr-defined]'],
+        )
 
     def test_only_root_installs_and_only_what_is_missing(self) -> None:
         for user, names, calls in ((0, ['mypy'], 1), (0, [], 0), (1000, ['mypy'], 0)):
