@@ -11,7 +11,8 @@ from typing import Any, List, Set
 from crashfs_tools.checker.options import Shard
 from crashfs_tools.checker.report.counts import StateCounts
 from crashfs_tools.checker.report.summary import partial_check_lines, share_text
-from crashfs_tools.checker.running.progress import MEASURED_STATES, Pace, Progress, TooSlow
+from crashfs_tools.checker.running.pace import MEASURED_STATES, Pace, TooSlow
+from crashfs_tools.checker.running.progress import Progress
 from crashfs_tools.checker.running.results import Results
 from crashfs_tools.checker.running.runner import BAD, GOOD, GOOD_OUTCOME, NO_ANSWER, Outcome
 from crashfs_tools.checker.running.trials import Trials, Workplace
@@ -30,7 +31,10 @@ TORN = HEADER + creat('/a') + sync('/') + said('1') + write('/a', 6 * 4096) + sa
 class TriedNowhere(Trials):
     """Gives each state an outcome without running anything."""
 
-    def __init__(self, planned: PlannedTrace, seconds: float, **more: Any) -> None:
+    def __init__(
+        self, planned: PlannedTrace, seconds: float, *, outcome: Outcome = GOOD_OUTCOME, **more: Any
+    ) -> None:
+        self.outcome = outcome
         options = SimpleNamespace(
             most_seconds=seconds,
             shard=Shard(),
@@ -50,7 +54,7 @@ class TriedNowhere(Trials):
     def run_workers(self, layout: Any, wanted: Set[int], on_outcome: Any) -> None:
         self.order.append(wanted)
         for number in sorted(wanted):
-            on_outcome(number, GOOD_OUTCOME)
+            on_outcome(number, self.outcome)
 
 
 class Order(Listing):
@@ -130,6 +134,16 @@ class Order(Listing):
         self.assertFalse(trials.try_all(results))
         self.assertEqual((len(results.outcomes), trials.order), (1, []))
 
+    def test_by_fail_fast_a_state_without_an_answer_ends_nothing(self) -> None:
+        planned = self.planned(MANY)
+        for result, is_ended in ((NO_ANSWER, False), (BAD, True)):
+            trials = TriedNowhere(planned, 1e9, outcome=Outcome(result, 'slow'))
+            trials.options.fail_fast = True
+            results = Results(planned.plan)
+            self.assertEqual(trials.try_all(results), not is_ended, result)
+            self.assertEqual(trials.is_ended_by_failure, is_ended, result)
+            self.assertEqual(len(trials.order) == 1, is_ended, result)
+
     def test_by_fail_fast_a_failure_ends_it_also_if_the_pace_is_too_slow_then(self) -> None:
         planned = self.planned(MANY)
         for seconds in (1e9, 0.0):
@@ -145,9 +159,8 @@ class FailingLast(TriedNowhere):
     """The state after which the pace is known fails."""
 
     def run_workers(self, layout: Any, wanted: Set[int], on_outcome: Any) -> None:
-        progress = self.workplace.progress
         for number in sorted(wanted):
-            is_last = progress.pace.tried_count == MEASURED_STATES - 1
+            is_last = self.pace.tried_count == MEASURED_STATES - 1
             on_outcome(number, Outcome(BAD, 'lost') if is_last else GOOD_OUTCOME)
             if is_last:
                 return
@@ -162,7 +175,7 @@ class Paces(unittest.TestCase):
             for number in range(2 * MEASURED_STATES):
                 now[0] += each
                 try:
-                    pace.count_state()
+                    pace.count_outcome(GOOD_OUTCOME)
                 except TooSlow:
                     found.append(number)
             self.assertEqual(found, [MEASURED_STATES - 1] if is_slow else [])
@@ -170,15 +183,14 @@ class Paces(unittest.TestCase):
 
     def test_no_pace_is_too_slow_if_no_state_is_left(self) -> None:
         for left_count in (1, 0):
-            progress = Progress(None)
-            progress.begin_part(MEASURED_STATES + left_count, most_seconds=0.0)
+            pace = Pace(MEASURED_STATES + left_count, 0.0)
             for _ in range(MEASURED_STATES - 1):
-                progress.add_outcome(GOOD_OUTCOME)
+                pace.count_outcome(GOOD_OUTCOME)
             with ExitStack() as stack:
                 if left_count:
                     stack.enter_context(self.assertRaises(TooSlow))
-                progress.add_outcome(Outcome(BAD, 'lost'))
-            self.assertEqual(progress.failed_count, 1)
+                pace.count_outcome(Outcome(BAD, 'lost'))
+            self.assertEqual(pace.failed_count, 1)
 
     def test_shares_are_rounded_up(self) -> None:
         for share, text in [

@@ -9,6 +9,7 @@ import unittest
 from unittest import mock
 
 from crashfs_tools.checker.running import progress
+from crashfs_tools.checker.running.pace import Pace
 from crashfs_tools.checker.running.read_results import read_json
 from crashfs_tools.checker.running.runner import BAD, GOOD, NO_ANSWER, Outcome
 
@@ -316,11 +317,12 @@ class Progress(unittest.TestCase):
     def test_without_a_terminal_a_line_comes_every_half_minute(self):
         stream, now = io.StringIO(), [0.0]
         shown = progress.Progress(stream, lambda: now[0])
-        shown.begin_part(100)
-        for step in range(1, 66):
+        pace = Pace(100, float('inf'), lambda: now[0])
+        for step, result in enumerate([GOOD, BAD, NO_ANSWER, *[GOOD] * 62], 1):
             now[0] = step
-            shown.add_outcome(Outcome(BAD if step == 2 else GOOD))
-        shown.end_part()
+            pace.count_outcome(Outcome(result))
+            shown.show_pace('', pace)
+        shown.end_part(pace)
         self.assertEqual(
             stream.getvalue().splitlines(),
             [
@@ -333,11 +335,12 @@ class Progress(unittest.TestCase):
         stream, now = io.StringIO(), [0.0]
         shown = progress.Progress(stream, lambda: now[0])
         for window in range(4):
-            shown.begin_part(10, f'part {window}: ')
+            pace = Pace(10, float('inf'), lambda: now[0])
             for _ in range(10):
                 now[0] += 1
-                shown.add_outcome(Outcome(GOOD))
-            shown.end_part()
+                pace.count_outcome(Outcome(GOOD))
+                shown.show_pace(f'part {window}: ', pace)
+            shown.end_part(pace)
         self.assertEqual(
             stream.getvalue().splitlines(),
             ['crashfs-check: part 2: 10 of 10 tried, 0 fail, about 0 seconds left'],
@@ -348,10 +351,11 @@ class Progress(unittest.TestCase):
         with mock.patch.object(stream, 'isatty', lambda: True):
             shown = progress.Progress(stream, lambda: now[0])
         for part in range(4):
-            shown.begin_part(1, f'part {part}: ')
+            pace = Pace(1, float('inf'), lambda: now[0])
             now[0] += progress.TERMINAL_SECONDS * 0.6
-            shown.add_outcome(Outcome(GOOD))
-            shown.end_part()
+            pace.count_outcome(Outcome(GOOD))
+            shown.show_pace(f'part {part}: ', pace)
+            shown.end_part(pace)
         counts = '1 of 1 tried, 0 fail, about 0 seconds left'
         lines = [line for line in stream.getvalue().split('\r') if line not in ('', '\033[K')]
         self.assertEqual(lines, [f'part {part}: {counts}\033[K' for part in (1, 3)])
@@ -370,14 +374,15 @@ class Progress(unittest.TestCase):
         for is_terminal in (True, False):
             with mock.patch.object(stream, 'isatty', lambda: is_terminal):
                 shown = progress.Progress(stream, lambda: now[0])
-            shown.begin_part(3)
+            pace = Pace(3, float('inf'), lambda: now[0])
+            pace.count_outcome(Outcome(GOOD))
             with mock.patch.object(stream, 'flush', full):
                 for _ in range(2):
                     now[0] += 60
-                    shown.add_outcome(Outcome(GOOD))
-                shown.end_part()
+                    shown.show_pace('', pace)
+                shown.end_part(pace)
                 shown.show_moments(1, 1)
-            self.assertEqual((shown.pace.tried_count, full.call_count), (2, 1))
+            self.assertEqual(full.call_count, 1)
             full.reset_mock()
 
     def test_durations_are_rounded(self):

@@ -10,7 +10,7 @@ from contextlib import contextmanager
 from unittest import mock
 
 from crashfs_tools.checker.running import runner
-from crashfs_tools.checker.running.progress import TooSlow
+from crashfs_tools.checker.running.pace import TooSlow
 from crashfs_tools.checker.running.runner import (
     BAD,
     GOOD,

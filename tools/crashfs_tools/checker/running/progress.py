@@ -1,5 +1,4 @@
-"""How far a check is: a line on a terminal, else one every half a minute. And how long its states
-take: whether all of them can be tried."""
+"""How far a check is: a line on a terminal, else one every half a minute."""
 
 from __future__ import annotations
 
@@ -9,53 +8,17 @@ from typing import Callable, Optional, TextIO
 from crashfs_tools.checker.options import NAME
 from crashfs_tools.common.printable import count_text
 
-from .runner import BAD, Outcome
+from .pace import Pace
 
 EVERY_SECONDS = 30.0
 TERMINAL_SECONDS = 0.1
 UNITS = ((3600, 'hour'), (60, 'minute'), (1, 'second'))
-# So many states tell how long all will take.
-MEASURED_STATES = 100
-
-
-class TooSlow(Exception):
-    """All states would take longer than they may."""
-
-
-class Pace:
-    """Measures how long state_count states take as they are tried. All of them together may take
-    most_seconds: infinity for no limit."""
-
-    def __init__(
-        self, state_count: int, most_seconds: float, clock: Callable[[], float] = time.monotonic
-    ) -> None:
-        """No state is counted yet, and the time begins now. `clock` returns seconds."""
-        self.state_count = state_count
-        self.most_seconds = most_seconds
-        self.clock = clock
-        self.tried_count = 0
-        self.begin_time = clock()
-
-    def count_state(self) -> None:
-        """Counts one more state as tried. TooSlow once, when MEASURED_STATES are counted and others
-        are left, if all would take longer than most_seconds at this pace."""
-        self.tried_count += 1
-        is_measured = self.tried_count == MEASURED_STATES < self.state_count
-        if is_measured and self.seconds * self.state_count > self.most_seconds:
-            raise TooSlow
-
-    @property
-    def seconds(self) -> float:
-        """How many seconds passed for each state that was tried so far, with all jobs working at
-        once; 0 if none was tried."""
-        return (self.clock() - self.begin_time) / self.tried_count if self.tried_count else 0.0
 
 
 class Progress:
     """Shows how many states of a part of a check were tried: on a terminal in one line that
     changes, else in a new line every EVERY_SECONDS, also if parts take less time than that; or, on
-    a terminal only, how many moments on disks. If the stream is None, nothing is shown. `pace` is
-    that of the part."""
+    a terminal only, how many moments on disks. If the stream is None, nothing is shown."""
 
     def __init__(
         self, stream: Optional[TextIO], clock: Callable[[], float] = time.monotonic
@@ -66,24 +29,12 @@ class Progress:
         self.clock = clock
         self.report_time = clock()
         self.is_terminal = stream is not None and stream.isatty()
-        self.begin_part(0)
 
-    def begin_part(
-        self, state_count: int, name: str = '', most_seconds: float = float('inf')
-    ) -> None:
-        """Begins a part of state_count states, of which none is counted yet, and which together may
-        take most_seconds. Its lines begin with its name, which may be empty."""
-        self.pace = Pace(state_count, most_seconds, self.clock)
-        self.name = name
-        self.failed_count = 0
-
-    def add_outcome(self, outcome: Outcome) -> None:
-        """Counts one more state of the part. Then shows the part's progress if a line is_due().
-        TooSlow as Pace.count_state(): the state is counted then, but nothing is shown."""
-        self.failed_count += outcome.result == BAD
-        self.pace.count_state()
+    def show_pace(self, name: str, pace: Pace) -> None:
+        """Shows how many states of a part were tried, after its name, which may be empty, if a line
+        is_due()."""
         if self.is_due():
-            self.show_text(self.progress_text())
+            self.show_text(name + pace_text(pace))
 
     def is_due(self) -> bool:
         """Whether the last line is TERMINAL_SECONDS old on a terminal, or EVERY_SECONDS on another
@@ -111,16 +62,6 @@ class Progress:
         except OSError:
             self.stream = None
 
-    def progress_text(self) -> str:
-        """The part's counts, and about how long its other states will take if they are as slow as
-        those that were tried: 0 seconds if none was."""
-        tried_count, state_count = self.pace.tried_count, self.pace.state_count
-        left_text = duration_text(self.pace.seconds * (state_count - tried_count))
-        return (
-            f'{self.name}{tried_count:,} of {state_count:,} tried, {self.failed_count:,} fail, '
-            f'about {left_text} left'
-        )
-
     def show_moments(self, tried_count: int, moment_count: int) -> None:
         """On a terminal, shows how many moments of a session were tried on real disks, each counted
         once for each file system, if a line is_due(). After the last moment the line is removed in
@@ -132,10 +73,21 @@ class Progress:
         elif self.is_due():
             self.show_text(f'disks: {tried_count:,} of {moment_count:,} moments')
 
-    def end_part(self) -> None:
-        """Removes the part's line from a terminal, if there may be one."""
-        if self.is_terminal and self.pace.tried_count:
+    def end_part(self, pace: Pace) -> None:
+        """Removes the line of a part from a terminal, if there may be one: not if no state of the
+        part was tried."""
+        if self.is_terminal and pace.tried_count:
             self.remove_line()
+
+
+def pace_text(pace: Pace) -> str:
+    """The counts of a part, and about how long its other states will take if they are as slow as
+    those that were tried: 0 seconds if none was."""
+    left_text = duration_text(pace.seconds * (pace.state_count - pace.tried_count))
+    return (
+        f'{pace.tried_count:,} of {pace.state_count:,} tried, {pace.failed_count:,} fail, '
+        f'about {left_text} left'
+    )
 
 
 def duration_text(seconds: float) -> str:

@@ -29,7 +29,8 @@ from crashfs_tools.common.limits import RUNS
 from crashfs_tools.common.program import Crashfs
 from crashfs_tools.common.trace_fields import root_owner
 
-from .progress import Progress, TooSlow
+from .pace import Pace, TooSlow
+from .progress import Progress
 from .recoveries import CommandRecovery, FunctionRecovery, StateRecovery
 from .results import Results
 from .runner import BAD, AcknowledgedLines, Checker, Outcome, do_nothing, refuse_left_processes
@@ -75,6 +76,8 @@ class Trials:
         self.planned = planned
         self.plan = planned.plan
         self.trees = PlanTrees(self.program, planned, self.guard, loads_all=loads_all_trees)
+        # That of the last call of try_states().
+        self.pace = Pace(0, float('inf'))
 
     def with_plan(self, planned: PlannedTrace, program: Crashfs) -> Trials:
         """Trials of another plan, such as that of a recovery, with the same COMMAND and workplace,
@@ -169,13 +172,14 @@ class Trials:
         batch, and no other one is begun. TooSlow if all would take longer than most_seconds; other
         exceptions as in pass_cached_outcomes(), new_layout() and run_workers(). After any of them
         on_outcome was called for all outcomes found before."""
-        progress = self.workplace.progress
-        progress.begin_part(sum(map(len, batches)), self.planned.window_text(), most_seconds)
+        progress, name = self.workplace.progress, self.planned.window_text()
+        self.pace = pace = Pace(sum(map(len, batches)), most_seconds)
 
         def report_outcome(number: int, outcome: Outcome) -> None:
-            """Passes an outcome to on_outcome, and then counts it; not after an exception."""
+            """Passes an outcome to on_outcome, then counts and shows it; not after an exception."""
             on_outcome(number, outcome)
-            progress.add_outcome(outcome)
+            pace.count_outcome(outcome)
+            progress.show_pace(name, pace)
 
         layout: Optional[Layout] = None
         try:
@@ -188,13 +192,13 @@ class Trials:
                 if self.is_ended_by_failure:
                     break
         finally:
-            progress.end_part()
+            progress.end_part(pace)
 
     @property
     def is_ended_by_failure(self) -> bool:
         """Whether --fail-fast is given, and a state has failed of those that the last call of
         try_states() was for."""
-        return self.options.fail_fast and self.workplace.progress.failed_count > 0
+        return self.options.fail_fast and self.pace.failed_count > 0
 
     @cached_property
     def state_keys(self) -> StateKeys:
@@ -309,8 +313,7 @@ class Trials:
         try:
             self.try_states(batches, keep_outcome, most_seconds)
         finally:
-            pace = self.workplace.progress.pace
-            results.seconds_per_state = pace.seconds or results.seconds_per_state
+            results.seconds_per_state = self.pace.seconds or results.seconds_per_state
 
     def divide_in_batches(self, results: Results, numbers: Set[int]) -> List[Set[int]]:
         """Divides the numbers of states into batches, those first that find most: an early end then

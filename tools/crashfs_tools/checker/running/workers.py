@@ -20,7 +20,7 @@ from crashfs_tools.common.streams import open_pipe, poll_for_input
 from crashfs_tools.common.program import ProgramFault
 from crashfs_tools.common.signals import STOPS, stop_signals_blocked
 
-from .progress import TooSlow
+from .pace import TooSlow
 from .runner import BAD, GOOD, GOOD_OUTCOME, POLL_SECONDS, CheckEnded, Checker, Outcome, reap_child
 
 # How long workers have to undo what they laid out before they are killed.
