@@ -6,8 +6,6 @@ FILE_BYTES = 16_777_216
 LARGE_FILE_BYTES = 1_073_741_824
 MICRO_OPERATIONS = 1_024
 NAME_BYTES = 255
-# What an operation on a file's pages is split by, whatever the size of a block.
-PAGE_BYTES = 4_096
 PATH_NAMES = 64
 RECORDS = 65_536
 RUNS = 4_096
@@ -16,12 +14,6 @@ STATES = 16_384
 # The bytes of a symbolic link's target.
 TARGET_BYTES = 4_095
 USER_BYTES = 64
-
-
-def round_up_to_pages(length: int) -> int:
-    """The smallest multiple of PAGE_BYTES that is at least a length: the end of the last page of a
-    file of this length."""
-    return -(-length // PAGE_BYTES) * PAGE_BYTES
 
 
 def most_file_bytes(version: int) -> int:

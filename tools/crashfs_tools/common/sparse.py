@@ -5,6 +5,8 @@ from __future__ import annotations
 import re
 from typing import Dict, Iterable, Iterator, List, Tuple, Union
 
+# The model splits what an operation does to a file by its pages, whatever the size of a block; a
+# mapping has whole pages too.
 PAGE_BYTES = 4_096
 ZEROS = bytes(PAGE_BYTES)
 # Zeros inside a part that are fewer stay in it: a part of its own takes more room in a trace.
@@ -161,6 +163,12 @@ class SparseBytes:
             pages.append(page[: self.length - page_begin])
         if pages:
             yield run_begin, b''.join(pages)
+
+
+def round_up_to_pages(length: int) -> int:
+    """The smallest multiple of PAGE_BYTES that is at least a length: the end of the last page of a
+    file of this length."""
+    return -(-length // PAGE_BYTES) * PAGE_BYTES
 
 
 def runs_of(data: Content) -> List[Part]:

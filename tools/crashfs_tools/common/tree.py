@@ -6,7 +6,7 @@ from typing import Dict, List, Optional, Tuple, Union
 
 from . import limits
 from .entry import DIRECTORY_KIND, SYMLINK_KIND, Entries, Entry, parent_of, paths_below
-from .sparse import LARGE_BYTES, SparseBytes
+from .sparse import LARGE_BYTES, SparseBytes, round_up_to_pages
 from .trace import (
     BLOCK_SIZES,
     BLOCKS,
@@ -295,7 +295,7 @@ class Tree:
         entry, length = self.entries[operation.path], operation.length
         old_size = len(entry.data or b'')
         entry.resize(length)
-        zeros_end = min(limits.round_up_to_pages(length), old_size)
+        zeros_end = min(round_up_to_pages(length), old_size)
         if length < zeros_end:
             self.micro_operations_of_version_4 += self.count_blocks(length, zeros_end)
         return int(old_size != length)
@@ -334,7 +334,7 @@ def least_file_size(operation: Operation) -> int:
 def is_growth_past_page(old_size: int, end: int) -> bool:
     """Whether a write up to `end` gives a file two new sizes in version 4: first the end of its
     last page, if that isn't full, and then its own end."""
-    return old_size < limits.round_up_to_pages(old_size) < end
+    return old_size < round_up_to_pages(old_size) < end
 
 
 def start_lines(entries: Entries, files: Dict[str, int]) -> Tuple[Header, List[StartLine]]:

@@ -5,7 +5,7 @@ from __future__ import annotations
 from dataclasses import dataclass, field, replace
 from typing import Iterator, List
 
-from crashfs_tools.common.limits import round_up_to_pages
+from crashfs_tools.common.sparse import round_up_to_pages
 
 from .live_tree import Node
 

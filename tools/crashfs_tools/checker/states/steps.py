@@ -8,7 +8,7 @@ from typing import Iterator, List, Tuple
 
 from crashfs_tools.common.command import Refused
 from crashfs_tools.common.entry import Entries
-from crashfs_tools.common.limits import round_up_to_pages
+from crashfs_tools.common.sparse import round_up_to_pages
 from crashfs_tools.common.trace import Operation, Say, Trace, Truncate, Write
 from crashfs_tools.common.trace_read import read_trace_with_numbers, tree_without_start
 from crashfs_tools.common.tree import Tree, is_growth_past_page, start_lines

@@ -6,7 +6,7 @@ from __future__ import annotations
 
 from typing import Optional
 
-from crashfs_tools.common.limits import round_up_to_pages
+from crashfs_tools.common.sparse import round_up_to_pages
 from crashfs_tools.common.trace import Sync
 from crashfs_tools.recorder.arguments import parse_integer
 from crashfs_tools.recorder.live_tree import Node
