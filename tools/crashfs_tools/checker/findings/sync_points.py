@@ -25,7 +25,7 @@ def sync_points(pairs: LinePairs, lines: Dict[int, TraceLine]) -> Dict[int, str]
     the path names something else. Pairs whose lost line isn't in `lines`, or is made durable by no
     sync, are left out."""
     points: Dict[int, str] = {}
-    intervals = (sync_interval(lost, kept, lines) for lost, kept in pairs)
+    intervals = (sync_interval(*pair, lines) for pair in pairs)
     unserved = sorted(interval for interval in intervals if interval is not None)
     while unserved:
         path, end = unserved[0].path, unserved[0].end
@@ -37,15 +37,17 @@ def sync_points(pairs: LinePairs, lines: Dict[int, TraceLine]) -> Dict[int, str]
     return points
 
 
-def sync_interval(lost: int, kept: int, lines: Dict[int, TraceLine]) -> Optional[Interval]:
-    """Where a sync may be that makes a lost line durable before a kept one, by their numbers: after
-    the lost line, as long as the path names what that line changed. None if the lost line isn't in
-    `lines`, or is made durable by no sync."""
-    path = lines[lost].path_to_fsync if lost in lines else None
+def sync_interval(
+    lost_number: int, kept_number: int, lines: Dict[int, TraceLine]
+) -> Optional[Interval]:
+    """The interval between a lost line and a later kept one, in which a sync makes the lost line
+    durable. It ends earlier if the path to sync may name something else from a line between them
+    on. None if the lost line isn't in `lines`, or is made durable by no sync."""
+    path = lines[lost_number].path_to_fsync if lost_number in lines else None
     if path is None:
         return None
-    change = first_path_change(path, range(lost + 1, kept), lines)
-    return Interval(change.number if change else kept, lost, path)
+    change = first_path_change(path, range(lost_number + 1, kept_number), lines)
+    return Interval(change.number if change else kept_number, lost_number, path)
 
 
 def first_path_change(
