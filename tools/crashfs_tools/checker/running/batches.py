@@ -16,7 +16,7 @@ def states_in_batches(results: Results, *, has_all: bool) -> List[Set[int]]:
     An earlier choice isn't looked at. The numbers are those of all shards; some may have outcomes
     already."""
     plan = results.plan
-    sets_of_batches = [*family_batches(plan), drawn_sets(plan)]
+    sets_of_batches = [*family_batches(plan), sets_of_drawn_states(plan)]
     if has_all:
         sets_of_batches.append(list(plan.kept.values()))
     batches: List[Set[int]] = []
@@ -88,8 +88,8 @@ def sample_places(torn_writes: Dict[int, List[int]]) -> List[int]:
     ]
 
 
-def drawn_sets(plan: Plan) -> List[int]:
-    """The sets that were drawn at random, in the order of the draw; none if the plan has no drawn
+def sets_of_drawn_states(plan: Plan) -> List[int]:
+    """The sets of the states that were drawn at random for a plan; none if it has no such
     states."""
     numbers = plan.all_states.drawn if plan.all_states is not None else ()
     return [plan.kept[number] for number in numbers]
