@@ -5,9 +5,15 @@ from __future__ import annotations
 import subprocess
 import unittest
 from collections import Counter
-from typing import List
+from typing import List, Tuple
 
-from crashfs_tools.checker.states.plan import Needs, Plan, State
+from crashfs_tools.checker.states.plan import (
+    Needs,
+    Plan,
+    PlannedMicroOperation,
+    State,
+    equal_states_before,
+)
 from crashfs_tools.checker.states.planning import numbers_of_sets
 from crashfs_tools.common.program import Crashfs
 
@@ -53,6 +59,18 @@ class Numbers(unittest.TestCase):
         self.assertEqual(numbers_of_sets(plan, [0b10, 0b01, 0b10]), (1, 0, 1))
         with self.assertRaises(KeyError):
             numbers_of_sets(plan, [0b11])
+
+    def test_a_state_is_equal_to_the_first_before_that_has_its_set(self) -> None:
+        def plan(first_place: int, first: int, sets: List[Tuple[int, ...]]) -> Plan:
+            places = range(first_place, first_place + 3)
+            operations = [PlannedMicroOperation(place, 'create', '/a', '', 2) for place in places]
+            states = [State(first + at, 'pick', one, 0, first + at) for at, one in enumerate(sets)]
+            return Plan(operations, states, Needs([1, 2, 4]), first)
+
+        before = plan(4, 10, [(0,), (0, 1), (0, 1), (1, 2), (0, 2)])
+        after = plan(5, 20, [(0,), (), (0, 1), (1,), (0,), (2,)])
+        self.assertEqual(equal_states_before(before, after), {20: 11, 21: 10, 23: 14, 24: 11})
+        self.assertEqual(equal_states_before(before, before)[12], 11)
 
 
 if __name__ == '__main__':

@@ -10,12 +10,16 @@ import subprocess
 import sys
 import time
 import unittest
+from collections import Counter
 from pathlib import Path
 from typing import List
+from unittest import mock
 
 import crashfs_tools
 from crashfs_tools import Refused, check, record, states
+from crashfs_tools.api import crash_states
 from crashfs_tools.api.checks import with_text_path
+from crashfs_tools.checker.options import Options
 from crashfs_tools.checker.running.recoveries import FunctionRecovery, cause_text
 
 from . import data_store
@@ -285,6 +289,24 @@ class States(InterfaceCase):
         self.assertEqual(
             [len(list(states(trace, profile=one))) for one in (None, 'ordered')], [4, 3]
         )
+
+    def test_a_state_has_the_profiles_that_allow_it(self) -> None:
+        trace = self.write('two.trace', TWO_FILES)
+        found = {tuple(sorted(state.files())): state.profiles for state in states(trace)}
+        both = ['blocks', 'ordered']
+        self.assertEqual(found, {(): both, ('a',): both, ('a', 'b'): both, ('b',): ['blocks']})
+
+    def test_a_state_of_two_windows_comes_once(self) -> None:
+        in_windows = functools.partial(Options, window=6)
+        with mock.patch.object(crash_states, 'Options', in_windows):
+            found = list(states(STORE, unproved=True))
+        self.assertNotEqual([state.number for state in found], list(range(len(found))))
+        left, left_whole = (
+            Counter((len(state.acknowledged), str(state.tree)) for state in each)
+            for each in (found, states(STORE, unproved=True))
+        )
+        self.assertEqual(left, left_whole)
+        self.assertEqual(set(left.values()), {1})
 
 
 @needs_strace

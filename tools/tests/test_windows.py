@@ -9,9 +9,9 @@ from crashfs_tools.checker.checked_trace import NUMBER_OF_END
 from crashfs_tools.checker.findings.read_trees import entries_of
 from crashfs_tools.checker.report.report import CheckReport
 from crashfs_tools.checker.report.text import ReportText
-from crashfs_tools.checker.running.results import Head, Results, find_numbers_before
+from crashfs_tools.checker.running.results import Head, Results
 from crashfs_tools.checker.states.place_sets import places_of
-from crashfs_tools.checker.states.plan import Offsets, PlannedTrace
+from crashfs_tools.checker.states.plan import Offsets, PlannedTrace, equal_states_before
 from crashfs_tools.checker.states.planning import Planner
 from crashfs_tools.checker.states.read_plan import read_plan
 from crashfs_tools.checker.states.steps import Session, Steps
@@ -118,7 +118,7 @@ class InWindows(InStore):
         windows = self.made(text, size, quick)
         results = []
         for planned in windows.all_planned():
-            known = find_numbers_before(results[-1].plan, planned.plan) if results else {}
+            known = equal_states_before(results[-1].plan, planned.plan) if results else {}
             results.append(Results(planned.plan, numbers_before=known))
         for name in os.listdir(self.temporary):
             os.unlink(os.path.join(self.temporary, name))

@@ -7,13 +7,13 @@ import tempfile
 from contextlib import contextmanager
 from dataclasses import dataclass, field
 from pathlib import Path
-from typing import Dict, Iterable, Iterator, List, Optional
+from typing import Dict, Iterable, Iterator, List, Optional, Set
 
 from crashfs_tools.checker.checked_trace import CheckedTrace, refuse_unreadable
 from crashfs_tools.checker.options import NAME, Options
-from crashfs_tools.checker.running.results import Results, find_numbers_before
+from crashfs_tools.checker.running.results import Results
 from crashfs_tools.checker.states.layout import lay_out, read_trees
-from crashfs_tools.checker.states.plan import Plan, PlannedTrace
+from crashfs_tools.checker.states.plan import Plan, PlannedTrace, equal_states_before
 from crashfs_tools.common.archive import Member, members_of_tree, tree_of_members
 from crashfs_tools.common.entry import Entries
 from crashfs_tools.common.guard import Guard
@@ -89,27 +89,23 @@ def states(
         checked_trace = CheckedTrace.read(options, program, guard)
         last_plan: Optional[Plan] = None
         for planned in checked_trace.all_planned():
-            numbers_before = find_numbers_before(last_plan, planned.plan) if last_plan else {}
-            yield from states_of_window(
-                checked_trace, planned, Results(planned.plan, numbers_before=numbers_before)
-            )
+            numbers_before = equal_states_before(last_plan, planned.plan) if last_plan else {}
+            results = Results(planned.plan, numbers_before=numbers_before)
+            numbers = set(results.own_numbers.values())
+            yield from states_of_window(checked_trace, planned, numbers)
             last_plan = planned.plan
 
 
 def states_of_window(
-    checked_trace: CheckedTrace, planned: PlannedTrace, results: Results
+    checked_trace: CheckedTrace, planned: PlannedTrace, numbers: Set[int]
 ) -> Iterator[CrashState]:
-    """Yields the different states of one window, ascending, each with its files, but none that the
-    window before has. The results must be of the same plan. ProgramFault if `crashfs` fails, after
-    the states before that."""
-    texts, numbers = checked_trace.lines.acknowledged, set(results.own_numbers.values())
-    environment = checked_trace.guard.environment
-    for own_number, tree in read_trees(
-        checked_trace.program, planned, numbers, environment, full_tree
-    ):
-        state = planned.plan.state(own_number)
+    """Yields the states of one window that have these numbers, ascending, each with its files.
+    ProgramFault if `crashfs` fails, after the states before that."""
+    texts, environment = checked_trace.lines.acknowledged, checked_trace.guard.environment
+    for number, tree in read_trees(checked_trace.program, planned, numbers, environment, full_tree):
+        state = planned.plan.state(number)
         profiles = planned.plan.profile_names_of(state)
-        yield CrashState(state.number, texts[: state.says], profiles, tree)
+        yield CrashState(number, texts[: state.says], profiles, tree)
 
 
 def full_tree(_: int, members: Iterable[Member]) -> Entries:

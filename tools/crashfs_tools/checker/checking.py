@@ -15,10 +15,11 @@ from crashfs_tools.checker.report.report import CheckReport
 from crashfs_tools.checker.running.first_trials import FirstTrials
 from crashfs_tools.checker.running.progress import Progress
 from crashfs_tools.checker.running.recoveries import FunctionRecovery
-from crashfs_tools.checker.running.results import AllResults, Head, Results, find_numbers_before
+from crashfs_tools.checker.running.results import AllResults, Head, Results
 from crashfs_tools.checker.running.runner import do_nothing
 from crashfs_tools.checker.running.total_loss import total_loss_question
 from crashfs_tools.checker.running.trials import Trials
+from crashfs_tools.checker.states.plan import equal_states_before
 from crashfs_tools.common.command import Refused, print_line, with_program_path
 from crashfs_tools.common.guard import Guard
 from crashfs_tools.common.program import Crashfs
@@ -168,7 +169,7 @@ class Check:
         Before the trials it is Refused if --resume has another window here; for the first window
         other errors as in prepare_first_window()."""
         previous, planned = self.last_window, trials.planned
-        numbers_before = find_numbers_before(previous.trials.plan, planned.plan) if previous else {}
+        numbers_before = equal_states_before(previous.trials.plan, planned.plan) if previous else {}
         results = Results(planned.plan, numbers_before=numbers_before)
         if self.earlier_results is not None:
             self.add_earlier_outcomes(results, self.earlier_results.windows)

@@ -7,7 +7,6 @@ from functools import cached_property
 from typing import Any, Dict, FrozenSet, Iterable, List, Optional, Set, Tuple
 
 from crashfs_tools.checker.options import Shard
-from crashfs_tools.checker.states.place_sets import prefix_set
 from crashfs_tools.checker.states.plan import CutOff, Plan, Trial
 from crashfs_tools.common.trace_lines import TraceLine
 
@@ -202,20 +201,3 @@ class AllResults:
 def outcome_fields(outcomes: Dict[int, Outcome]) -> Dict[str, List[str]]:
     """What a file of --json has of outcomes by the numbers of states, ascending."""
     return {str(number): list(outcome) for number, outcome in sorted(outcomes.items())}
-
-
-def find_numbers_before(plan_before: Plan, plan: Plan) -> Dict[int, int]:
-    """For each state of a window's plan that plan_before, that of the window before, has too: by
-    its number the number of the first state there that has the same set. A set of a window counts
-    as having all that comes before the window."""
-    shift = plan.first_place - plan_before.first_place
-    earlier_set = prefix_set(shift)
-    number_by_set = {
-        plan_before.kept[state.number]: state.number for state in reversed(plan_before.states)
-    }
-    numbers_before = {}
-    for state in plan.states:
-        number_before = number_by_set.get(plan.kept[state.number] << shift | earlier_set)
-        if number_before is not None:
-            numbers_before[state.number] = number_before
-    return numbers_before

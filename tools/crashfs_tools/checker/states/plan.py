@@ -278,6 +278,23 @@ class Plan:
         return self.operations[kept_set.bit_length() - 1] if kept_set else None
 
 
+def equal_states_before(plan_before: Plan, plan: Plan) -> Dict[int, int]:
+    """Which states of a window's plan the plan of the window before has too. Returns by a state's
+    number that of the state there with an equal set, the first of several. A set of a window counts
+    as having all that comes before the window; plan_before must not begin later."""
+    shift = plan.first_place - plan_before.first_place
+    earlier_set = prefix_set(shift)
+    number_by_set: Dict[int, int] = {}
+    for state in plan_before.states:
+        number_by_set.setdefault(plan_before.kept[state.number], state.number)
+    equal_states = {}
+    for state in plan.states:
+        number_before = number_by_set.get(plan.kept[state.number] << shift | earlier_set)
+        if number_before is not None:
+            equal_states[state.number] = number_before
+    return equal_states
+
+
 class PlanOptions(NamedTuple):
     """What names a plan for the program: the options for its trace and its families, and the path
     of its file of picks, which is empty if it has none. Without the picks the prefixes and holes
