@@ -5,7 +5,7 @@ from __future__ import annotations
 from collections import Counter
 from itertools import chain
 from typing import Counter as Counts
-from typing import Iterator, List, Optional, Tuple
+from typing import Iterator, List, NamedTuple, Optional, Sequence, Tuple
 from xml.sax.saxutils import escape, quoteattr
 
 from crashfs_tools.checker.findings.groups import Group
@@ -19,9 +19,37 @@ from .text import ReportText, accepted_text
 
 # Control characters that XML has too.
 SPACES = '\n\t'
+# The elements that say how a test case ended; one that passes has none of them.
+FAILURE, ERROR, SKIPPED = 'failure', 'error', 'skipped'
 
 # A group, and its second crash if it is one of second crashes, else None.
 ReportEntry = Tuple[Group, Optional[SecondCrash]]
+
+
+class TestCase(NamedTuple):
+    """A test case, as JUnit has it. `element` is FAILURE, ERROR or SKIPPED, or empty if the case
+    passes. A failure or error has its lines, and what COMMAND printed, None if nothing was run."""
+
+    name: str
+    seconds: float
+    element: str = ''
+    message: str = ''
+    details: Sequence[str] = ()
+    output: Optional[str] = None
+
+    def pieces(self, suite: str) -> Iterator[str]:
+        """The text of the case in the file, in pieces; `suite` is the name of the suite."""
+        attributes = f'classname={xml_attribute(suite)} name={xml_attribute(self.name)}'
+        yield f'<testcase {attributes} time="{self.seconds:.3f}">\n'
+        message = xml_attribute(self.message)
+        if self.element == SKIPPED:
+            yield f'<{SKIPPED} message={message}/>\n'
+        elif self.element:
+            text = xml_text('\n'.join(self.details))
+            yield f'<{self.element} message={message}>{text}</{self.element}>\n'
+        if self.output is not None:
+            yield f'<system-out>{xml_text(self.output)}</system-out>\n'
+        yield '</testcase>\n'
 
 
 def junit_pieces(report: CheckReport) -> Iterator[str]:
@@ -31,18 +59,17 @@ def junit_pieces(report: CheckReport) -> Iterator[str]:
     the rest of the time from the check's beginning until now."""
     entries: List[ReportEntry] = [(group, None) for group in report.groups()]
     entries += report.recovery_groups()
-    seconds = report.seconds
-    suite = f'crashfs-check {report.head.trace}'
-    counts = suite_counts(report, entries)
-    yield '<?xml version="1.0" encoding="UTF-8"?>\n'
-    yield f'<testsuite name={xml_attribute(suite)} {counts} time="{seconds:.3f}">\n'
-    for entry, case_name in zip(entries, case_names(entries)):
-        yield from case_lines(report, *entry, suite, case_name)
-    yield from chain.from_iterable(
-        disk_case_lines(failure, suite) for failure in report.disk_failures()
-    )
+    seconds, report_text = report.seconds, ReportText(report)
     other_seconds = seconds - sum(group.rerun_seconds for group, _ in entries)
-    yield from others_case_lines(report, suite, max(0.0, other_seconds))
+    cases = [
+        entry_case(report_text, *entry, name) for entry, name in zip(entries, case_names(entries))
+    ]
+    cases += map(disk_case, report.disk_failures())
+    cases.append(others_case(report_text, max(0.0, other_seconds)))
+    suite = f'crashfs-check {report.head.trace}'
+    yield '<?xml version="1.0" encoding="UTF-8"?>\n'
+    yield f'<testsuite name={xml_attribute(suite)} {case_counts(cases)} time="{seconds:.3f}">\n'
+    yield from chain.from_iterable(case.pieces(suite) for case in cases)
     yield '</testsuite>\n'
 
 
@@ -56,79 +83,50 @@ def case_names(entries: List[ReportEntry]) -> Iterator[str]:
         yield f'{cause} ({counts[cause]})' if counts[cause] > 1 else cause
 
 
-def suite_counts(report: CheckReport, entries: List[ReportEntry]) -> str:
-    """How many test cases the suite has, and how many of them are failures, errors and skipped, as
-    attributes in XML. The case of all other states is counted too: as an error if the report isn't
-    whole."""
-    disk_failures = report.disk_failures()
-    kinds = Counter(
-        fault_kind(group.outcome) if group.accepted_entry is None else 'skipped'
-        for group, _ in entries
-    )
-    kinds.update(fault_kind(failure.outcome) for failure in disk_failures)
-    errors = kinds['error'] + (0 if report.is_whole else 1)
+def case_counts(cases: List[TestCase]) -> str:
+    """How many test cases there are, and how many of them are failures, errors and skipped, as
+    attributes in XML."""
+    counts = Counter(case.element for case in cases)
     return (
-        f'tests="{len(entries) + len(disk_failures) + 1}" failures="{kinds["failure"]}" '
-        f'errors="{errors}" skipped="{kinds["skipped"]}"'
+        f'tests="{len(cases)}" failures="{counts[FAILURE]}" errors="{counts[ERROR]}" '
+        f'skipped="{counts[SKIPPED]}"'
     )
 
 
-def case_tag(suite: str, name: str, seconds: float) -> str:
-    """The tag that begins a test case of a suite, with the case's name and time."""
-    attributes = f'classname={xml_attribute(suite)} name={xml_attribute(name)}'
-    return f'<testcase {attributes} time="{seconds:.3f}">\n'
-
-
-def case_lines(
-    report: CheckReport, group: Group, second_crash: Optional[SecondCrash], suite: str, name: str
-) -> Iterator[str]:
+def entry_case(
+    report_text: ReportText, group: Group, second_crash: Optional[SecondCrash], name: str
+) -> TestCase:
     """The test case of an entry: a failure, or an error if COMMAND gave no answer. If the entry is
     accepted, the case is skipped, and only has the reason. `name` is that of the case, which isn't
     always the cause. second_crash is None unless the entry is one of second crashes."""
-    first_line, *details = ReportText(report).group_lines(group, second_crash)
-    message = ' '.join(group.advice.lines()) or first_line.strip()
-    yield case_tag(suite, name, group.rerun_seconds)
+    seconds, outcome = group.rerun_seconds, group.outcome
     if group.accepted_entry is not None:
-        reason = xml_attribute(accepted_text(group.accepted_entry))
-        yield f'<skipped message={reason}/>\n</testcase>\n'
-        return
-    yield fault_element(fault_kind(group.outcome), message, [first_line.strip(), *details])
-    yield f'<system-out>{xml_text(group.outcome.output)}</system-out>\n'
-    yield '</testcase>\n'
+        return TestCase(name, seconds, SKIPPED, accepted_text(group.accepted_entry))
+    first_line, *details = report_text.group_lines(group, second_crash)
+    first_line = first_line.strip()
+    message = ' '.join(group.advice.lines()) or first_line
+    lines = [first_line, *details]
+    return TestCase(name, seconds, fault_element(outcome), message, lines, outcome.output)
 
 
-def others_case_lines(report: CheckReport, suite: str, seconds: float) -> Iterator[str]:
+def others_case(report_text: ReportText, seconds: float) -> TestCase:
     """The test case of all states that are in no entry: an error if the report isn't whole, because
     a state or a recovery wasn't tried. Its time is `seconds`."""
-    report_text = ReportText(report)
-    yield case_tag(suite, report_text.others_name, seconds)
-    lines = report_text.others_fault_lines()
-    if lines:
-        yield fault_element('error', lines[0], lines)
-    yield '</testcase>\n'
+    name, lines = report_text.others_name, report_text.others_fault_lines()
+    return TestCase(name, seconds, ERROR, lines[0], lines) if lines else TestCase(name, seconds)
 
 
-def disk_case_lines(failure: DiskFailure, suite: str) -> Iterator[str]:
+def disk_case(failure: DiskFailure) -> TestCase:
     """The test case of a failure on disks that no tried state has: an error if COMMAND gave no
     answer there. Its time is 0."""
-    yield case_tag(suite, failure.name, 0)
-    lines = failure.lines()
-    yield fault_element(fault_kind(failure.outcome), lines[0], lines)
-    yield f'<system-out>{xml_text(failure.outcome.output)}</system-out>\n'
-    yield '</testcase>\n'
+    lines, outcome = failure.lines(), failure.outcome
+    return TestCase(failure.name, 0, fault_element(outcome), lines[0], lines, outcome.output)
 
 
-def fault_kind(outcome: Outcome) -> str:
-    """The name of the element that a test case has for an outcome, which isn't good: `failure`, or
-    `error` if there was no answer."""
-    return 'failure' if outcome.result == BAD else 'error'
-
-
-def fault_element(kind: str, message: str, lines: List[str]) -> str:
-    """An element of a test case, `failure` or `error`, with a message and these lines as its
-    text."""
-    text = xml_text('\n'.join(lines))
-    return f'<{kind} message={xml_attribute(message)}>{text}</{kind}>\n'
+def fault_element(outcome: Outcome) -> str:
+    """The element that a test case has for an outcome, which isn't good: FAILURE, or ERROR if there
+    was no answer."""
+    return FAILURE if outcome.result == BAD else ERROR
 
 
 def xml_text(text: str) -> str:
