@@ -55,11 +55,10 @@ class Files(InFolder):
     def test_numbers_and_random_parts_do_not_count_and_all_else_does(self) -> None:
         entry = AcceptedFailure('lost: row 3', 'unlink /log.17', 'say', 'why')
         found = AcceptedFailures([entry], TODAY)
-        self.assertEqual(
-            found.entry_for(entry._replace(cause='lost: row 4', lost='unlink /log.8')), entry
-        )
+        like = entry._replace(cause='lost: row 4', lost='unlink /log.8')
+        self.assertEqual(found.acceptance_of(like), (entry, False))
         for change in ({'cause': 'lost: table 3'}, {'lost': 'creat /log.17'}, {'kept': ''}):
-            self.assertIsNone(found.entry_for(entry._replace(**change)), change)
+            self.assertIsNone(found.acceptance_of(entry._replace(**change)), change)
 
     def test_an_entry_is_read_as_json_has_it(self) -> None:
         for fields in (
@@ -92,7 +91,8 @@ class Files(InFolder):
         for until, is_over in ((None, False), ('2026-11-29', False), ('2026-11-28', True)):
             date = datetime.date.fromisoformat(until) if until else None
             entry = AcceptedFailure('a', '', '', 'b', date)
-            self.assertEqual(AcceptedFailures([entry], TODAY).has_expired(entry), is_over, until)
+            found = AcceptedFailures([entry], TODAY).acceptance_of(entry)
+            self.assertEqual(found, (entry, is_over), until)
 
 
 class Reports(InFolder):

@@ -5,18 +5,23 @@ import re
 import unittest
 from collections import Counter
 from dataclasses import replace
+from datetime import date
 from pathlib import Path
 from unittest import mock
 
 from crashfs_tools.campaign import report as campaign_report
 from crashfs_tools.campaign.book import Book
-from crashfs_tools.checker.findings.accepted_failures import AcceptedFailure
+from crashfs_tools.checker.findings.accepted_failures import (
+    Acceptance,
+    AcceptedFailure,
+    AcceptedFailures,
+)
 from crashfs_tools.checker.report import page, summary, text
 from crashfs_tools.checker.report.counts import AcceptedStates, StateCounts
 from crashfs_tools.checker.report.summary import Summary
 from crashfs_tools.checker.report.text import ReportText
 from crashfs_tools.checker.running.results import Head
-from crashfs_tools.checker.running.runner import BAD, Outcome
+from crashfs_tools.checker.running.runner import BAD, NO_ANSWER, Outcome
 from crashfs_tools.checker.states.plan import AllStates
 from crashfs_tools.common.trace_lines import TraceLine
 
@@ -40,12 +45,21 @@ class Entries(unittest.TestCase):
 
     def test_of_accepted_entries_only_the_first_are_shown(self):
         accepted = AcceptedFailure('lost: f', '', '', 'we know')
-        groups = [replace(self.group, accepted_entry=accepted) for _ in range(3)]
+        groups = [replace(self.group, acceptance=Acceptance(accepted, False)) for _ in range(3)]
         for most, more in ((1, ['  and 2 more that are accepted']), (3, [])):
             with self.subTest(most), mock.patch.object(text, 'SHOWN_GROUPS', most):
                 lines = self.text.accepted_lines(groups)
                 self.assertEqual(len([one for one in lines if 'accepted: ' in one]), most)
                 self.assertEqual(lines[2 * most :], more)
+
+    def test_only_a_failure_is_accepted_and_until_its_last_day(self):
+        entry = self.group.as_accepted._replace(why='we know', until=date(2026, 11, 29))
+        for result, day, is_accepted in ((BAD, 29, True), (BAD, 30, False), (NO_ANSWER, 29, False)):
+            group = replace(self.group, outcome=self.group.outcome._replace(result=result))
+            self.report.accept_list = AcceptedFailures([entry], date(2026, 11, day))
+            self.report.mark_accepted(group)
+            self.assertEqual(group.accepted_entry, entry if is_accepted else None, (result, day))
+            self.assertEqual(group.acceptance is None, result == NO_ANSWER)
 
     def test_of_covered_entries_the_first_are_shown_with_sentences_of_new_kinds_only(self):
         other = replace(self.group, outcome=Outcome(BAD, 'torn: f'))

@@ -41,6 +41,14 @@ class AcceptedFailure(NamedTuple):
         return f'{self.cause} ({operations})' if operations else self.cause
 
 
+class Acceptance(NamedTuple):
+    """The entry of a file of accepted failures that a group of failing states is, and whether the
+    entry's last day has passed: the group isn't accepted then."""
+
+    entry: AcceptedFailure
+    has_expired: bool
+
+
 class AcceptedFailures:
     """The entries of a file of --accept; of entries with the same key the last one counts."""
 
@@ -66,14 +74,13 @@ class AcceptedFailures:
         entries = [parse_entry(path, place, value) for place, value in enumerate(values, 1)]
         return AcceptedFailures(entries, datetime.date.today())
 
-    def entry_for(self, failure: AcceptedFailure) -> Optional[AcceptedFailure]:
-        """The entry with the same key as a failure, also if its last day has passed; None if there
-        is none."""
-        return self.entries.get(failure.key)
-
-    def has_expired(self, entry: AcceptedFailure) -> bool:
-        """Whether the last day of an entry has passed; never for one without a last day."""
-        return entry.until is not None and self.today > entry.until
+    def acceptance_of(self, failure: AcceptedFailure) -> Optional[Acceptance]:
+        """The entry with the same key as a failure, and whether its last day has passed: never if
+        it has none. None if there is no such entry."""
+        entry = self.entries.get(failure.key)
+        if entry is None:
+            return None
+        return Acceptance(entry, entry.until is not None and self.today > entry.until)
 
     def entries_without(self, failures: Iterable[AcceptedFailure]) -> List[AcceptedFailure]:
         """The entries, except those with the key of one of the failures; also entries whose last

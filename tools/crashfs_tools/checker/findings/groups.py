@@ -24,7 +24,7 @@ from .advice import (
     swap_text,
     torn_advice,
 )
-from .accepted_failures import AcceptedFailure, operation_text
+from .accepted_failures import Acceptance, AcceptedFailure, operation_text
 from .pairs import Loss, Pair, Pairs
 from .sync_points import LinePairs, never_synced_directory
 from .torn import kept_part_text
@@ -78,9 +78,8 @@ class Group:
     states_by_profile: Dict[str, FrozenSet[TriedState]] = field(default_factory=dict)
     # Whether the report says here how to learn which states `journal` allows.
     has_version_hint: bool = False
-    # The accepted failure that the group is; the same if its last day has passed.
-    accepted_entry: Optional[AcceptedFailure] = None
-    expired_entry: Optional[AcceptedFailure] = None
+    # The entry of --accept that the group is, also if its last day has passed.
+    acceptance: Optional[Acceptance] = None
     # The tried states that lack the lost operation of their pair and have the kept one.
     explained_states: FrozenSet[TriedState] = frozenset()
 
@@ -89,6 +88,14 @@ class Group:
         """How many different states the group has, without those that an earlier window had tried
         too; 1 if no others are left."""
         return max(1, len(self.tried_states))
+
+    @property
+    def accepted_entry(self) -> Optional[AcceptedFailure]:
+        """The entry of --accept by which the group is accepted; None if it isn't, also if the last
+        day of its entry has passed."""
+        if self.acceptance is None or self.acceptance.has_expired:
+            return None
+        return self.acceptance.entry
 
     @property
     def as_accepted(self) -> AcceptedFailure:

@@ -121,15 +121,10 @@ class CheckReport:
         return merged
 
     def mark_accepted(self, group: Group) -> None:
-        """Sets accepted_entry of a group that is an accepted failure, or expired_entry if the last
-        day of that failure has passed. A group whose example gave no answer stays as it is."""
-        if self.accept_list is None or group.outcome.result != BAD:
-            return
-        entry = self.accept_list.entry_for(group.as_accepted)
-        if entry is not None:
-            has_expired = self.accept_list.has_expired(entry)
-            group.accepted_entry = None if has_expired else entry
-            group.expired_entry = entry if has_expired else None
+        """Sets the acceptance of a group by --accept. A group whose example gave no answer stays as
+        it is: what it would have answered isn't known."""
+        if self.accept_list is not None and group.outcome.result == BAD:
+            group.acceptance = self.accept_list.acceptance_of(group.as_accepted)
 
     def recovery_groups(self) -> List[Tuple[Group, SecondCrash]]:
         """The entries of second_crash_entries() for all recoveries, each with a copy of its group,

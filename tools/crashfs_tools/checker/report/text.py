@@ -370,11 +370,10 @@ def profiles_text(group: Group, *, are_all: bool) -> str:
 def acceptance_lines(group: Group) -> List[str]:
     """A line that says why an entry is accepted, or was until a day that has passed; no line for
     other entries."""
-    if group.expired_entry is not None:
-        return [f'accepted {accepted_text(group.expired_entry)} (this day has passed)']
-    if group.accepted_entry is not None:
-        return [f'accepted {accepted_text(group.accepted_entry)}']
-    return []
+    if group.acceptance is None:
+        return []
+    entry, has_expired = group.acceptance
+    return [f'accepted {accepted_text(entry)}{" (this day has passed)" if has_expired else ""}']
 
 
 def accepted_text(entry: AcceptedFailure) -> str:
