@@ -52,6 +52,10 @@ class Entries(unittest.TestCase):
                 self.assertEqual(len([one for one in lines if 'accepted: ' in one]), most)
                 self.assertEqual(lines[2 * most :], more)
 
+    def test_a_line_that_the_report_lacks_has_its_number(self):
+        self.assertEqual(self.text.line_text(2), 'line 2 (creat /f0)')
+        self.assertEqual(self.text.line_text(99), 'line 99 ()')
+
     def test_only_a_failure_is_accepted_and_until_its_last_day(self):
         entry = self.group.as_accepted._replace(why='we know', until=date(2026, 11, 29))
         for result, day, is_accepted in ((BAD, 29, True), (BAD, 30, False), (NO_ANSWER, 29, False)):

@@ -67,6 +67,11 @@ class TraceLine(NamedTuple):
         return f'{text}, {self.details}' if self.details else text
 
     @property
+    def text_with_number(self) -> str:
+        """The line as sentences name it: `line 3 (creat /f)`."""
+        return f'line {self.number} ({self.text})'
+
+    @property
     def statement(self) -> str:
         """The word and the paths, without numbers and random parts: a text that is equal for all
         lines that one statement of a program makes."""

@@ -140,12 +140,12 @@ def loss_advice(
     the others. `lines` has the trace's lines by number. If no sync makes the lost line durable,
     there is no remedy and no sync."""
     path = lost.path_to_fsync
-    sentence = f'line {lost.number} ({lost.text}) was not durable when {kept_text(kept)}'
+    sentence = f'{lost.text_with_number} was not durable when {kept_text(kept)}'
     if path is None:
         return Advice([sentence])
     syncs = sync_points(pairs, lines)
     change = first_path_change(path, range(lost.number + 1, kept.number), lines)
-    change_text = f', before line {change.number} ({change.text})' if change else ''
+    change_text = f', before {change.text_with_number}' if change else ''
     other_count = len(syncs) - 1
     others_text = f' (and at {count_text(other_count, "more place")})' if other_count > 0 else ''
     remedy = f'{sync_text(path, lost, lines)} between them{change_text}{others_text}'
@@ -168,7 +168,7 @@ def kept_text(kept: TraceLine) -> str:
     acknowledged its text, which may be cut, or that another line was durable."""
     if kept.word == 'say':
         return f'line {kept.number} acknowledged "{kept.details}"'
-    return f'line {kept.number} ({kept.text}) was'
+    return f'{kept.text_with_number} was'
 
 
 def torn_advice(line: TraceLine, kept_part: str) -> Advice:
@@ -176,7 +176,7 @@ def torn_advice(line: TraceLine, kept_part: str) -> Advice:
     crash kept and what it lost. There are no syncs, since none helps."""
     remedy = TORN_RENAME if line.word == 'rename' else TORN_WRITE
     return Advice(
-        [f'line {line.number} ({line.text}) was torn: a crash kept {kept_part}'],
+        [f'{line.text_with_number} was torn: a crash kept {kept_part}'],
         f'no sync helps: {remedy}',
     )
 
@@ -187,12 +187,10 @@ def no_loss_advice(kept: Optional[TraceLine], lost: Optional[TraceLine]) -> Advi
     end, and there is no remedy). If `lost` is an acknowledged line, the remedy is a question about
     COMMAND; if only `kept` is one, a question about `kept`; else to make the lines one change.
     There are no syncs."""
-    begin = f'line {kept.number} ({kept.text})' if kept else 'the beginning'
+    begin = kept.text_with_number if kept else 'the beginning'
     if lost is None:
         return Advice([f'from {begin} on it fails, though nothing is lost'])
-    sentence = (
-        f'from {begin} until line {lost.number} ({lost.text}) it fails, though nothing is lost'
-    )
+    sentence = f'from {begin} until {lost.text_with_number} it fails, though nothing is lost'
     if lost.word == 'say':
         return Advice(
             [sentence],
@@ -214,8 +212,8 @@ def overwriting_text(kept: TraceLine, lost: TraceLine) -> str:
     """The remedy if the line `kept` overwrites bytes that are needed until the later line `lost` is
     durable: to write to another place."""
     return (
-        f'no sync helps: line {kept.number} overwrites bytes that are needed until line '
-        f'{lost.number} ({lost.text}) is durable: write to another place until then'
+        f'no sync helps: line {kept.number} overwrites bytes that are needed until '
+        f'{lost.text_with_number} is durable: write to another place until then'
     )
 
 

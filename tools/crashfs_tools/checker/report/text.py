@@ -292,10 +292,9 @@ class ReportText:
         return [f'state {group.example.number} also lacks {shown}{also}']
 
     def line_text(self, number: int) -> str:
-        """A line of the trace in words, by its number; with empty brackets if the report doesn't
-        have that line."""
-        line = self.report.head.lines.get(number, TraceLine(number, ''))
-        return f'line {number} ({line.text})'
+        """A line of the trace, by its number, as sentences name it. The brackets are empty if the
+        report lacks that line, as one may that was written by hand."""
+        return self.report.head.lines.get(number, TraceLine(number, '')).text_with_number
 
 
 def lines_of_pair(group: Group) -> List[TraceLine]:
