@@ -149,14 +149,16 @@ class RemovedFiles(InFolder):
 
     @needs_strace
     def test_the_log_says_what_a_path_was(self) -> None:
-        os.mkdir(self.path('d'))
+        os.makedirs(self.path('d', 'e', 'x'))
+        os.mkdir(self.path('d', 'f'))
+        self.write('d/f/x', 'a file that is there from the start')
         script = 'echo 1 > x; mv x y; echo 1; mkdir -p a/x; echo 2 > a/x/b; sync a/x; rm -r a/x'
         words = ('--ignore', 'x/', 'd', 'out.trace', '--', 'sh', '-c', script)
         ran = self.run_tool('crashfs-record', *words)
         self.assertEqual(ran.returncode, 0, ran.stderr)
         operations = [json.loads(line) for line in self.read('out.trace').splitlines()[1:]]
         paths = [operation.get('path', operation.get('from')) for operation in operations]
-        self.assertEqual(paths, ['/x', '/x', '/x', None, '/a'])
+        self.assertEqual(paths, ['/e', '/f', '/f/x', '/x', '/x', '/x', None, '/a'])
 
 
 @needed(shutil.which('git') is not None, 'git is not there')

@@ -23,6 +23,7 @@ from .begin_after import LateStart
 from .arguments import LogError
 from .calls.opens import opened_files
 from .directory import Scan, group_name, scan_directory, user_name
+from .ignore import IgnoreRules
 from .log_filter import LogFilter
 from .live_files import LiveFiles, StartConditions, no_target
 from .log_stream import LogStream
@@ -61,16 +62,21 @@ class RecordedRun:
     log_fault: str = ''
 
 
-def run_under_strace(options: RecordOptions, guard: Guard, line_filter: LogFilter) -> RecordedRun:
+def run_under_strace(
+    options: RecordOptions,
+    guard: Guard,
+    line_filter: LogFilter,
+    mapped_files: Optional[MappedFiles],
+) -> RecordedRun:
     """Runs COMMAND under strace to its end, without a time limit, and ends the processes that it
-    leaves, also after an error. With --mapped all lines of the log are read, else those that the
-    filter finds needed. Refused as in find_strace() and refuse_incomplete_log(); LogError
-    if the log isn't strace's; OSError if a file for the log can't be made or opened, strace can't
-    be started, standard output can't be written, or a mapped file can't be read."""
+    leaves, also after an error. With mapped_files, which aren't None with --mapped, all lines of
+    the log are read, else those that the filter finds needed. Refused as in find_strace() and
+    refuse_incomplete_log(); LogError if the log isn't strace's; OSError if a file for the log can't
+    be made or opened, strace can't be started, standard output can't be written, or a mapped file
+    can't be read."""
     strace_path = strace_run.find_strace()
-    mapped_files = MappedFiles(options.directory, options.is_ignored) if options.mapped else None
     # All calls decide where copies of mapped files belong, also those on other files.
-    stream = LogStream(guard.directory, mapped_files, None if options.mapped else line_filter)
+    stream = LogStream(guard.directory, mapped_files, None if mapped_files else line_filter)
     stream.create_files(options.keep_log)
     command = strace_run.strace_command(strace_path, stream.pipe, options)
     traced_run = strace_run.StraceRun(command, options, stream, guard)
@@ -147,30 +153,34 @@ def record(options: RecordOptions) -> int:
     options = prepared_options(options)
     # A wrong --crashfs is refused before COMMAND runs.
     Crashfs.find(options.crashfs)
-    start_scan = scan_directory(options.directory, options.is_ignored, options.version)
+    # The same for all that asks: its answers are those of the first look at the disk.
+    ignore_rules = IgnoreRules(options.ignore, options.directory)
+    start_scan = scan_directory(options.directory, ignore_rules, options.version)
     recording = Recording(start_scan.header, trace_settings(options))
     files = files_at_start(
         recording,
         start_conditions(options),
         start_scan,
-        options.is_ignored,
+        ignore_rules,
         has_copies=options.mapped,
     )
     run = run_or_load_log(options, files)
+    if options.ignore:
+        ignore_rules.add_removed_files(opened_files(files, run.log.calls))
     translate_run(options, files, run)
     mode = 0o600 if is_private(recording.trace) else 0o666
     write_whole_file(options.out, (line + '\n' for line in recording.trace.lines()), mode)
-    return report_written_trace(options, recording, start_scan, run)
+    return report_written_trace(options, files, start_scan, run)
 
 
 def report_written_trace(
-    options: RecordOptions, recording: Recording, start_scan: Scan, run: RecordedRun
+    options: RecordOptions, files: LiveFiles, start_scan: Scan, run: RecordedRun
 ) -> int:
     """Does what report_recording() does, and returns its status. An error or a signal is only
     printed, as the trace is written already: the status is then TRACE_NOT_WHOLE, or that of the
     signal."""
     try:
-        return report_recording(options, recording, start_scan, run)
+        return report_recording(options, files, start_scan, run)
     except Stopped as stopped:
         print_text(f'stopped by {stopped}; {WRITTEN}')
         return stopped.status
@@ -210,8 +220,9 @@ def run_or_load_log(options: RecordOptions, files: LiveFiles) -> RecordedRun:
     numbers = nonstandard_descriptors(options.acknowledging_descriptors)
     line_filter = LogFilter(os.fsencode(files.conditions.top), numbers)
     if options.from_log is None:
+        mapped_files = MappedFiles(options.directory, files.is_ignored) if options.mapped else None
         with Guard(NAME) as guard:
-            return run_under_strace(options, guard, line_filter)
+            return run_under_strace(options, guard, line_filter, mapped_files)
     run = RecordedRun(load_log(options.from_log, line_filter))
     if not run.log.is_whole:
         files.recording.report('the log ends before the program did', '/')
@@ -219,14 +230,14 @@ def run_or_load_log(options: RecordOptions, files: LiveFiles) -> RecordedRun:
 
 
 def report_recording(
-    options: RecordOptions, recording: Recording, start_scan: Scan, run: RecordedRun
+    options: RecordOptions, files: LiveFiles, start_scan: Scan, run: RecordedRun
 ) -> int:
     """Compares the directory with the written trace, unless with --from-log, prints what the trace
     doesn't have, and then the summary. Returns the status. It raises what compare_directory() does,
     before it prints anything."""
-    comparison = summary.DirectoryComparison()
+    recording, comparison = files.recording, summary.DirectoryComparison()
     if options.from_log is None:
-        comparison = summary.compare_directory(options, recording, start_scan)
+        comparison = summary.compare_directory(options, files, start_scan)
     failure = summary.failure_of_command(run.status, run.passed_signals)
     report = summary.final_report(recording, options, failure, comparison)
     for line in report.lines + report.notes + remarks_on_trace(options, recording):
@@ -261,8 +272,6 @@ def translate_run(options: RecordOptions, files: LiveFiles, run: RecordedRun) ->
     recording = files.recording
     report_run_faults(options, recording, run)
     recording.streams.add_text_of_output(run.output_pipe)
-    if options.ignore:
-        options.is_ignored.add_removed_files(opened_files(files, run.log.calls))
     if options.stacks or any(call.frames for call in run.log.calls):
         note_functions(run.log.calls)
     translate_with_begin_after(options, files, run)

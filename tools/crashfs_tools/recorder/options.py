@@ -5,7 +5,6 @@ from __future__ import annotations
 import argparse
 import os
 from dataclasses import dataclass, replace
-from functools import cached_property
 from typing import Any, Dict, List, Optional
 
 from crashfs_tools.common.command import (
@@ -18,7 +17,7 @@ from crashfs_tools.common.command import (
 from crashfs_tools.common.trace import BLOCK_SIZES, BLOCKS, JOURNAL, PROFILES
 from crashfs_tools.common.whole_files import STANDARD_OUTPUT, folder_to_write
 
-from .ignore import IgnoreRules, Rule
+from .ignore import Rule
 from .output_streams import DEFAULT_DESCRIPTORS, SOCKETS, SayEach
 
 NAME = 'crashfs-record'
@@ -71,11 +70,6 @@ class RecordOptions:
     def version(self) -> Optional[int]:
         """The version of the trace; None for the oldest that has all that happens."""
         return None if self.trace_version == AUTO else int(self.trace_version)
-
-    @cached_property
-    def is_ignored(self) -> IgnoreRules:
-        """The rules of --ignore, which say whether a path of the directory is left out."""
-        return IgnoreRules(self.ignore, self.directory)
 
 
 def check_pattern(text: str) -> str:

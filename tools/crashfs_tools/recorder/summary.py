@@ -31,6 +31,7 @@ from .comparison import (
     lines_on_new_omissions,
 )
 from .directory import Scan, scan_directory
+from .live_files import LiveFiles
 from .options import RecordOptions
 from .output_streams import ERRORS, OutputStream
 from .recording import Recording, Trouble
@@ -170,13 +171,15 @@ def held_line_faults(stream: OutputStream) -> List[str]:
 
 
 def compare_directory(
-    options: RecordOptions, recording: Recording, at_start: Scan
+    options: RecordOptions, files: LiveFiles, at_start: Scan
 ) -> DirectoryComparison:
-    """Compares the directory with the trace's last state; the result names the reader of that. If
+    """Compares the directory, without what was ignored in the session, with the trace's last state;
+    the result names the reader of that. If
     the directory can't be read, that is a line, and nothing is compared. Errors as
     read_last_state()."""
+    recording = files.recording
     try:
-        at_end = scan_directory(options.directory, options.is_ignored, options.version)
+        at_end = scan_directory(options.directory, files.is_ignored, options.version)
     except OSError as error:
         return DirectoryComparison(lines=[f'{error.filename}: {error.strerror}: {NOT_COMPARED}'])
     last_state, reader_name = read_last_state(options, recording)
