@@ -336,8 +336,7 @@ class Progress(unittest.TestCase):
         shown = progress.Progress(stream, lambda: now[0])
         for window in range(4):
             pace = Pace(10, float('inf'), lambda: now[0])
-            for _ in range(10):
-                now[0] += 1
+            for now[0] in range(10 * window + 1, 10 * window + 11):
                 pace.count_outcome(Outcome(GOOD))
                 shown.show_pace(f'part {window}: ', pace)
             shown.end_part(pace)

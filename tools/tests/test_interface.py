@@ -10,7 +10,6 @@ import subprocess
 import sys
 import time
 import unittest
-from collections import Counter
 from pathlib import Path
 from typing import List
 from unittest import mock
@@ -297,16 +296,12 @@ class States(InterfaceCase):
         self.assertEqual(found, {(): both, ('a',): both, ('a', 'b'): both, ('b',): ['blocks']})
 
     def test_a_state_of_two_windows_comes_once(self) -> None:
-        in_windows = functools.partial(Options, window=6)
-        with mock.patch.object(crash_states, 'Options', in_windows):
+        whole = list(states(STORE, unproved=True))
+        with mock.patch.object(crash_states, 'Options', functools.partial(Options, window=6)):
             found = list(states(STORE, unproved=True))
-        self.assertNotEqual([state.number for state in found], list(range(len(found))))
-        left, left_whole = (
-            Counter((len(state.acknowledged), str(state.tree)) for state in each)
-            for each in (found, states(STORE, unproved=True))
-        )
-        self.assertEqual(left, left_whole)
-        self.assertEqual(set(left.values()), {1})
+        self.assertGreater(found[-1].number, whole[-1].number)
+        left = [sorted((str(it.tree), it.acknowledged) for it in each) for each in (found, whole)]
+        self.assertEqual(*left)
 
 
 @needs_strace
