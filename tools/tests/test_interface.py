@@ -252,7 +252,7 @@ class Checks(InterfaceCase):
 class States(InterfaceCase):
     def test_a_loop_over_states_finds_what_a_check_finds(self) -> None:
         failing, count = set(), 0
-        for state in states(CONFIG):
+        for count, state in enumerate(states(CONFIG), 1):
             with state.laid_out() as directory:
                 self.assertTrue(directory.is_dir())
                 found = sorted(path.name for path in directory.iterdir())
@@ -264,7 +264,6 @@ class States(InterfaceCase):
                 except AssertionError:
                     failing.add(state.number)
             self.assertFalse(directory.exists())
-            count += 1
         report = check(CONFIG, [str(EXAMPLES / 'config' / 'check.sh')])
         self.assertEqual(count, 28)
         self.assertLessEqual(failing, set(report.entries[0].states))

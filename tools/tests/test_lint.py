@@ -4,6 +4,7 @@ from __future__ import annotations
 
 import contextlib
 import io
+import os
 import shutil
 import tempfile
 import unittest
@@ -177,7 +178,7 @@ class Python(unittest.TestCase):
                 path.write_text(names[path.stem])
             with mock.patch.object(python, 'test_files', return_value=paths), mock.patch.object(
                 python, 'path_from_top', str
-            ), mock.patch.object(python, 'TOOLS', folder):
+            ), mock.patch.dict(os.environ, MYPYPATH=folder):
                 faults = unknown_name_faults()
         self.assertEqual(
             [fault.partition(': error: ')[2] for fault in faults or ()],
