@@ -181,16 +181,18 @@ def torn_advice(line: TraceLine, kept_part: str) -> Advice:
     )
 
 
-def no_loss_advice(kept: Optional[TraceLine], lost: Optional[TraceLine]) -> Advice:
+def no_loss_advice(
+    kept: Optional[TraceLine], lost: Optional[TraceLine], verb: str = 'fails'
+) -> Advice:
     """The advice for a failure that needs no loss, if no better remedy is known. States fail from
     the line `kept` on (None: from the beginning) until the line `lost` repairs them (None: to the
-    end, and there is no remedy). If `lost` is an acknowledged line, the remedy is a question about
-    COMMAND; if only `kept` is one, a question about `kept`; else to make the lines one change.
-    There are no syncs."""
+    end, and there is no remedy); the verb says how. If `lost` is an acknowledged line, the remedy
+    is a question about COMMAND; if only `kept` is one, a question about `kept`; else to make the
+    lines one change. There are no syncs."""
     begin = kept.text_with_number if kept else 'the beginning'
     if lost is None:
-        return Advice([f'from {begin} on it fails, though nothing is lost'])
-    sentence = f'from {begin} until {lost.text_with_number} it fails, though nothing is lost'
+        return Advice([f'from {begin} on it {verb}, though nothing is lost'])
+    sentence = f'from {begin} until {lost.text_with_number} it {verb}, though nothing is lost'
     if lost.word == 'say':
         return Advice(
             [sentence],

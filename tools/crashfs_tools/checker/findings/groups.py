@@ -6,7 +6,7 @@ from dataclasses import dataclass, field, replace
 from typing import Dict, FrozenSet, Iterable, List, NamedTuple, Optional, Set, Tuple
 
 from crashfs_tools.checker.running.results import Head, Results
-from crashfs_tools.checker.running.runner import GOOD, GOOD_OUTCOME, Outcome
+from crashfs_tools.checker.running.runner import GOOD, GOOD_OUTCOME, NO_ANSWER, Outcome
 from crashfs_tools.checker.states.place_sets import places_of, size_of
 from crashfs_tools.checker.states.plan import Plan, State
 from crashfs_tools.common.entry import parent_of
@@ -181,7 +181,8 @@ class Group:
         fewer states fail then, else another place for the bytes if the kept line overwrites some in
         use, else that of no_loss_advice()."""
         kept, lost = self.kept_line, self.lost_line
-        advice = no_loss_advice(kept, lost)
+        verb = 'gives no answer' if self.outcome.result == NO_ANSWER else 'fails'
+        advice = no_loss_advice(kept, lost, verb)
         if kept is None or lost is None:
             return advice
         if self.swap_counts is not None and self.swap_counts.is_lower:

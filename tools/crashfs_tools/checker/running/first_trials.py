@@ -1,5 +1,5 @@
 """COMMAND must find the tree at the session's end good, and the start tree: nothing is lost there,
-so it is COMMAND that is wrong if it doesn't."""
+so it is COMMAND that is wrong if it fails in one of them, or ends in neither."""
 
 from __future__ import annotations
 
@@ -16,6 +16,7 @@ from .trials import Trials
 
 END_TREE, START_TREE = "the tree at the session's end", 'the start tree'
 LOSSLESS = 'where nothing is lost'
+NO_END = 'does it wait for a lock or a port, print without end, or need a longer --timeout?'
 REOPENED = 'or does the store itself lose something when it is opened again, without a crash?'
 
 
@@ -30,27 +31,30 @@ class FirstTrials:
     end_plan: Optional[PlannedTrace] = None
 
     def run(self) -> None:
-        """Tries the two trees, first that at the end. Refused if COMMAND fails in one of them;
-        other exceptions as in outcome_of(). The results get the outcomes of states that are among
-        those to try; the outcome of end_plan's state is dropped."""
+        """Tries the two trees, first that at the end. Refused if COMMAND fails in one of them,
+        or ends in neither; other exceptions as in outcome_of(). The results get the outcomes of
+        states that are among those to try; the outcome of end_plan's state is dropped."""
         start, end = self.trials.plan.first_and_last_prefix
         if self.end_plan is None:
-            self.try_prefix(end, END_TREE, next_numbers=[start.number])
+            outcome = self.try_prefix(end, END_TREE, next_numbers=[start.number])
         else:
             state = self.end_plan.plan.listed[0]
             outcome = Trials(self.trials.workplace, self.end_plan).try_state(state)
             if outcome.result == BAD:
                 raise self.refusal(outcome, END_TREE, f'says {state.says}', [])
-        self.try_prefix(start, START_TREE)
+        if self.try_prefix(start, START_TREE).has_no_end and outcome.has_no_end:
+            first_line = f'{self.recovery_name} gives no answer, even {LOSSLESS}: {outcome.cause}'
+            raise Refused('\n'.join([first_line, NO_END, *self.inspections(start.number)]))
 
-    def try_prefix(self, state: State, tree_name: str, next_numbers: Sequence[int] = ()) -> None:
-        """Tries the tree of a prefix: Refused, with tree_name, if COMMAND fails there; next_numbers
-        and other exceptions as in outcome_of()."""
+    def try_prefix(self, state: State, tree_name: str, next_numbers: Sequence[int] = ()) -> Outcome:
+        """Tries the tree of a prefix, and returns the outcome. Refused, with tree_name, if COMMAND
+        fails there; next_numbers and other exceptions as in outcome_of()."""
         number = self.results.tried_numbers[state.trial]
         outcome = self.outcome_of(number, next_numbers)
         if outcome.result == BAD:
-            hints = [f'inspect it with --state {number}'] if self.is_command else []
-            raise self.refusal(outcome, tree_name, f'state {number}, says {state.says}', hints)
+            state_text = f'state {number}, says {state.says}'
+            raise self.refusal(outcome, tree_name, state_text, self.inspections(number))
+        return outcome
 
     def outcome_of(self, number: int, next_numbers: Sequence[int]) -> Outcome:
         """The outcome of the state of a number: that of the results, or else that of a run, which
@@ -69,14 +73,24 @@ class FirstTrials:
         """Whether a command is tried, not a function."""
         return self.trials.options.function is None
 
+    @property
+    def recovery_name(self) -> str:
+        """What the texts call COMMAND, or the recovery function."""
+        return self.trials.options.recovery_name
+
+    def inspections(self, number: int) -> List[str]:
+        """A line on how to inspect the state of a number; no line for a function."""
+        return [f'inspect it with --state {number}'] if self.is_command else []
+
     def refusal(
         self, outcome: Outcome, tree_name: str, state_text: str, hints: List[str]
     ) -> Refused:
         """A new Refused for an outcome that is BAD: the first line of its text has the tree, the
         state and the cause, then come those of hints_on_cause(), and `hints` last. It isn't raised
         yet."""
-        name = self.trials.options.recovery_name
-        first_line = f'{name} fails in {tree_name}, {LOSSLESS} ({state_text}): {outcome.cause}'
+        first_line = (
+            f'{self.recovery_name} fails in {tree_name}, {LOSSLESS} ({state_text}): {outcome.cause}'
+        )
         own_hints = self.hints_on_cause(outcome.cause, tree_name)
         return Refused('\n'.join([first_line, *own_hints, *hints]))
 

@@ -34,6 +34,10 @@ LOOK_SECONDS = 0.002
 LINES_FILE = os.O_WRONLY | os.O_NOFOLLOW | os.O_CLOEXEC
 
 
+# What the causes of runs that were late, or printed too much, begin with.
+LATE, FLOODED = 'it had not ended after ', 'it printed more than '
+
+
 class Outcome(NamedTuple):
     """What a command found in a state. result is GOOD, BAD or NO_ANSWER. cause is the last line
     that it printed, or its status, or why there is no answer. output is the end of what it printed.
@@ -52,6 +56,11 @@ class Outcome(NamedTuple):
     def cause_without_numbers(self) -> str:
         """The whole cause, with its numbers left out."""
         return without_numbers(self.cause)
+
+    @property
+    def has_no_end(self) -> bool:
+        """Whether the command was killed because it was late or printed too much."""
+        return self.result == NO_ANSWER and self.cause.startswith((LATE, FLOODED))
 
 
 GOOD_OUTCOME = Outcome(GOOD)
@@ -287,9 +296,9 @@ class Checker:
         printed = printed_bytes.decode('utf-8', 'replace')
         tail = printed[-OUTPUT_CHARACTERS:]
         if ending.end is End.LATE:
-            return Outcome(NO_ANSWER, f'it had not ended after {self.timeout:g} seconds', tail)
+            return Outcome(NO_ANSWER, f'{LATE}{self.timeout:g} seconds', tail)
         if ending.end is End.FLOODED:
-            return Outcome(NO_ANSWER, f'it printed more than {MOST_BYTES >> 20} MB', tail)
+            return Outcome(NO_ANSWER, f'{FLOODED}{MOST_BYTES >> 20} MB', tail)
         return Outcome(BAD, failure_cause(ending.status, printed), tail)
 
 
