@@ -24,6 +24,8 @@ SHOWN_GROUPS = 20
 # So many lines are shown of what an entry's example lacks, and of the syncs that aren't enough.
 SHOWN_LINES = 3
 CAUSE_WIDTH = 52
+# If no smaller loss was looked for, as in a shard.
+ANY_LOSS = '; any of these losses may be the reason'
 UNPROVED = 'unproved: the Python implementation computed these states, not crashfs'
 VERSION_UNPROVED = (
     'unproved: the Python implementation computed these states, as crashfs takes no traces of '
@@ -280,8 +282,9 @@ class ReportText:
 
     def other_loss_lines(self, group: Group) -> List[str]:
         """A line that names the first SHOWN_LINES lines of the trace that the example lacks, in
-        addition to the lost line and to needed_lines, and says how many more there are. No line if
-        there are none, or if the failure needs no loss."""
+        addition to the lost line and to needed_lines, and says how many more there are, and whether
+        the lost line is only a guess. No line if there are none, or if the failure needs no
+        loss."""
         named = {group.lost_line.number if group.lost_line else 0, *group.needed_lines}
         other_lost = [number for number in group.lost_lines if number not in named]
         if not other_lost or not group.is_due_to_loss:
@@ -289,7 +292,8 @@ class ReportText:
         shown = ', '.join(map(self.line_text, other_lost[:SHOWN_LINES]))
         more = len(other_lost) - SHOWN_LINES
         also = f' and {count_text(more, "more line")}' if more > 0 else ''
-        return [f'state {group.example.number} also lacks {shown}{also}']
+        guess = ANY_LOSS if group.pair.is_guess else ''
+        return [f'state {group.example.number} also lacks {shown}{also}{guess}']
 
     def line_text(self, number: int) -> str:
         """A line of the trace, by its number, as sentences name it. The brackets are empty if the
