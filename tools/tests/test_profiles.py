@@ -90,8 +90,10 @@ class Planning(InFolder):
                     self.assertEqual(set(self.trees_of(text, known)), wanted)
 
     def test_a_profile_that_a_trace_lacks_is_refused(self) -> None:
-        with self.assertRaisesRegex(Refused, 'the profiles of this trace are blocks, ordered'):
-            self.planned(REMOVED, 'journal')
+        known = 'the profiles of this trace are blocks, ordered'
+        for profile, hint in (('journal', '; record with --trace-version 4'), ('ext4', '')):
+            with self.assertRaisesRegex(Refused, f'^--in {profile}: {known}{hint}$'):
+                self.planned(REMOVED, profile)
 
     def test_profiles_that_the_program_prints_are_taken(self) -> None:
         planned = self.planned(REMOVED, program=Printing())

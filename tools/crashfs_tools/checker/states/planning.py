@@ -170,7 +170,8 @@ class Planner:
         wanted = self.options.profile or ''
         if wanted not in ('', *names):
             known_names = ', '.join(names)
-            raise Refused(f'--in {wanted}: the profiles of this trace are {known_names}')
+            hint = '; record with --trace-version 4' if wanted == 'journal' else ''
+            raise Refused(f'--in {wanted}: the profiles of this trace are {known_names}{hint}')
         return plan.with_states(plan.listed, all_states, SetProfiles(names, profile_bits, wanted))
 
     def divide_picks(self, picks: List[int], needs: Needs) -> List[List[int]]:
