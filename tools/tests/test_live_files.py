@@ -9,7 +9,7 @@ from crashfs_tools.common.trace import Header, Start, StartSymlink
 from crashfs_tools.recorder.arguments import NO_DESCRIPTOR
 from crashfs_tools.recorder.directory import Scan
 from crashfs_tools.recorder.live_files import LiveFiles, StartConditions
-from crashfs_tools.recorder.processes import OpenFile, Process
+from crashfs_tools.recorder.processes import OpenFile, Process, open_file_of_path
 from crashfs_tools.recorder.recording import Recording, TraceSettings
 from crashfs_tools.recorder.start_tree import files_at_start
 from crashfs_tools.recorder.strace_log import Call
@@ -97,15 +97,18 @@ class Paths(unittest.TestCase):
         process = self.files.first_process()
         nodes = self.files.tree.nodes
         chmod, chmod_at = call('chmod', '"l"'), call('fchmodat', 'AT_FDCWD</d>', '"l"')
-        self.assertIs(self.files.node_argument(process, chmod, 0), nodes['/f'])
-        self.assertIs(self.files.node_argument_at(process, chmod_at, 0), nodes['/f'])
-        for node in (
-            self.files.node_argument(process, chmod, 0, follow_last_link=False),
-            self.files.node_argument_at(process, chmod_at, 0, follow_last_link=False),
-        ):
-            self.assertIs(node, nodes['/l'])
+        for follow_last_link, path in ((True, '/f'), (False, '/l')):
+            for node in (
+                self.files.node_argument(process, chmod, follow_last_link=follow_last_link),
+                self.files.node_argument_at(process, chmod_at, follow_last_link=follow_last_link),
+            ):
+                self.assertIs(node, nodes[path])
+            found = self.files.resolve_argument(
+                '/d', as_strace('"l"'), follow_last_link=follow_last_link
+            )
+            self.assertEqual(found, path)
         self.assertEqual(self.files.path_argument(process, chmod, 0), '/l')
-        self.assertEqual(self.files.path_argument(process, chmod, 0, follow_last_link=True), '/f')
+        self.assertEqual(self.files.path_argument_at(process, chmod_at, 0), '/l')
 
     def open_files(self) -> Tuple[Process, Process]:
         """Two processes, 7 and 8, which both have /f open as 5; standard input of 7 is /g."""
@@ -130,16 +133,25 @@ class Paths(unittest.TestCase):
         ):
             with self.subTest(path):
                 word = as_strace(f'"{path}"')
-                file = self.files.open_file_of_path(first, word)
+                file = open_file_of_path(word, first, self.files.processes)
                 self.assertIs(file, process.descriptors.files[number])
         for path in ('/dev/fd/6', '/proc/9/fd/5', '/d/f', 'dev/fd/5', '/dev/fd/5/x'):
-            self.assertIsNone(self.files.open_file_of_path(first, as_strace(f'"{path}"')), path)
-        self.assertIsNone(self.files.open_file_of_path(first, '0x7ffc'))
+            word = as_strace(f'"{path}"')
+            self.assertIsNone(open_file_of_path(word, first, self.files.processes), path)
+        self.assertIsNone(open_file_of_path('0x7ffc', first, self.files.processes))
 
     def test_an_empty_path_means_the_file_of_the_descriptor_before_it(self) -> None:
         first, _ = self.open_files()
-        chmod = call('fchmodat', '5</d/f>', '""')
-        self.assertIs(self.files.node_argument_at(first, chmod, 0), self.files.tree.nodes['/f'])
+        nodes = self.files.tree.nodes
+        for descriptor, word, node in (
+            ('5</d/f>', '""', nodes['/f']),
+            ('5</d/f>', '"/d/g"', nodes['/g']),
+            ('AT_FDCWD</d>', '""', nodes['/']),
+            ('1<pipe:[9]>', '""', None),
+        ):
+            chmod = call('fchmodat', descriptor, word)
+            found = self.files.node_argument_at(first, chmod, follow_last_link=False)
+            self.assertIs(found, node, (descriptor, word))
 
     def test_a_descriptor_that_nothing_opened_is_reported_unless_it_is_unlinked(self) -> None:
         process, _ = self.open_files()
@@ -153,7 +165,7 @@ class Paths(unittest.TestCase):
         ):
             with self.subTest(word):
                 self.files.recording.troubles.clear()
-                file = self.files.find_open_file(process, call('fsync', word))
+                file = self.files.open_file_or_report(process, call('fsync', word))
                 self.assertIs(file, process.descriptors.files.get(int(word[0])))
                 troubles = self.files.recording.troubles.values()
                 self.assertEqual([trouble.where for trouble in troubles], wanted)

@@ -4,7 +4,6 @@ call adds to the recording."""
 from __future__ import annotations
 
 import os.path
-import re
 from dataclasses import dataclass
 from typing import Dict, List, NamedTuple, Optional
 from weakref import WeakSet
@@ -28,15 +27,12 @@ from . import arguments
 from .directory import PERMISSIONS, IsIgnored
 from .live_tree import Change, LiveTree, Node
 from .output_streams import OutputStream
-from .processes import Descriptors, OpenFile, PathContext, Process
+from .processes import Descriptors, OpenFile, PathContext, Process, open_file_of_path
 from .recording import Recording
 from .resolving import ReadLink, Resolver
 from .strace_log import Call
 
 UNKNOWN = 'by something that the log has not'
-# Paths that mean a descriptor of a process.
-DESCRIPTOR_PATH = re.compile(r'^(?:/proc/(self|thread-self|\d+)(?:/task/\d+)?|/dev)/fd/(\d+)$')
-STANDARD_NAMES = {'/dev/stdin': 0, '/dev/stdout': 1, '/dev/stderr': 2}
 
 
 def no_target(_: str) -> None:
@@ -145,23 +141,20 @@ class LiveFiles:
         other_node = self.tree.node_at(self.resolve_path(other_path, follow_last_link=True))
         return node is not None and node is other_node
 
-    def path_argument(
-        self, process: Process, call: Call, index: int, *, follow_last_link: bool = False
-    ) -> Optional[str]:
-        """The path in the argument with this index, as resolve_path() returns it. A relative path
-        begins at the working directory. None also if strace cut the path."""
-        base = process.path_context.directory
-        return self.resolve_argument(base, call.argument(index), follow_last_link=follow_last_link)
+    # Arguments of calls
 
-    def path_argument_at(
-        self, process: Process, call: Call, index: int, *, follow_last_link: bool = False
-    ) -> Optional[str]:
-        """The path in the argument after the one with this index, as resolve_path() returns it. A
-        relative path begins at the directory that Process.directory_of() returns for the descriptor
-        in the argument with this index. None also if strace cut the path."""
+    def path_argument(self, process: Process, call: Call, index: int) -> Optional[str]:
+        """The path in the argument with this index, as resolve_path() returns it. A relative path
+        begins at the working directory; a symbolic link at the end isn't followed. None also if
+        strace cut the path."""
+        return self.resolve_argument(process.path_context.directory, call.argument(index))
+
+    def path_argument_at(self, process: Process, call: Call, index: int) -> Optional[str]:
+        """As path_argument(), for the argument after the one with this index. A relative path
+        begins at the directory that Process.directory_of() returns for the descriptor in the
+        argument with this index."""
         base = process.directory_of(call.descriptor(index))
-        word = call.argument(index + 1)
-        return self.resolve_argument(base, word, follow_last_link=follow_last_link)
+        return self.resolve_argument(base, call.argument(index + 1))
 
     def resolve_argument(
         self, base: str, word: str, *, follow_last_link: bool = False
@@ -171,52 +164,49 @@ class LiveFiles:
         return self.path_in_tree(self.full_path(base, word, follow_last_link=follow_last_link))
 
     def node_argument(
-        self, process: Process, call: Call, index: int, *, follow_last_link: bool = True
+        self, process: Process, call: Call, *, follow_last_link: bool
     ) -> Optional[Node]:
-        """The file or directory at the path in the argument with this index. A symbolic link at its
-        end is followed, unless follow_last_link is False: then it is returned itself. A path such
-        as /proc/self/fd/3 means that descriptor's file. None if nothing is known there, for a
-        stream, or if path_argument() returns None."""
-        file = self.open_file_of_path(process, call.argument(index))
-        if file is not None:
-            return file.node
-        path = self.path_argument(process, call, index, follow_last_link=follow_last_link)
-        return self.tree.node_at(path)
+        """The file or directory at the path in the first argument, as node_at_argument() returns
+        it. A relative path begins at the working directory."""
+        base, word = process.path_context.directory, call.argument(0)
+        return self.node_at_argument(process, base, word, follow_last_link=follow_last_link)
 
     def node_argument_at(
-        self, process: Process, call: Call, index: int, *, follow_last_link: bool = True
+        self, process: Process, call: Call, *, follow_last_link: bool
     ) -> Optional[Node]:
-        """As node_argument(), for the path in the argument after the one with this index, as
-        path_argument_at() returns it. An empty path means the file of the descriptor in the
-        argument with this index."""
-        file = self.open_file_of_path(process, call.argument(index + 1))
-        if call.argument(index + 1) == '""':
-            file = process.descriptors.files.get(call.descriptor(index).number)
+        """As node_argument(), for the path in the second argument. A relative path begins at the
+        directory of the descriptor in the first argument, as in path_argument_at(). An empty path
+        means that descriptor's own file."""
+        descriptor, word = call.descriptor(0), call.argument(1)
+        file = process.open_file(descriptor)
+        if file is not None and arguments.parse_path(word) == '':
+            return file.node
+        base = process.directory_of(descriptor)
+        return self.node_at_argument(process, base, word, follow_last_link=follow_last_link)
+
+    def node_at_argument(
+        self, process: Process, base: str, word: str, *, follow_last_link: bool
+    ) -> Optional[Node]:
+        """The file or directory at the path in an argument. A symbolic link at its end is followed
+        if follow_last_link is set: else it is returned itself. A path such as /proc/self/fd/3 means
+        that descriptor's file. None if nothing is known there, for a stream, or if
+        resolve_argument() returns None."""
+        file = open_file_of_path(word, process, self.processes)
         if file is not None:
             return file.node
-        path = self.path_argument_at(process, call, index, follow_last_link=follow_last_link)
+        path = self.resolve_argument(base, word, follow_last_link=follow_last_link)
         return self.tree.node_at(path)
 
-    def open_file_of_path(self, process: Process, word: str) -> Optional[OpenFile]:
-        """The open file of the descriptor that the path in an argument means, such as
-        /proc/self/fd/3 or /dev/stdout. None for any other path, if the descriptor isn't followed,
-        and for /proc/PID/fd of a process that isn't known."""
-        path = arguments.parse_path(word) or ''
-        if path in STANDARD_NAMES:
-            return process.descriptors.files.get(STANDARD_NAMES[path])
-        match = DESCRIPTOR_PATH.match(path)
-        if not match:
-            return None
-        has_number = (match[1] or '').isdigit()
-        owner = self.processes.get(int(match[1])) if has_number else process
-        return owner.descriptors.files.get(int(match[2])) if owner else None
+    # Descriptors
 
-    def find_open_file(self, process: Process, call: Call, index: int = 0) -> Optional[OpenFile]:
+    def open_file_or_report(
+        self, process: Process, call: Call, index: int = 0
+    ) -> Optional[OpenFile]:
         """The open file of the descriptor in the argument with this index; None if the descriptor
         isn't followed. If strace shows a path of the directory for such a descriptor, the log lacks
         the call that opened it: that is reported, unless the file is unlinked."""
         descriptor = call.descriptor(index)
-        file = process.descriptors.files.get(descriptor.number)
+        file = process.open_file(descriptor)
         if file is None and descriptor.path is not None and not descriptor.is_deleted:
             path = self.resolve_path(descriptor.path)
             if path is not None:
@@ -232,7 +222,7 @@ class LiveFiles:
         is standard output, what strace shows for the descriptor is added to the streams."""
         descriptor = call.descriptor(index)
         streams = self.recording.streams
-        file = process.descriptors.files.get(descriptor.number)
+        file = process.open_file(descriptor)
         if file is None:
             return streams.find_stream(descriptor.number, descriptor.text)
         if file.stream is streams.inherited_streams[1]:

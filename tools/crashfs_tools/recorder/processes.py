@@ -2,17 +2,22 @@
 
 from __future__ import annotations
 
+import re
 import stat
 from copy import copy
 from dataclasses import dataclass, field
 from typing import Dict, Iterable, Optional, Set
 
-from .arguments import CURRENT_DIRECTORY, Descriptor, parse_digits
+from .arguments import CURRENT_DIRECTORY, Descriptor, parse_digits, parse_path
 from .live_tree import Node
 from .mappings import Memory
 from .output_streams import OutputStream
 from .resolving import REMOVED, removed_path
 from .strace_log import Call
+
+# Paths that mean a descriptor of a process.
+DESCRIPTOR_PATH = re.compile(r'^(?:/proc/(self|thread-self|\d+)(?:/task/\d+)?|/dev)/fd/(\d+)$')
+STANDARD_NAMES = {'/dev/stdin': 0, '/dev/stdout': 1, '/dev/stderr': 2}
 
 
 @dataclass(eq=False)
@@ -133,6 +138,24 @@ class Process:
             self.path_context if 'CLONE_FS' in flags else copy(self.path_context),
             self.memory if has_shared_memory else self.memory.copy(),
         )
+
+
+def open_file_of_path(
+    word: str, process: Process, processes: Dict[int, Process]
+) -> Optional[OpenFile]:
+    """The open file of the descriptor that the path in an argument of a process means, such as
+    /proc/self/fd/3 or /dev/stdout. `processes` has all that are known, by their numbers. None for
+    any other path, if the descriptor isn't followed, and for /proc/PID/fd of another process that
+    isn't known."""
+    path = parse_path(word) or ''
+    if path in STANDARD_NAMES:
+        return process.descriptors.files.get(STANDARD_NAMES[path])
+    match = DESCRIPTOR_PATH.match(path)
+    if not match:
+        return None
+    has_number = (match[1] or '').isdigit()
+    owner = processes.get(int(match[1])) if has_number else process
+    return owner.descriptors.files.get(int(match[2])) if owner else None
 
 
 def move_working_directories(processes: Iterable[Process], new_paths: Dict[str, str]) -> None:

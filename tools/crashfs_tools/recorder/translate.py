@@ -151,7 +151,7 @@ class Translator:
         """The file whose bytes a call changes. None if the call changes no bytes, or if the file
         isn't followed."""
         if call.name in ('truncate', 'truncate64'):
-            return self.files.node_argument(process, call, 0)
+            return self.files.node_argument(process, call, follow_last_link=True)
         if call.name not in call_order.DATA_CHANGES:
             return None
         target = call.descriptor(call_order.target_index(call))

@@ -1,5 +1,5 @@
 """Calls that read, write and truncate. Each `on_NAME` translates a call NAME that has returned; one
-on a file that isn't followed changes nothing, but LiveFiles.find_open_file() may report it.
+on a file that isn't followed changes nothing, but LiveFiles.open_file_or_report() may report it.
 LogError if an argument isn't as strace writes it."""
 
 from __future__ import annotations
@@ -117,7 +117,7 @@ def write_to_descriptor(
     if stream is not None:
         write_to_stream(files, stream, written, reason)
         return
-    file = files.find_open_file(process, call, index)
+    file = files.open_file_or_report(process, call, index)
     if file is None or file.node is None or file.node.is_directory:
         return
     if written is None:
@@ -158,7 +158,7 @@ def write_to_file(
 
 def on_ftruncate(files: LiveFiles, process: Process, call: Call) -> None:
     """Sets the length of an open file, as LiveFiles.set_length() does."""
-    node = node_of(files.find_open_file(process, call))
+    node = node_of(files.open_file_or_report(process, call))
     if node is not None:
         files.set_length(node, arguments.parse_integer(call.argument(1)))
 
@@ -166,7 +166,7 @@ def on_ftruncate(files: LiveFiles, process: Process, call: Call) -> None:
 def on_truncate(files: LiveFiles, process: Process, call: Call) -> None:
     """Sets the length of the file at a path, as LiveFiles.set_length() does. A symbolic link at the
     end of the path is followed."""
-    node = files.node_argument(process, call, 0)
+    node = files.node_argument(process, call, follow_last_link=True)
     if node is not None:
         files.set_length(node, arguments.parse_integer(call.argument(1)))
 
@@ -175,7 +175,7 @@ def on_fallocate(files: LiveFiles, process: Process, call: Call) -> None:
     """Makes a file longer, if it is shorter than the range's end, or, with PUNCH_HOLE or
     ZERO_RANGE, writes zeros to the range. With KEEP_SIZE the length stays. After COLLAPSE_RANGE or
     INSERT_RANGE the file's bytes aren't followed any more, which is reported."""
-    mode, node = call.argument(1), node_of(files.find_open_file(process, call))
+    mode, node = call.argument(1), node_of(files.open_file_or_report(process, call))
     if node is None:
         return
     offset = arguments.parse_integer(call.argument(2))

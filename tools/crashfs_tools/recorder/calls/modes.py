@@ -1,5 +1,5 @@
 """Calls that change modes and owners. Each `on_NAME` translates a call NAME that has returned; one
-on a file that isn't followed changes nothing, but LiveFiles.find_open_file() may report it.
+on a file that isn't followed changes nothing, but LiveFiles.open_file_or_report() may report it.
 LogError if an argument isn't as strace writes it."""
 
 from __future__ import annotations
@@ -23,11 +23,11 @@ UNCHANGED = (-1, 2**32 - 1)
 def first_argument_node(files: LiveFiles, process: Process, call: Call) -> Optional[Node]:
     """The file or directory of a call's first argument: of a descriptor, if the call's name begins
     with `f`, or at a path; a name that begins with `l`, as lchown, means a symbolic link itself.
-    None if it isn't followed, which may be reported as in LiveFiles.find_open_file()."""
+    None if it isn't followed, which may be reported as in LiveFiles.open_file_or_report()."""
     if call.name.startswith('f'):
-        return node_of(files.find_open_file(process, call))
+        return node_of(files.open_file_or_report(process, call))
     follow_last_link = not call.name.startswith('l')
-    return files.node_argument(process, call, 0, follow_last_link=follow_last_link)
+    return files.node_argument(process, call, follow_last_link=follow_last_link)
 
 
 def on_chmod(files: LiveFiles, process: Process, call: Call) -> None:
@@ -39,7 +39,7 @@ def on_chmod(files: LiveFiles, process: Process, call: Call) -> None:
 
 def on_fchmodat(files: LiveFiles, process: Process, call: Call) -> None:
     """Sets the mode of the file at a path that is relative to a directory."""
-    node = files.node_argument_at(process, call, 0)
+    node = files.node_argument_at(process, call, follow_last_link=True)
     set_mode(files, node, parse_digits(call.argument(2), 8))
 
 
@@ -71,7 +71,7 @@ def on_fchownat(files: LiveFiles, process: Process, call: Call) -> None:
     AT_SYMLINK_NOFOLLOW a symbolic link at its end isn't followed. An empty path means the
     descriptor's own file."""
     follow_last_link = 'AT_SYMLINK_NOFOLLOW' not in call.argument(4)
-    node = files.node_argument_at(process, call, 0, follow_last_link=follow_last_link)
+    node = files.node_argument_at(process, call, follow_last_link=follow_last_link)
     set_owner(files, node, parse_integer(call.argument(2)), parse_integer(call.argument(3)))
 
 

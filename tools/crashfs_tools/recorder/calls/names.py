@@ -110,7 +110,7 @@ def make_directory(files: LiveFiles, process: Process, path: Optional[str], mode
 def on_link(files: LiveFiles, process: Process, call: Call) -> None:
     """Gives a file another name, as add_link() does. A symbolic link at the end of the old path
     isn't followed: it gets the name itself."""
-    node = files.node_argument(process, call, 0, follow_last_link=False)
+    node = files.node_argument(process, call, follow_last_link=False)
     add_link(files, node, files.path_argument(process, call, 1))
 
 
@@ -119,7 +119,7 @@ def on_linkat(files: LiveFiles, process: Process, call: Call) -> None:
     a symbolic link at the end of the old path is followed. An empty old path means the
     descriptor's own file."""
     follow_last_link = 'AT_SYMLINK_FOLLOW' in call.argument(4)
-    node = files.node_argument_at(process, call, 0, follow_last_link=follow_last_link)
+    node = files.node_argument_at(process, call, follow_last_link=follow_last_link)
     add_link(files, node, files.path_argument_at(process, call, 2))
 
 

@@ -12,7 +12,7 @@ from crashfs_tools.recorder.arguments import parse_integer
 from crashfs_tools.recorder.call_order import OPENS
 from crashfs_tools.recorder.directory import PERMISSIONS
 from crashfs_tools.recorder.live_tree import Node
-from crashfs_tools.recorder.processes import OpenFile, Process
+from crashfs_tools.recorder.processes import OpenFile, Process, open_file_of_path
 from crashfs_tools.recorder.live_files import UNKNOWN, LiveFiles
 from crashfs_tools.recorder.strace_log import Call
 
@@ -84,7 +84,7 @@ def open_path(
     `word` means an open file or stream, as /dev/stdout does, that is opened again. Else it is the
     file at opened_path(), which open_node() makes or truncates; if that is None, the descriptor
     isn't followed. A relative path begins at the directory with the absolute path `base`."""
-    file = files.open_file_of_path(process, word)
+    file = open_file_of_path(word, process, files.processes)
     if file is not None:
         file = reopen_file(files, file, flags)
     else:

@@ -1,5 +1,5 @@
 """Calls that sync, and that map files. Each `on_NAME` translates a call NAME that has returned; one
-on a file that isn't followed changes nothing, but LiveFiles.find_open_file() may report it.
+on a file that isn't followed changes nothing, but LiveFiles.open_file_or_report() may report it.
 LogError if an argument isn't as strace writes it."""
 
 from __future__ import annotations
@@ -22,7 +22,7 @@ NOT_FOLLOWED = (
 
 def on_fsync(files: LiveFiles, process: Process, call: Call) -> None:
     """Syncs an open file or directory, with its mode and owner: LiveFiles.sync_file()."""
-    node = node_of(files.find_open_file(process, call))
+    node = node_of(files.open_file_or_report(process, call))
     if node is not None:
         files.sync_file(node)
 
@@ -30,7 +30,7 @@ def on_fsync(files: LiveFiles, process: Process, call: Call) -> None:
 def on_fdatasync(files: LiveFiles, process: Process, call: Call) -> None:
     """Syncs the bytes and the size of an open file. An open directory is synced as by fsync; if its
     mode or owner was changed since its last sync, that is reported."""
-    node = node_of(files.find_open_file(process, call))
+    node = node_of(files.open_file_or_report(process, call))
     if node is not None:
         files.sync_data(node)
 
@@ -61,7 +61,7 @@ def sync_all(files: LiveFiles) -> None:
 def on_sync_file_range(files: LiveFiles, process: Process, call: Call) -> None:
     """Notes a sync_file_range, if the trace has the file. The trace gets no sync, as the call
     promises nothing about a crash."""
-    node = node_of(files.find_open_file(process, call))
+    node = node_of(files.open_file_or_report(process, call))
     if node is not None and node.traced_path is not None:
         what = 'sync_file_range: it promises nothing of a crash, and is left out'
         files.recording.report_note(what, node.traced_path)
