@@ -22,6 +22,7 @@ from crashfs_tools.recorder.directory import Scan
 from crashfs_tools.recorder.log_filter import LogFilter
 from crashfs_tools.recorder.mapped_files import FileCopies
 from crashfs_tools.recorder.live_files import StartConditions
+from crashfs_tools.recorder.output_streams import AcknowledgingDescriptors
 from crashfs_tools.recorder.start_tree import files_at_start
 from crashfs_tools.recorder.recording import Recording, TraceSettings
 from crashfs_tools.recorder.strace_log import Call, read_log
@@ -69,12 +70,13 @@ def recording_of(
 ) -> Recording:
     """What a log becomes, for the directory /d with the umask 022 and the user u."""
     scan = Scan(Header('u', 'u', 0o755), list(start or []))
-    recording = Recording(scan.header, TraceSettings(acknowledged, version=version))
+    numbers = [int(number) for number in acknowledged if number.isdigit()]
+    descriptors = AcknowledgingDescriptors(tuple(numbers), 'socket' in acknowledged)
+    recording = Recording(scan.header, TraceSettings(descriptors, version=version))
     recording.streams.add_text_of_output(output)
     conditions = StartConditions('/d', 0o022, 'u', 'u')
     is_ignored, has_copies = ignored or (lambda path: False), copies is not None
     files = files_at_start(recording, conditions, scan, is_ignored, has_copies=has_copies)
-    numbers = [int(number) for number in acknowledged if number.isdigit()]
     needed = LogFilter(b'/d', numbers) if copies is None else None
     log = read_log(map(as_strace, lines), needed)
     for call in log.calls if note else []:

@@ -4,7 +4,8 @@ import unittest
 from typing import List, Sequence
 
 from crashfs_tools.common.trace import Say, Start
-from crashfs_tools.recorder.output_streams import nonstandard_descriptors
+from crashfs_tools.recorder.options import read_options
+from crashfs_tools.recorder.output_streams import AcknowledgingDescriptors
 from crashfs_tools.recorder.recording import Recording
 
 from .support import recording_of, short
@@ -80,7 +81,18 @@ class Lines(unittest.TestCase):
             self.assertEqual([one.where for one in troubles], wanted)
 
     def test_the_standard_descriptors_and_sockets_are_not_nonstandard(self):
-        self.assertEqual(nonstandard_descriptors(['0', '1', '2', 'socket', '3', '21']), [3, 21])
+        descriptors = AcknowledgingDescriptors((0, 1, 21, 2, 3), has_connections=True)
+        self.assertEqual(descriptors.nonstandard_numbers, [21, 3])
+
+    def test_values_of_say_fd_are_numbers_and_connections(self):
+        for values, wanted in (
+            ([], ((1,), False)),
+            (['socket'], ((), True)),
+            (['03', 'socket', '1'], ((3, 1), True)),
+        ):
+            words = [word for value in values for word in ('--say-fd', value)]
+            options = read_options([*words, 'd', 'out.trace', '--', 'true'])
+            self.assertEqual(options.acknowledging_descriptors, wanted)
 
     def test_a_file_at_a_descriptor_of_say_fd_stays_a_file(self):
         log = [

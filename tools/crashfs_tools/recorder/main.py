@@ -29,7 +29,7 @@ from .live_files import LiveFiles, StartConditions, no_target
 from .log_stream import LogStream
 from .mapped_files import FileCopies, MappedFiles
 from .options import NAME, RecordOptions, prepared_options, read_options
-from .output_streams import SayEach, nonstandard_descriptors
+from .output_streams import SayEach
 from .own_path import NOTE as OWN_PATH
 from .own_path import files_with_path
 from .recording import Recording, TraceSettings, is_private
@@ -217,7 +217,7 @@ def run_or_load_log(options: RecordOptions, files: LiveFiles) -> RecordedRun:
     """Runs COMMAND under strace, or loads the log of --from-log, and returns the run. If that log
     ends early, that is reported. It raises what run_under_strace() or load_log() does, and OSError
     if no temporary directory can be made."""
-    numbers = nonstandard_descriptors(options.acknowledging_descriptors)
+    numbers = options.acknowledging_descriptors.nonstandard_numbers
     line_filter = LogFilter(os.fsencode(files.conditions.top), numbers)
     if options.from_log is None:
         mapped_files = MappedFiles(options.directory, files.is_ignored) if options.mapped else None

@@ -5,7 +5,7 @@ from __future__ import annotations
 import argparse
 import os
 from dataclasses import dataclass, replace
-from typing import Any, Dict, List, Optional
+from typing import Any, Dict, List, Optional, Union
 
 from crashfs_tools.common.command import (
     Refused,
@@ -18,11 +18,13 @@ from crashfs_tools.common.trace import BLOCK_SIZES, BLOCKS, JOURNAL, PROFILES
 from crashfs_tools.common.whole_files import STANDARD_OUTPUT, folder_to_write
 
 from .ignore import Rule
-from .output_streams import DEFAULT_DESCRIPTORS, SOCKETS, SayEach
+from .output_streams import AcknowledgingDescriptors, SayEach
 
 NAME = 'crashfs-record'
 # The versions of traces that can be written; AUTO is the oldest that has all that happens.
 AUTO, VERSIONS = 'auto', ('3', '4')
+# What --say-fd takes for every connection that COMMAND accepts.
+SOCKETS = 'socket'
 # The system keeps the number of a descriptor in an int.
 LARGEST_DESCRIPTOR = 2**31 - 1
 
@@ -55,7 +57,7 @@ class RecordOptions:
     mapped: bool
     stacks: bool
     begin_after: Optional[str]
-    acknowledging_descriptors: List[str]
+    acknowledging_descriptors: AcknowledgingDescriptors
     say_each: Optional[str]
     no_say: bool
     keep_log: Optional[str]
@@ -81,10 +83,9 @@ def check_pattern(text: str) -> str:
     return text
 
 
-def parse_say_fd(word: str) -> str:
-    """A value of --say-fd in the form of acknowledging_descriptors: SOCKETS, or the digits of a
-    number without leading zeros. ArgumentTypeError for any other text, and for a number above
-    LARGEST_DESCRIPTOR."""
+def parse_say_fd(word: str) -> Union[int, str]:
+    """A value of --say-fd: a number, or SOCKETS. ArgumentTypeError for any other text, and for a
+    number above LARGEST_DESCRIPTOR."""
     if word == SOCKETS:
         return word
     if not word.isdecimal():
@@ -92,7 +93,15 @@ def parse_say_fd(word: str) -> str:
     number = parse_number(word)
     if number is None or number > LARGEST_DESCRIPTOR:
         raise argparse.ArgumentTypeError(f'no descriptor has a number above {LARGEST_DESCRIPTOR}')
-    return f'{number}'
+    return number
+
+
+def as_descriptors(values: List[Union[int, str]]) -> AcknowledgingDescriptors:
+    """What acknowledges something by these values of --say-fd: the default if there are none."""
+    if not values:
+        return AcknowledgingDescriptors()
+    numbers = tuple(value for value in values if isinstance(value, int))
+    return AcknowledgingDescriptors(numbers, SOCKETS in values)
 
 
 def check_begin_after(text: str) -> str:
@@ -226,8 +235,7 @@ def read_options(arguments: List[str]) -> RecordOptions:
         parser.error('--from-log goes with no COMMAND, --mapped, --stacks or --keep-log')
     if values.profile == JOURNAL and values.trace_version == VERSIONS[0]:
         parser.error(f'--profile {JOURNAL} needs --trace-version {VERSIONS[-1]} or {AUTO}')
-    # argparse would add the descriptors of --say-fd to a default.
-    values.acknowledging_descriptors = values.acknowledging_descriptors or [*DEFAULT_DESCRIPTORS]
+    values.acknowledging_descriptors = as_descriptors(values.acknowledging_descriptors)
     return RecordOptions(command=command, **vars(values))
 
 

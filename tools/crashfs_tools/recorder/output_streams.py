@@ -8,7 +8,7 @@ from __future__ import annotations
 
 from dataclasses import dataclass, field
 from enum import Enum
-from typing import Dict, FrozenSet, Iterable, Iterator, List, Optional, Sequence, Set
+from typing import Dict, FrozenSet, Iterable, Iterator, List, NamedTuple, Optional, Set, Tuple
 
 from . import arguments
 from .log_filter import WRITES
@@ -16,12 +16,21 @@ from .strace_log import Call
 
 OUTPUT, ERRORS = 'standard output', 'standard error'
 STANDARD_STREAM_NAMES = {1: OUTPUT, 2: ERRORS}
-# What --say-fd takes for every connection that COMMAND accepts.
-SOCKETS = 'socket'
-# Without --say-fd standard output acknowledges something.
-DEFAULT_DESCRIPTORS = ('1',)
 ACCEPTS = ('accept', 'accept4')
 SENDS = ('sendto', 'sendmsg', 'sendmmsg')
+
+
+class AcknowledgingDescriptors(NamedTuple):
+    """What acknowledges something (--say-fd): the descriptors with these numbers, by default
+    standard output, and with has_connections each connection that COMMAND accepts."""
+
+    numbers: Tuple[int, ...] = (1,)
+    has_connections: bool = False
+
+    @property
+    def nonstandard_numbers(self) -> List[int]:
+        """The numbers above 2: those of no standard stream."""
+        return [number for number in self.numbers if number > 2]
 
 
 class SayEach(Enum):
@@ -100,11 +109,6 @@ def line_of_write(data: bytes) -> bytes:
     return text.replace('\n', '\\n').replace('\r', '\\r').encode()
 
 
-def nonstandard_descriptors(words: Iterable[str]) -> List[int]:
-    """The numbers above 2 among values of --say-fd: neither standard descriptors nor SOCKETS."""
-    return [int(word) for word in words if word.isdecimal() and int(word) > 2]
-
-
 @dataclass
 class OutputStreams:
     """All streams of a session. inherited_streams has, by their descriptors, those that COMMAND may
@@ -112,12 +116,11 @@ class OutputStreams:
     has streams by the text that strace shows for a descriptor, as `pipe:[7]`, so that all
     descriptors of one pipe are of one stream; a device's text has the descriptor's number before.
 
-    acknowledging_descriptors has the values of --say-fd: numbers, or SOCKETS. say_each is what
-    counts as an acknowledgement; None means lines, but writes for a connection that isn't among
-    line_connections. These are the connections over which a line feed is sent, as strace shows
-    them; they must be set before add_connection() is called."""
+    say_each is what counts as an acknowledgement; None means lines, but writes for a connection
+    that isn't among line_connections. These are the connections over which a line feed is sent, as
+    strace shows them; they must be set before add_connection() is called."""
 
-    acknowledging_descriptors: Sequence[str] = DEFAULT_DESCRIPTORS
+    acknowledging_descriptors: AcknowledgingDescriptors = AcknowledgingDescriptors()
     say_each: Optional[SayEach] = None
     line_connections: FrozenSet[str] = frozenset()
     streams_by_text: Dict[str, OutputStream] = field(default_factory=dict)
@@ -126,7 +129,7 @@ class OutputStreams:
     def __post_init__(self) -> None:
         """Makes inherited_streams. Standard output and error are among them even if they
         acknowledge nothing."""
-        numbers = [1, 2, *nonstandard_descriptors(self.acknowledging_descriptors)]
+        numbers = [1, 2, *self.acknowledging_descriptors.nonstandard_numbers]
         self.inherited_streams = {number: self.new_stream(number) for number in numbers}
 
     def new_stream(self, number: int) -> OutputStream:
@@ -134,13 +137,13 @@ class OutputStreams:
         something if --say-fd names the descriptor: by lines, unless --say-each says otherwise."""
         return OutputStream(
             STANDARD_STREAM_NAMES.get(number, f'descriptor {number}'),
-            is_acknowledged=str(number) in self.acknowledging_descriptors,
+            is_acknowledged=number in self.acknowledging_descriptors.numbers,
             say_each=self.say_each or SayEach.LINE,
         )
 
     def is_named_nonstandard(self, number: int) -> bool:
         """Whether --say-fd names the descriptor with this number, and it is above 2."""
-        return number in nonstandard_descriptors(self.acknowledging_descriptors)
+        return number in self.acknowledging_descriptors.nonstandard_numbers
 
     def add_text_of_output(self, text: Optional[str]) -> None:
         """Adds what strace shows for a descriptor of COMMAND's standard output, so that the stream
@@ -153,7 +156,7 @@ class OutputStreams:
         """Adds the stream of a connection that COMMAND accepted, if --say-fd asks for connections.
         `text` is what strace shows for it, None if nothing: then no stream is added. An earlier
         stream with this text is replaced."""
-        if SOCKETS in self.acknowledging_descriptors and text is not None:
+        if self.acknowledging_descriptors.has_connections and text is not None:
             default = SayEach.LINE if text in self.line_connections else SayEach.WRITE
             self.streams_by_text[text] = OutputStream(
                 'a socket', is_acknowledged=True, say_each=self.say_each or default

@@ -4,7 +4,7 @@ from __future__ import annotations
 
 import stat
 from dataclasses import dataclass, field
-from typing import Callable, Dict, List, Optional, Sequence, Set, Tuple
+from typing import Callable, Dict, List, Optional, Set, Tuple
 
 from crashfs_tools.common import limits
 from crashfs_tools.common.trace import (
@@ -31,7 +31,7 @@ from crashfs_tools.common.trace import (
 from crashfs_tools.common.tree import Tree, least_file_size
 
 from .directory import PERMISSIONS
-from .output_streams import DEFAULT_DESCRIPTORS, OutputStream, OutputStreams, SayEach
+from .output_streams import AcknowledgingDescriptors, OutputStream, OutputStreams, SayEach
 from .strace_log import Call
 
 # The bits of a mode by which group and others may read.
@@ -44,7 +44,7 @@ class TraceSettings:
     `profile` says which directory operations the file system keeps in order, and `block` how many
     bytes the disk writes whole. The version None means the oldest one that has all that happens."""
 
-    acknowledging_descriptors: Sequence[str] = DEFAULT_DESCRIPTORS
+    acknowledging_descriptors: AcknowledgingDescriptors = AcknowledgingDescriptors()
     say_each: Optional[SayEach] = None
     profile: str = BLOCKS
     block: int = BLOCK_SIZES[-1]

@@ -10,7 +10,7 @@ import subprocess
 import sys
 import time
 from contextlib import contextmanager, nullcontext
-from typing import ContextManager, Iterator, List, Optional, Sequence
+from typing import ContextManager, Iterator, List, Optional
 
 from crashfs_tools.common.command import Refused
 from crashfs_tools.common.guard import Guard
@@ -21,7 +21,7 @@ from . import stacks
 from .log_stream import LogStream
 from .mapped_files import STOPPING_CALLS
 from .options import NAME, RecordOptions
-from .output_streams import SOCKETS, nonstandard_descriptors
+from .output_streams import AcknowledgingDescriptors
 from .progress import CallProgress
 from .strace_log import FORKS
 from .translate import HANDLERS, SOCKET_HANDLERS
@@ -61,7 +61,7 @@ def strace_command(strace_path: str, log_path: str, options: RecordOptions) -> L
     at each of STOPPING_CALLS; with --stacks the log has stacks, unless COMMAND is a Python
     program."""
     descriptors = options.acknowledging_descriptors
-    may_be_sockets = SOCKETS in descriptors or bool(nonstandard_descriptors(descriptors))
+    may_be_sockets = descriptors.has_connections or bool(descriptors.nonstandard_numbers)
     socket_calls = SOCKET_HANDLERS if may_be_sockets else ()
     marking_calls = stacks.MARKING_CALLS if options.stacks else ()
     traced = dict.fromkeys([*FORKS, *HANDLERS, *socket_calls, *marking_calls])
@@ -230,10 +230,10 @@ class StraceRun:
             self.signal_to_send = None
 
 
-def inherited_descriptors(acknowledging_descriptors: Sequence[str]) -> List[int]:
-    """The nonstandard_descriptors() that COMMAND inherits from the recorder: those with which the
+def inherited_descriptors(acknowledging_descriptors: AcknowledgingDescriptors) -> List[int]:
+    """The nonstandard_numbers that COMMAND inherits from the recorder: those with which the
     recorder was started, but none that it has opened itself."""
-    numbers = nonstandard_descriptors(acknowledging_descriptors)
+    numbers = acknowledging_descriptors.nonstandard_numbers
     return [number for number in numbers if is_inherited(number)]
 
 

@@ -16,7 +16,7 @@ from .live_tree import Node
 from .log_filter import WRITES
 from .mapped_files import FileCopies, FileCopy
 from .mapped_stores import MappedStores, copies_by_call
-from .output_streams import SOCKETS, connections_with_lines
+from .output_streams import connections_with_lines
 from .processes import Descriptors, PathContext, Process, node_of
 from .strace_log import EXIT, FORKS, SUPERSEDE, Call, Log
 
@@ -89,7 +89,7 @@ class Translator:
         current_call. Before that it sets call_copies, and line_connections of the streams. The
         arguments of writes are emptied, to save memory: the trace has their bytes. Its LogError
         has no line number."""
-        if SOCKETS in self.recording.streams.acknowledging_descriptors:
+        if self.recording.streams.acknowledging_descriptors.has_connections:
             self.recording.streams.line_connections = connections_with_lines(self.log.calls)
         if self.file_copies.copies:
             calls_by_paths = [call for _, call in CallQueue(self.log.calls).calls_in_order()]
