@@ -9,6 +9,7 @@ from unittest import mock
 
 from crashfs_tools.checker.running.workers import StateWorkers
 from crashfs_tools.common import removal
+from crashfs_tools.common.command import Refused
 from crashfs_tools.common.forked_reading import ForkedReading
 from crashfs_tools.common.guard import Guard
 from crashfs_tools.common.program import output_of_started
@@ -99,6 +100,27 @@ class LeftDescriptors(unittest.TestCase):
             self.assert_fails_and_leaves_none(
                 lambda: loops.open_loop_device('/nonexistent'), errno.ENOENT
             )
+
+    def test_an_attached_device_is_the_one_thing_open(self):
+        attempts = []
+
+        def open_with_image(path, image_fd):
+            attempts.append((path, os.fstat(image_fd).st_rdev))
+            return os.open(os.devnull, os.O_RDONLY) if len(attempts) == 3 else None
+
+        with mock.patch.object(loops, 'LOOP_CONTROL', os.devnull), mock.patch.object(
+            loops.fcntl, 'ioctl', return_value=7
+        ), mock.patch.object(loops, 'open_with_image', open_with_image):
+            device, path = loops.open_loop_device(os.devnull)
+            os.close(device)
+            self.assertEqual(open_descriptors(), self.descriptors)
+            self.assertEqual(path, '/dev/loop7')
+            self.assertEqual(attempts, [(path, os.stat(os.devnull).st_rdev)] * 3)
+            with self.assertRaisesRegex(Refused, '^--disks: no loop device is free$'):
+                attempts *= 2
+                loops.open_loop_device(os.devnull)
+            self.assertEqual(len(attempts), 6 + loops.TRIES)
+        self.assertEqual(open_descriptors(), self.descriptors)
 
     def test_a_directory_that_can_not_be_changed_is_closed(self):
         not_permitted = OSError(errno.EPERM, os.strerror(errno.EPERM))
