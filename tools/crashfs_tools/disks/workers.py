@@ -1,5 +1,10 @@
 """Processes that do tasks. Each has a pipe of its own, and they share no lock: if one is killed,
-neither the others nor this process wait for it."""
+neither the others nor this process wait for it.
+
+Those of checker.running.workers must undo what they laid out before they end, and have all their
+states from the beginning. These may be killed at any time, as the system removes their mounts, and
+get a task whenever they are free, as some tasks take much longer than others.
+"""
 
 from __future__ import annotations
 

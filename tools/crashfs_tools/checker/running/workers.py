@@ -1,4 +1,5 @@
-"""Processes that lay states out and run COMMAND in them: as many as there are jobs."""
+"""Processes that lay states out and run COMMAND in them: as many as there are jobs. Those of
+disks.workers, which need to undo nothing, are simpler."""
 
 from __future__ import annotations
 
