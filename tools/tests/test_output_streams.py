@@ -85,13 +85,12 @@ class Lines(unittest.TestCase):
         self.assertEqual(descriptors.nonstandard_numbers, [21, 3])
 
     def test_values_of_say_fd_are_numbers_and_connections(self):
-        for values, wanted in (
-            ([], ((1,), False)),
-            (['socket'], ((), True)),
-            (['03', 'socket', '1'], ((3, 1), True)),
+        for words, wanted in (
+            ('', ((1,), False)),
+            ('--say-fd socket', ((), True)),
+            ('--say-fd 03 --say-fd socket --say-fd 1', ((3, 1), True)),
         ):
-            words = [word for value in values for word in ('--say-fd', value)]
-            options = read_options([*words, 'd', 'out.trace', '--', 'true'])
+            options = read_options([*words.split(), 'd', 'out.trace', '--', 'true'])
             self.assertEqual(options.acknowledging_descriptors, wanted)
 
     def test_a_file_at_a_descriptor_of_say_fd_stays_a_file(self):
