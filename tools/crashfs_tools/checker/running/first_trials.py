@@ -22,9 +22,9 @@ REOPENED = 'or does the store itself lose something when it is opened again, wit
 
 @dataclass
 class FirstTrials:
-    """Tries the tree at the session's end and the start tree. The results must be of the plan of
-    the trials. end_plan is the plan of a trace that has only the tree at the end, if the plan of
-    the trials lacks that tree, as that of a window."""
+    """Tries the tree at the session's end and the start tree. The trials must be of the session's
+    first window, and the results of their plan. end_plan is the plan of a trace that has only the
+    tree at the end, if the plan of the trials lacks that tree, as that of a window."""
 
     trials: Trials
     results: Results
@@ -40,8 +40,7 @@ class FirstTrials:
         else:
             state = self.end_plan.plan.listed[0]
             outcome = Trials(self.trials.workplace, self.end_plan).try_state(state)
-            if outcome.result == BAD:
-                raise self.refusal(outcome, END_TREE, f'says {state.says}', [])
+            self.refuse_if_bad(outcome, END_TREE, state, None)
         if self.try_prefix(start, START_TREE).has_no_end and outcome.has_no_end:
             first_line = f'{self.recovery_name} gives no answer, even {LOSSLESS}: {outcome.cause}'
             raise Refused('\n'.join([first_line, NO_END, *self.inspections(start.number)]))
@@ -51,9 +50,7 @@ class FirstTrials:
         fails there; next_numbers and other exceptions as in outcome_of()."""
         number = self.results.tried_numbers[state.trial]
         outcome = self.outcome_of(number, next_numbers)
-        if outcome.result == BAD:
-            state_text = f'state {number}, says {state.says}'
-            raise self.refusal(outcome, tree_name, state_text, self.inspections(number))
+        self.refuse_if_bad(outcome, tree_name, state, number)
         return outcome
 
     def outcome_of(self, number: int, next_numbers: Sequence[int]) -> Outcome:
@@ -82,17 +79,22 @@ class FirstTrials:
         """A line on how to inspect the state of a number; no line for a function."""
         return [f'inspect it with --state {number}'] if self.is_command else []
 
-    def refusal(
-        self, outcome: Outcome, tree_name: str, state_text: str, hints: List[str]
-    ) -> Refused:
-        """A new Refused for an outcome that is BAD: the first line of its text has the tree, the
-        state and the cause, then come those of hints_on_cause(), and `hints` last. It isn't raised
-        yet."""
-        first_line = (
-            f'{self.recovery_name} fails in {tree_name}, {LOSSLESS} ({state_text}): {outcome.cause}'
-        )
-        own_hints = self.hints_on_cause(outcome.cause, tree_name)
-        return Refused('\n'.join([first_line, *own_hints, *hints]))
+    def refuse_if_bad(
+        self, outcome: Outcome, tree_name: str, state: State, number: Optional[int]
+    ) -> None:
+        """Refused if the outcome of a state is BAD: the first line of the text has the tree, the
+        state and the cause; the hints on the cause follow. `number` is the state's for --state;
+        None if --state doesn't make it, as a state of end_plan. Errors as in hints_on_cause()."""
+        if outcome.result != BAD:
+            return
+        state_text = f'says {state.says}'
+        hints = self.hints_on_cause(outcome.cause, tree_name)
+        if number is not None:
+            state_text = f'state {number}, {state_text}'
+            hints += self.inspections(number)
+        name = self.recovery_name
+        first_line = f'{name} fails in {tree_name}, {LOSSLESS} ({state_text}): {outcome.cause}'
+        raise Refused('\n'.join([first_line, *hints]))
 
     def hints_on_cause(self, cause: str, tree_name: str) -> List[str]:
         """One or more lines that ask what may be wrong with COMMAND, or with the recovery function,
