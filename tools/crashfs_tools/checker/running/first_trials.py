@@ -32,7 +32,7 @@ class FirstTrials:
 
     def run(self) -> None:
         """Tries the two trees, first that at the end. Refused if COMMAND fails in one of them,
-        or ends in neither; other exceptions as in outcome_of(). The results get the outcomes of
+        or ends in neither; other exceptions as in try_prefix(). The results get the outcomes of
         states that are among those to try; the outcome of end_plan's state is dropped."""
         start, end = self.trials.plan.first_and_last_prefix
         if self.end_plan is None:
@@ -46,23 +46,17 @@ class FirstTrials:
             raise Refused('\n'.join([first_line, NO_END, *self.inspections(start.number)]))
 
     def try_prefix(self, state: State, tree_name: str, next_numbers: Sequence[int] = ()) -> Outcome:
-        """Tries the tree of a prefix, and returns the outcome. Refused, with tree_name, if COMMAND
-        fails there; next_numbers and other exceptions as in outcome_of()."""
+        """The outcome of the tree of a prefix: that of the results, or else that of a run, which
+        the results get if this shard must try the state. Refused, with tree_name, if it is BAD.
+        next_numbers and other exceptions as in Trials.try_state() and Trials.wanted_numbers()."""
         number = self.results.tried_numbers[state.trial]
-        outcome = self.outcome_of(number, next_numbers)
-        self.refuse_if_bad(outcome, tree_name, state, number)
-        return outcome
-
-    def outcome_of(self, number: int, next_numbers: Sequence[int]) -> Outcome:
-        """The outcome of the state of a number: that of the results, or else that of a run, which
-        the results get if this shard must try the state. next_numbers and exceptions as in
-        Trials.try_state(); other exceptions as in Trials.wanted_numbers()."""
         outcome = self.results.outcomes.get(number)
         if outcome is None:
-            state = self.trials.plan.state(number)
-            outcome = self.trials.try_state(state, next_numbers=next_numbers)
+            tried_state = self.trials.plan.state(number)
+            outcome = self.trials.try_state(tried_state, next_numbers=next_numbers)
         if number in self.trials.wanted_numbers(self.results):
             self.results.outcomes[number] = outcome
+        self.refuse_if_bad(outcome, tree_name, state, number)
         return outcome
 
     @property
