@@ -114,6 +114,13 @@ class Order(Listing):
         self.assertEqual(set(results.outcomes), set(results.own_numbers.values()))
         self.assertIsNone(results.chosen_numbers)
 
+    def test_all_are_tried_if_only_the_first_states_were_slow(self) -> None:
+        planned = self.planned(HEADER + ''.join(creat(f'/{number}') for number in range(14)))
+        results = Results(planned.plan)
+        self.assertTrue(SlowAtFirst(planned, 600.0).try_all(results))
+        self.assertIsNone(results.chosen_numbers)
+        self.assertEqual(set(results.outcomes), set(results.own_numbers.values()))
+
     def test_with_a_limit_families_come_first(self) -> None:
         planned = self.planned(MANY)
         trials = TriedNowhere(planned, 1e9)
@@ -153,6 +160,19 @@ class Order(Listing):
             self.assertFalse(trials.try_all(results))
             self.assertEqual(len(results.outcomes), MEASURED_STATES)
             self.assertIsNone(results.chosen_numbers)
+
+
+class SlowAtFirst(TriedNowhere):
+    """The states by which the pace is known take a second each, and the others a millisecond."""
+
+    def run_workers(self, layout: Any, wanted: Set[int], on_outcome: Any) -> None:
+        seconds = [0.0]
+        self.pace.clock, self.pace.begin_time = (lambda: seconds[0]), 0.0
+        for count, number in enumerate(sorted(wanted)):
+            seconds[0] += 0.001 if self.order else 1.0
+            if count == MEASURED_STATES - 1:
+                self.order.append(wanted)
+            on_outcome(number, GOOD_OUTCOME)
 
 
 class FailingLast(TriedNowhere):

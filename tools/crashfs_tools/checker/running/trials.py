@@ -294,7 +294,19 @@ class Trials:
             if not self.is_ended_by_failure:
                 results.choose(states_in_batches(results, has_all=False))
                 self.try_remaining(results, after_each, float('inf'))
+                self.try_others_if_fast(results, after_each, most_seconds)
         return self.wanted_numbers(results) <= set(results.outcomes)
+
+    def try_others_if_fast(
+        self, results: Results, after_each: Callable[[], None], most_seconds: float
+    ) -> None:
+        """Tries also the states that were not chosen, if all take at most most_seconds at the pace
+        of those that were: what made the first ones slow may have ended. Exceptions as in
+        try_remaining()."""
+        all_seconds = results.seconds_per_state * len(results.own_numbers)
+        if all_seconds <= most_seconds and not self.is_ended_by_failure:
+            results.chosen_numbers = None
+            self.try_remaining(results, after_each, float('inf'))
 
     def try_remaining(
         self, results: Results, after_each: Callable[[], None], most_seconds: float
