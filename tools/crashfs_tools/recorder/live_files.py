@@ -218,13 +218,13 @@ class LiveFiles:
         self, process: Process, call: Call, index: int = 0
     ) -> Optional[OutputStream]:
         """The output stream of the descriptor in the argument with this index; None for a file. If
-        the descriptor isn't followed, it is what OutputStreams.find_stream() finds or makes. If it
-        is standard output, what strace shows for the descriptor is added to the streams."""
+        the descriptor isn't followed, it is that of OutputStreams.find_or_make_stream(). If it is
+        standard output, what strace shows for the descriptor is added to the streams."""
         descriptor = call.descriptor(index)
         streams = self.recording.streams
         file = process.open_file(descriptor)
         if file is None:
-            return streams.find_stream(descriptor.number, descriptor.text)
+            return streams.find_or_make_stream(descriptor.number, descriptor.text)
         if file.stream is streams.inherited_streams[1]:
             streams.add_text_of_output(descriptor.text)
         return file.stream

@@ -162,7 +162,7 @@ class OutputStreams:
                 'a socket', is_acknowledged=True, say_each=self.say_each or default
             )
 
-    def find_stream(self, number: int, text: Optional[str]) -> Optional[OutputStream]:
+    def find_or_make_stream(self, number: int, text: Optional[str]) -> Optional[OutputStream]:
         """The stream of a descriptor, by its number and the text that strace shows for it, None if
         nothing. A stream that isn't known is made if is_named_nonstandard(); None for any other,
         and if strace shows nothing. Two descriptors of a device may be two streams."""

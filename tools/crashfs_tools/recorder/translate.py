@@ -128,13 +128,13 @@ class Translator:
         from .cut_calls import may_be_change, report_cut_change
 
         if may_be_change(call):
-            report_cut_change(self.files, self.find_process(call.thread, call.end), call)
+            report_cut_change(self.files, self.find_or_add_process(call.thread, call.end), call)
 
     def translate_returned_call(self, call: Call) -> None:
         """Translates a call that returned, with the stores that its copies show: those to other
         files before the call, and those to the file that the call itself changes after it. An mmap
         adds its file to those that get stores. A call without a handler changes nothing."""
-        process = self.find_process(call.thread, call.end)
+        process = self.find_or_add_process(call.thread, call.end)
         handler = HANDLERS.get(call.name) or SOCKET_HANDLERS.get(call.name)
         changed_file = self.file_changed_by(process, call) if self.call_copies else None
         copies = self.call_copies.get(id(call), [])
@@ -165,7 +165,7 @@ class Translator:
         for copy in copies:
             self.stores.add_copy(copy, is_chosen)
 
-    def find_process(self, number: int, line: int) -> Process:
+    def find_or_add_process(self, number: int, line: int) -> Process:
         """The process with this number, which makes a call at this line of the log. One that isn't
         known is added: COMMAND's first process, or what new_process() returns, as a child may make
         calls before its parent's fork has returned."""
@@ -188,7 +188,7 @@ class Translator:
             return Process(Descriptors(), PathContext(conditions.top, conditions.umask))
         newest = forks[-1]
         # What the parent itself was made by began before this fork.
-        return self.find_process(newest.thread, newest.begin - 1).forked_child(newest)
+        return self.find_or_add_process(newest.thread, newest.begin - 1).forked_child(newest)
 
     def renumber_thread(self, call: Call) -> None:
         """Gives the thread that called exec the number of its process, as the system does, and does

@@ -182,7 +182,7 @@ def duplicate_descriptor(
         return
     file = process.open_file(old)
     if file is None and streams.is_named_nonstandard(old.number):
-        file = OpenFile(None, stream=streams.find_stream(old.number, old.text))
+        file = OpenFile(None, stream=streams.find_or_make_stream(old.number, old.text))
         process.descriptors.files[old.number] = file
     if file is not None and file.stream is not None and streams.is_named_nonstandard(call.result):
         file.stream.is_acknowledged = True
