@@ -262,6 +262,9 @@ class Layout(unittest.TestCase):
             if path.startswith('share/') and not path.startswith('share/doc/')
         }
         self.assertEqual(shared, wanted)
+        self.assertEqual(list(self.items), sorted(self.items))
+        # The time in the header of gzip.
+        self.assertEqual(self.items['share/man/man1/crashfs.1.gz'].content[4:8], bytes(4))
 
 
 class Names(unittest.TestCase):
@@ -327,10 +330,12 @@ class Archives(InFolder):
             self.assertEqual((member.issym(), member.isreg()), (item.is_link, not item.is_link))
             self.assertEqual((member.linkname, member.mode), (item.target, item.mode))
         for member in members.values():
+            self.assertEqual((member.uid, member.gid, member.mtime), (0, 0, SECONDS))
+            self.assertEqual((member.uname, member.gname), ('root', 'root'))
+            is_folder = member.name not in names
             self.assertEqual(
-                (member.uid, member.gid, member.uname, member.mtime), (0, 0, 'root', SECONDS)
+                (member.isdir(), is_folder and member.mode != 0o755), (is_folder, False)
             )
-            self.assertTrue(member.isdir() or member.name in names)
         order = list(members)
         self.assertTrue(
             all(order.index(posixpath.dirname(name)) < order.index(name) for name in order[1:])

@@ -1,16 +1,22 @@
-"""What a release takes from git, the toolchain and the linker. The tests make these programs."""
+"""What a release takes from git, the toolchain and the linker. The tests make these programs. And
+which files it writes."""
 
 from __future__ import annotations
 
 import io
 import os
+import stat
 import subprocess
 import unittest
-from contextlib import redirect_stdout
+from contextlib import redirect_stderr, redirect_stdout
 from pathlib import Path
+from typing import Any, List, Optional, Tuple
 from unittest import mock
 
+from crashfs_tools.common.command import Refused
 from releasing import command, programs
+from releasing.archives import write_below, write_control_files
+from releasing.layout import Item
 from releasing.linking import KNOWN_WARNING, LinkFault, kit_folder, link_statically
 from releasing.statements import BUILT, GIVEN, NOT_RUN, Provenance
 
@@ -48,6 +54,10 @@ class Linking(WithPrograms):
         for printed, folder in ((f'{page}\nmore', 'kit'), ('/no/page', 'home'), ('', 'home')):
             self.program('rt', f'#!/bin/sh\ntest "$1" = doc && echo "{printed}"\nexit 1\n')
             self.assertEqual(kit_folder(), Path(self.path(folder)), printed)
+        os.makedirs(self.path('other/bin'))
+        os.rename(self.path('home/bin/rt'), self.path('other/bin/rt'))
+        os.symlink('../../other/bin/rt', self.path('home/bin/rt'))
+        self.assertEqual(kit_folder(), Path(os.path.realpath(self.path('other'))))
 
     def test_new_warnings_are_printed_and_a_failure_is_a_fault(self) -> None:
         self.program('rt', '#!/bin/sh\n')
@@ -61,7 +71,9 @@ class Linking(WithPrograms):
                     link_statically(Path('a.o'), Path('program'))
             self.assertEqual(printed.getvalue(), '' if status else 'ld: warning: a new one\n')
         words = self.read('words')
-        self.assertRegex(words, '-static -s .*-o program a.o .*/home/c/libos_c.a ')
+        self.assertRegex(
+            words, '-static -s -Wl,--build-id=none -o program a.o .*/home/c/libos_c.a '
+        )
 
     def test_the_linker_has_its_version(self) -> None:
         self.program('gcc', '#!/bin/sh\ntest "$1" = -dumpfullversion && echo 12.2.0\n')
@@ -142,12 +154,92 @@ class Origin(InFolder):
             write_package=lambda path, *_: path.write_text('package'),
         ):
             command.write_release(MADE, object_file, folder)
+            command.write_release(MADE, object_file, folder)
         lines = (folder / 'SHA256SUMS').read_text().splitlines()
         listed = [line.split()[1] for line in lines]
         self.assertEqual(len(listed), 4)
         self.assertEqual({path.name for path in folder.iterdir()}, {*listed, 'SHA256SUMS'})
         self.assertIn('crashfs-0.9-linux-x86_64.tar.gz', listed)
         self.assertIn('commit: c1\n', (folder / 'ATTESTATION').read_text())
+
+    def test_a_log_of_the_gate_may_have_any_bytes(self) -> None:
+        log = Path(self.path('log'))
+        log.write_bytes(b'ok \xff')
+        with mock.patch.multiple(
+            command,
+            commit_of_tree=lambda: 'c1',
+            kit_version=lambda: 'kit-1',
+            seconds_of_commit=lambda: 5,
+            linker_version=lambda: 'gcc 1',
+            counts_of_passed_gate=lambda text, *_: text,
+        ):
+            self.assertEqual(
+                command.read_provenance(log, BUILT).gate, 'ok \N{REPLACEMENT CHARACTER}'
+            )
+
+
+class Main(InFolder):
+    def main(self, *words: str, fault: Optional[Exception] = None) -> Tuple[int, List[Any], str]:
+        """The status of release, what it ran and called, and what it printed as an error. With a
+        fault the writing of the release raises it."""
+        calls: List[Any] = []
+
+        def write(*arguments: Any) -> None:
+            calls.append(arguments)
+            if fault is not None:
+                raise fault
+
+        with mock.patch.multiple(
+            command, read_provenance=lambda *arguments: arguments, write_release=write
+        ), mock.patch.object(command.subprocess, 'run') as run, redirect_stderr(
+            io.StringIO()
+        ) as errors:
+            run.side_effect = lambda words, **options: calls.append((words, options))
+            status = command.main(list(words))
+        return status, calls, errors.getvalue()
+
+    def test_the_program_is_built_unless_its_object_file_is_given(self) -> None:
+        build = ([programs.TOP / 'tools' / 'build'], {'check': True})
+        written = ((None, BUILT), command.OBJECT_FILE, programs.TOP / 'dist')
+        self.assertEqual(self.main(), (0, [build, written], ''))
+        written = ((Path('log'), GIVEN), Path('a.o'), Path('d'))
+        words = ('--gate', 'log', '--objects', 'a.o', '--into', 'd')
+        self.assertEqual(self.main(*words), (0, [written], ''))
+
+    def test_each_fault_is_a_line_and_status_1(self) -> None:
+        for fault in (
+            LinkFault('gcc: status 3'),
+            Refused('crates.txt: line 2 has no colon'),
+            ValueError('the gate failed'),
+            FileNotFoundError(2, 'No such file or directory', 'a.o'),
+            subprocess.CalledProcessError(1, 'dpkg-deb'),
+        ):
+            status, _, errors = self.main('--objects', 'a.o', fault=fault)
+            self.assertEqual((status, errors), (1, f'release: {fault}\n'))
+
+
+class Written(InFolder):
+    def test_items_have_their_modes_and_one_time(self) -> None:
+        items = {
+            'bin/crashfs': Item(b'program', is_program=True),
+            'bin/link': Item(target='../no/such'),
+            'share/README.md': Item(b'read'),
+        }
+        write_below(Path(self.folder), items, 1_000)
+        for name, item in items.items():
+            found = os.lstat(self.path(name))
+            modes = (stat.S_IMODE(found.st_mode), stat.S_ISLNK(found.st_mode), found.st_mtime)
+            self.assertEqual(modes, (item.mode, item.is_link, 1_000), name)
+        self.assertEqual(os.readlink(self.path('bin/link')), '../no/such')
+        self.assertEqual(self.read('share/README.md'), 'read')
+
+    def test_of_the_control_files_only_scripts_may_be_executed(self) -> None:
+        folder = Path(self.path('DEBIAN'))
+        write_control_files(folder, 'control text', 'checksums')
+        modes = {path.name: path.stat().st_mode & 0o777 for path in folder.iterdir()}
+        scripts = {'postinst': 0o755, 'prerm': 0o755}
+        self.assertEqual(modes, {'control': 0o644, 'md5sums': 0o644, **scripts})
+        self.assertEqual((folder / 'md5sums').read_text(), 'checksums')
 
 
 if __name__ == '__main__':
