@@ -16,7 +16,7 @@ from crashfs_tools.common.command import Refused
 from inventory.pages import BEGIN, END
 from linting import crates_page, python, words
 from linting.command import LINTERS, Faults, run_linters
-from linting.crates_page import architecture_faults, crate_page_faults
+from linting.crates_page import architecture_faults, crate_page_faults, occurrence_faults
 from linting.layout import CODE_COLUMNS, long_function_faults, long_lines
 from linting.python import (
     install_packages,
@@ -120,6 +120,8 @@ class Layout(unittest.TestCase):
         self.assertEqual(
             list(long_function_faults('def a():\n' + '    p.add_argument(1)\n' * 60)), []
         )
+        option_rows = '    p.add_argument(\n        1\n    )\n' * 20
+        self.assertEqual(list(long_function_faults('def a():\n' + option_rows)), [])
 
 
 class Python(unittest.TestCase):
@@ -192,6 +194,17 @@ class Python(unittest.TestCase):
             ), mock.patch.object(python.subprocess, 'run') as started:
                 install_packages(names)
             self.assertEqual(started.call_count, calls, (user, names))
+            for call in started.call_args_list:
+                words = ['apt-get', 'install', '--yes', '--no-install-recommends', *names]
+                self.assertEqual(call.args, (words,))
+                self.assertEqual(call.kwargs['env']['DEBIAN_FRONTEND'], 'noninteractive')
+
+    def test_without_apt_get_nothing_is_installed(self) -> None:
+        with mock.patch.object(python.os, 'geteuid', return_value=0), mock.patch.object(
+            python.shutil, 'which', return_value=None
+        ), mock.patch.object(python.subprocess, 'run') as started:
+            install_packages(['mypy'])
+        started.assert_not_called()
 
 
 class CratesPage(unittest.TestCase):
@@ -209,6 +222,17 @@ class CratesPage(unittest.TestCase):
             ('| cs_b | b |', '| cs_b_tests | b |', 'cs_b_tests is 1 times in the table, not 0'),
             ('| 2 above', '| 3 above', 'cs_b is in layer 3 of the picture, 2 of the table'),
             ('| cs_a | a | all |', '| cs_a | a | |', 'cs_a: its row must say what it is'),
+            ('| cs_a | a | all |', '| cs_a | a |', 'cs_a: its row must say what it is'),
+            (
+                '| cs_a | a | all |',
+                '| cs_a | a | all | more |',
+                'cs_a: its row must say what it is',
+            ),
+            (
+                '| **2 above** |',
+                '| **above** |',
+                'cs_b is in layer 2 of the picture, 0 of the table',
+            ),
             ('| 1 below', '| 3 below', 'cs_b uses cs_a of a higher layer'),
         ):
             self.assertIn(fault, self.faults(old, new), new)
@@ -233,6 +257,11 @@ class CratesPage(unittest.TestCase):
         for heading in ('The layers', 'The crates'):
             with self.assertRaisesRegex(Refused, f'{crates_page.PAGE} has no section "{heading}"'):
                 self.faults(f'## {heading}', '## Another')
+
+    def test_faults_are_in_the_order_of_the_names(self) -> None:
+        names = ['e', 'd', 'c', 'b', 'a']
+        faults = [fault[0] for fault in occurrence_faults('the table', names, [])]
+        self.assertEqual(faults, sorted(names))
 
     def test_a_crate_that_the_picture_lacks_is_one_fault(self) -> None:
         fault = 'cs_b is 0 times in the picture, not 1 times'
