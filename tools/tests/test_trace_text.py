@@ -4,6 +4,7 @@ from __future__ import annotations
 
 import unittest
 
+from crashfs_tools.common.limits import FILE_BYTES
 from crashfs_tools.common.trace import Creat, Say
 from crashfs_tools.common.trace_fields import (
     TraceError,
@@ -15,6 +16,7 @@ from crashfs_tools.common.trace_fields import (
 from crashfs_tools.common.trace_read import read_trace_with_numbers
 from crashfs_tools.common.trace_lines import (
     TraceLine,
+    details_text,
     is_large_trace,
     parse_trace_text,
     with_syncs,
@@ -46,6 +48,26 @@ class Lines(unittest.TestCase):
             {4: 'creat /a', 5: f'say "{40 * "x"}.."'},
         )
         self.assertEqual(read.acknowledged, ['x' * 50])
+
+    def test_the_details_of_each_operation(self) -> None:
+        rights = {'owner': 'ann', 'group': 'g', 'mode': '600'}
+        for fields, details in (
+            ({'op': 'say', 'text': 'x' * 40}, 'x' * 40),
+            ({'op': 'say', 'text': 'x' * 41}, 'x' * 40 + '..'),
+            ({'op': 'write', 'offset': 1_000, 'text': '\N{EURO SIGN}'}, '3 bytes at 1,000'),
+            ({'op': 'write', 'offset': 0, 'bytes': '6162'}, '2 bytes at 0'),
+            ({'op': 'symlink', 'target': '/t', **rights}, 'target /t'),
+            ({'op': 'truncate', 'length': 2_000}, '2,000 bytes'),
+            ({'op': 'fsync_range', 'offset': 0, 'length': FILE_BYTES}, 'all bytes'),
+            (
+                {'op': 'fsync_range', 'offset': 1, 'length': FILE_BYTES},
+                f'{FILE_BYTES:,} bytes at 1',
+            ),
+            ({'op': 'chmod', 'mode': '600'}, '600'),
+            ({'op': 'chown', 'owner': 'ann', 'group': 'g'}, 'ann g'),
+            ({'op': 'creat', **rights}, ''),
+        ):
+            self.assertEqual(details_text(fields), details)
 
     def test_the_owner_of_the_root_is_that_of_the_header(self) -> None:
         self.assertEqual(root_owner(TEXT.split('\n')), 'ann')
@@ -141,6 +163,7 @@ class Much(unittest.TestCase):
             ([HEADER, grown], False),
             ([HEADER, grown, grown], True),
             ([HEADER, '{"op":"say","text":"' + 'x' * 1000 + '"}'], True),
+            ([HEADER, '{"op":"say","text":"' + '\N{EURO SIGN}' * 300 + '"}'], True),
         ):
             self.assertEqual(is_large_trace(lines, 2, 1_000), expected, lines)
 
