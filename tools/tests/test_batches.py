@@ -132,14 +132,15 @@ class Order(Listing):
 
     def test_by_fail_fast_a_failure_that_the_cache_has_ends_it(self) -> None:
         planned = self.planned(MANY)
-        trials = TriedNowhere(planned, 1e9)
-        trials.options.fail_fast = True
-        cache: Any = SimpleNamespace(look_up=lambda key: Outcome(BAD, 'lost'))
-        trials.workplace.cache = cache
-        vars(trials)['state_keys'] = SimpleNamespace(key=lambda number, attempt: number)
-        results = Results(planned.plan)
-        self.assertFalse(trials.try_all(results))
-        self.assertEqual((len(results.outcomes), trials.order), (1, []))
+        for result in (BAD, NO_ANSWER):
+            trials, outcome = TriedNowhere(planned, 1e9), Outcome(result, 'lost')
+            trials.options.fail_fast = True
+            cache: Any = SimpleNamespace(look_up=lambda key, found=outcome: found)
+            trials.workplace.cache = cache
+            vars(trials)['state_keys'] = SimpleNamespace(key=lambda number, attempt: number)
+            results = Results(planned.plan)
+            self.assertEqual(trials.try_all(results), result == NO_ANSWER)
+            self.assertEqual((len(results.outcomes) == 1, trials.order), (result == BAD, []))
 
     def test_by_fail_fast_a_state_without_an_answer_ends_nothing(self) -> None:
         planned = self.planned(MANY)

@@ -16,6 +16,7 @@ from crashfs_tools.checker.findings.accepted_failures import (
     AcceptedFailure,
     AcceptedFailures,
 )
+from crashfs_tools.checker.findings.advice import AllSyncs, FailingCounts
 from crashfs_tools.checker.report import page, summary, text
 from crashfs_tools.checker.report.counts import AcceptedStates, StateCounts
 from crashfs_tools.checker.report.summary import Summary
@@ -55,6 +56,19 @@ class Entries(unittest.TestCase):
     def test_a_line_that_the_report_lacks_has_its_number(self):
         self.assertEqual(self.text.line_text(2), 'line 2 (creat /f0)')
         self.assertEqual(self.text.line_text(99), 'line 99 ()')
+
+    def test_all_advised_syncs_need_those_of_each_window_with_failures(self):
+        syncs = AllSyncs(frozenset({(2, '/')}), FailingCounts(5, 1))
+        (window,) = self.report.windows
+        whole = window._replace(groups=[], all_syncs=None)
+        for tried, wanted in (
+            ([syncs, syncs], syncs._replace(failing_counts=FailingCounts(10, 2))),
+            ([syncs, None], None),
+            ([None], None),
+            ([syncs], syncs),
+        ):
+            self.report.windows = [whole, *(window._replace(all_syncs=one) for one in tried)]
+            self.assertEqual(self.report.all_advised_syncs(), wanted)
 
     def test_only_a_failure_is_accepted_and_until_its_last_day(self):
         entry = self.group.as_accepted._replace(why='we know', until=date(2026, 11, 29))

@@ -53,10 +53,10 @@ class OneState(Layout):
 class Workers(InRuns):
     """Workers of this process, which try the same directory for each state."""
 
-    def outcomes_of(self, script, wanted, **more):
+    def outcomes_of(self, script, wanted, *, fail_fast=False, **more):
         outcomes = {}
-        checker = self.checker(script, **more)
-        workers = StateWorkers(checker, OneState(self.path('state')), 1, outcomes.__setitem__)
+        checker, layout = self.checker(script, **more), OneState(self.path('state'))
+        workers = StateWorkers(checker, layout, 1, outcomes.__setitem__, fail_fast=fail_fast)
         try:
             workers.run(dict.fromkeys(wanted, 0))
         finally:
@@ -105,6 +105,15 @@ class Workers(InRuns):
             outcomes = self.outcomes_of(flood, range(2))
         # Of the output so many bytes are kept; with them the line is longer than a piece.
         self.assertEqual([len(one.output) for one in outcomes.values()], [PIECE_BYTES] * 2)
+
+    def test_with_fail_fast_the_first_failure_is_the_last_state_and_no_answer_is_none(self):
+        script = 'case $CRASHFS_STATE in 0) yes;; 2) exit 1;; esac'
+        for fail_fast, results in (
+            (True, [NO_ANSWER, GOOD, BAD]),
+            (False, [NO_ANSWER, GOOD, BAD, GOOD]),
+        ):
+            outcomes = self.outcomes_of(script, range(4), fail_fast=fail_fast)
+            self.assertEqual([one.result for one in outcomes.values()], results)
 
     def test_a_pace_that_is_only_known_at_the_end_is_no_fault(self):
         on_outcome = mock.Mock(side_effect=TooSlow)
