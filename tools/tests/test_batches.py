@@ -121,6 +121,13 @@ class Order(Listing):
         self.assertIsNone(results.chosen_numbers)
         self.assertEqual(set(results.outcomes), set(results.own_numbers.values()))
 
+    def test_the_pace_of_an_earlier_check_stays_if_nothing_is_left(self) -> None:
+        planned = self.planned(MANY)
+        results = Results(planned.plan, seconds_per_state=3.0)
+        results.outcomes = dict.fromkeys(results.own_numbers.values(), GOOD_OUTCOME)
+        self.assertTrue(TriedNowhere(planned, 1e9).try_all(results))
+        self.assertEqual(results.seconds_per_state, 3.0)
+
     def test_with_a_limit_families_come_first(self) -> None:
         planned = self.planned(MANY)
         trials = TriedNowhere(planned, 1e9)

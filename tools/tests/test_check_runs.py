@@ -318,8 +318,7 @@ class Progress(unittest.TestCase):
         stream, now = io.StringIO(), [0.0]
         shown = progress.Progress(stream, lambda: now[0])
         pace = Pace(100, float('inf'), lambda: now[0])
-        for step, result in enumerate([GOOD, BAD, NO_ANSWER, *[GOOD] * 62], 1):
-            now[0] = step
+        for now[0], result in enumerate([GOOD, BAD, NO_ANSWER, *[GOOD] * 62], 1):
             pace.count_outcome(Outcome(result))
             shown.show_pace('', pace)
         shown.end_part(pace)
@@ -350,7 +349,7 @@ class Progress(unittest.TestCase):
         with mock.patch.object(stream, 'isatty', lambda: True):
             shown = progress.Progress(stream, lambda: now[0])
         for part in range(4):
-            pace = Pace(1, float('inf'), lambda: now[0])
+            pace = Pace(1, 0.0, lambda: now[0])
             now[0] += progress.TERMINAL_SECONDS * 0.6
             pace.count_outcome(Outcome(GOOD))
             shown.show_pace(f'part {part}: ', pace)
@@ -363,6 +362,7 @@ class Progress(unittest.TestCase):
         stream, now = io.StringIO(), [0.0]
         with mock.patch.object(stream, 'isatty', lambda: True):
             shown = progress.Progress(stream, lambda: now[0])
+        shown.end_part(Pace(0, 0.0))
         for done, now[0] in ((1, 1.0), (2, 1.01), (3, 1.02)):
             shown.show_moments(done, 3)
         self.assertEqual(stream.getvalue(), '\rdisks: 1 of 3 moments\033[K\r\033[K')

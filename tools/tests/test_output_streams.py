@@ -5,7 +5,8 @@ from typing import List, Sequence
 
 from crashfs_tools.common.trace import Say, Start
 from crashfs_tools.recorder.options import read_options
-from crashfs_tools.recorder.output_streams import AcknowledgingDescriptors
+from crashfs_tools.recorder.output_streams import AcknowledgingDescriptors, OutputStreams, SayEach
+from crashfs_tools.recorder.strace_run import strace_command
 from crashfs_tools.recorder.recording import Recording
 
 from .support import recording_of, short
@@ -92,6 +93,29 @@ class Lines(unittest.TestCase):
         ):
             options = read_options([*words.split(), 'd', 'out.trace', '--', 'true'])
             self.assertEqual(options.acknowledging_descriptors, wanted)
+
+    def test_say_each_counts_for_descriptors_and_for_connections(self):
+        connections = AcknowledgingDescriptors((), has_connections=True)
+        for say_each, of_descriptor, of_connection in (
+            (None, SayEach.LINE, SayEach.WRITE),
+            (SayEach.LINE, SayEach.LINE, SayEach.LINE),
+            (SayEach.WRITE, SayEach.WRITE, SayEach.WRITE),
+        ):
+            streams = OutputStreams(connections, say_each)
+            self.assertIs(streams.new_stream(1).say_each, of_descriptor)
+            streams.add_connection('socket:[8]')
+            self.assertIs(streams.streams_by_text['socket:[8]'].say_each, of_connection)
+
+    def test_calls_on_sockets_are_traced_if_one_may_acknowledge(self):
+        for words, are_traced in (
+            ('', False),
+            ('--say-fd 2', False),
+            ('--say-fd 3', True),
+            ('--say-fd socket', True),
+        ):
+            options = read_options([*words.split(), 'd', 'out.trace', '--', 'true'])
+            command = strace_command('strace', 'log', options)
+            self.assertEqual('?sendto' in ','.join(command).split(','), are_traced, words)
 
     def test_a_file_at_a_descriptor_of_say_fd_stays_a_file(self):
         log = [

@@ -19,6 +19,7 @@ from crashfs_tools.checker.findings.accepted_failures import (
 from crashfs_tools.checker.findings.advice import AllSyncs, FailingCounts
 from crashfs_tools.checker.report import page, summary, text
 from crashfs_tools.checker.report.counts import AcceptedStates, StateCounts
+from crashfs_tools.checker.report.junit import junit_pieces
 from crashfs_tools.checker.report.summary import Summary
 from crashfs_tools.checker.report.text import ReportText
 from crashfs_tools.checker.running.results import Head
@@ -69,6 +70,11 @@ class Entries(unittest.TestCase):
         ):
             self.report.windows = [whole, *(window._replace(all_syncs=one) for one in tried)]
             self.assertEqual(self.report.all_advised_syncs(), wanted)
+
+    def test_no_case_of_junit_takes_less_than_no_time(self):
+        self.report.windows[0].groups[0].rerun_seconds = 1e6
+        file = ''.join(junit_pieces(self.report))
+        self.assertEqual(re.findall('<testcase .* time="(.*)"', file), ['1000000.000', '0.000'])
 
     def test_only_a_failure_is_accepted_and_until_its_last_day(self):
         entry = self.group.as_accepted._replace(why='we know', until=date(2026, 11, 29))
