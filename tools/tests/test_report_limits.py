@@ -63,10 +63,10 @@ class Entries(unittest.TestCase):
         (window,) = self.report.windows
         whole = window._replace(groups=[], all_syncs=None)
         for tried, wanted in (
-            ([syncs, syncs], syncs._replace(failing_counts=FailingCounts(10, 2))),
-            ([syncs, None], None),
-            ([None], None),
-            ([syncs], syncs),
+            ((syncs, syncs), syncs._replace(failing_counts=FailingCounts(10, 2))),
+            ((syncs, None), None),
+            ((None,), None),
+            ((syncs,), syncs),
         ):
             self.report.windows = [whole, *(window._replace(all_syncs=one) for one in tried)]
             self.assertEqual(self.report.all_advised_syncs(), wanted)
