@@ -8,6 +8,7 @@ from types import SimpleNamespace
 from typing import Any, Dict, List, Set, Tuple
 from unittest import mock
 
+from crashfs_tools.checker.states import planning
 from crashfs_tools.checker.states.plan import Offsets, PlannedTrace, Trial
 from crashfs_tools.checker.states.planning import Planner
 from crashfs_tools.common import limits
@@ -112,6 +113,40 @@ class AllListed(Listing):
             self.assertEqual({state.family for state in prefixes}, {'prefix'})
             (part,) = found.parts
             self.assertEqual((part.first, part.end), (found.plan.first, picks[-1].number + 1))
+
+    def test_copies_of_a_small_plan_are_planned_by_the_second_reading(self) -> None:
+        planner, plan = self.planner(Reader()), self.planned(HEADER + creat('/a')).plan
+        copies = planner.planner_of_copies(plan)
+        self.assertTrue(copies.program.is_unproved)
+        self.assertIsInstance(copies.program, Crashfs)
+        with mock.patch.object(planning, 'is_small', return_value=False):
+            self.assertIs(planner.planner_of_copies(plan), planner)
+
+    def test_picks_are_divided_by_the_room_next_to_prefixes_and_holes(self) -> None:
+        for most_states, hole_count, has_only_prefixes, sizes in (
+            (10, 2, False, [4, 6, 6, 4]),
+            (10, 2, True, [6, 6, 6, 2]),
+            (10, 8, False, [0, 6, 6, 6, 2]),
+            (30, 2, False, [20]),
+        ):
+            planner = self.planner(Reader())
+            planner.options.prefixes = has_only_prefixes
+            needs: Any = SimpleNamespace(masks=[0b1, 0b10, 0b100], hole_count=hole_count)
+            with mock.patch.object(limits, 'STATES', most_states):
+                parts = planner.divide_picks(list(range(20)), needs)
+            self.assertEqual([len(part) for part in parts], sizes)
+            self.assertEqual(sum(parts, []), list(range(20)))
+
+    def test_sets_that_the_plan_has_need_no_pick_unless_it_lacks_holes_or_is_served(self) -> None:
+        needs: Any = SimpleNamespace(is_prefix_or_hole=lambda members: members < 4)
+        planner = self.planner(Reader())
+        for has_only_prefixes, address, wanted in (
+            (False, None, [5, 7]),
+            (True, None, [5, 1, 7, 3]),
+            (False, 'host:1', [5, 1, 7, 3]),
+        ):
+            planner.options.prefixes, planner.options.serve = has_only_prefixes, address
+            self.assertEqual(planner.without_listed(needs, [5, 1, 7, 3]), wanted)
 
     def test_a_plan_in_parts_has_the_same_states_as_in_one(self) -> None:
         for name, text in trace_texts():

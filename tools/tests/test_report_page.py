@@ -4,10 +4,13 @@ import json
 import re
 import time
 import unittest
+from copy import copy
 from dataclasses import replace
 from types import SimpleNamespace
+from unittest import mock
 from xml.dom import minidom
 
+from crashfs_tools.checker.findings.accepted_failures import Acceptance, AcceptedFailure
 from crashfs_tools.checker.findings.groups import Difference
 from crashfs_tools.checker.findings.second_crashes import Recovery
 from crashfs_tools.checker.findings.sightings import (
@@ -80,6 +83,17 @@ class Pages(unittest.TestCase):
         self.assertIn('first\n&lt;last&gt;', section)
         self.assertEqual(section.count('class="creat pair"'), 1)
         self.assertEqual(text.count('<section>'), len(odd_report().groups()))
+
+    def test_accepted_entries_come_last(self):
+        report = odd_report()
+        (group,) = report.groups()
+        accepted_group = copy(group)
+        entry = AcceptedFailure('lost', '', '', 'issue 7')
+        accepted_group.acceptance = Acceptance(entry, has_expired=False)
+        with mock.patch.object(report, 'groups', lambda: [accepted_group, group]):
+            text = ''.join(page_pieces(report))
+        classes = re.findall('<section( class="accepted")?>', text)
+        self.assertEqual(classes, ['', ' class="accepted"'])
 
     def test_each_state_is_drawn_with_its_result(self):
         findings = odd_findings()
