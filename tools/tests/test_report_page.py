@@ -29,7 +29,7 @@ from crashfs_tools.checker.findings.tree_diff import (
 )
 from crashfs_tools.checker.report.drawing import drawing_of
 from crashfs_tools.checker.report.junit import junit_pieces
-from crashfs_tools.checker.report.page import page_pieces
+from crashfs_tools.checker.report.page import line_row, page_pieces
 from crashfs_tools.checker.report.json_report import json_pieces
 from crashfs_tools.checker.report.report import CheckReport
 from crashfs_tools.checker.report.tap import tap_pieces
@@ -83,6 +83,12 @@ class Pages(unittest.TestCase):
         self.assertIn('first\n&lt;last&gt;', section)
         self.assertEqual(section.count('class="creat pair"'), 1)
         self.assertEqual(text.count('<section>'), len(odd_report().groups()))
+
+    def test_all_syncs_have_the_class_of_a_sync(self):
+        for word, css_class in (('fsync', 'sync'), ('fsync_range', 'sync'), ('write', 'write')):
+            row = line_row(TraceLine(7, word, '/f', note='<n>'), 'pair')
+            self.assertIn(f'<tr class="{css_class} pair"><td>7</td><td>{word} /f</td>', row)
+            self.assertIn('<td>&lt;n&gt;</td>', row)
 
     def test_accepted_entries_come_last(self):
         report = odd_report()
