@@ -4,7 +4,14 @@ the tables of changes."""
 import unittest
 from typing import Any, Collection, Dict, Set
 
-from crashfs_tools.recorder import call_order, log_filter, mapped_files, output_streams, strace_log
+from crashfs_tools.recorder import (
+    call_order,
+    log_filter,
+    mapped_files,
+    output_streams,
+    strace_log,
+    strace_run,
+)
 from crashfs_tools.recorder.calls import data, modes, names, opens, renames
 from crashfs_tools.recorder.translate import HANDLERS, SOCKET_HANDLERS
 
@@ -19,6 +26,7 @@ TABLES: Dict[str, Collection[str]] = {
     'DESCRIPTOR_MAKERS': log_filter.DESCRIPTOR_MAKERS,
     'WRITES': log_filter.WRITES,
     'STOPPING_CALLS': mapped_files.STOPPING_CALLS,
+    'RESTARTED_CALLS': mapped_files.RESTARTED_CALLS,
     'ACCEPTS': output_streams.ACCEPTS,
     'SENDS': output_streams.SENDS,
     'FORKS': strace_log.FORKS,
@@ -41,6 +49,20 @@ class Tables(unittest.TestCase):
         for name, table in TABLES.items():
             with self.subTest(name):
                 self.assertLessEqual(set(table), traced)
+
+    def test_each_call_that_restarts_is_stopped_at_every_second_start_and_others_at_each(self):
+        always, alternately = strace_run.stop_options()[1::2]
+        for option, calls in (
+            (always, set(mapped_files.STOPPING_CALLS) - set(mapped_files.RESTARTED_CALLS)),
+            (alternately, set(mapped_files.RESTARTED_CALLS)),
+        ):
+            names = option.partition('=')[2].partition(':')[0].replace('?', '').split(',')
+            self.assertEqual(sorted(names), sorted(calls))
+        self.assertLess(set(mapped_files.RESTARTED_CALLS), set(mapped_files.STOPPING_CALLS))
+        self.assertEqual(
+            [option.partition(':')[2] for option in (always, alternately)],
+            ['signal=SIGSTOP', 'signal=SIGSTOP:when=1+2'],
+        )
 
     def test_calls_that_write_are_changes_of_data(self) -> None:
         by_path = calls_of(data.HANDLERS, data.on_truncate)

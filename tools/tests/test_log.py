@@ -286,6 +286,19 @@ class Lines(unittest.TestCase):
         _, write = read_log(map(as_strace, lines)).calls
         self.assertEqual((write.name, write.is_cut, write.begin, write.end), ('write', True, 1, 4))
 
+    def test_a_call_that_a_signal_interrupted_did_nothing_and_is_not_cut(self):
+        for tail, is_interrupted in (
+            ('ERESTARTSYS (To be restarted if SA_RESTART is set)', True),
+            ('ERESTARTNOINTR (To be restarted)', True),
+            ('', False),
+        ):
+            with self.subTest(tail):
+                write = read_log([as_strace(f'7 write(4</d/f>, "a", 1) = ? {tail}'.rstrip())])
+                call = write.calls[0]
+                self.assertEqual(call.result, -1)
+                self.assertEqual(call.is_interrupted, is_interrupted)
+                self.assertEqual(call.is_cut, not is_interrupted)
+
     def test_a_line_that_only_begins_a_call_is_reported(self):
         self.assertEqual(read_log(['7 close(5) = 0\n', '7 close(4']).cut_line, 2)
 

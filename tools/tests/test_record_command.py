@@ -9,30 +9,6 @@ import unittest
 
 from .support import FAKE, PATIENCE, TOOLS, InFolder, needs_strace, needs_version_3
 
-STORE_MAPPED = """
-import mmap, os
-f = os.open('map', os.O_RDWR | os.O_CREAT, 0o600)
-os.ftruncate(f, 8192)
-m = mmap.mmap(f, 8192)
-m[5:7] = b'hi'
-m[4096:4097] = b'x'
-m.flush()
-m[0:1] = b'y'
-os.write(1, b'told\\n')
-"""
-
-# What is written by vmsplice comes after what is stored before it.
-STORE_AND_SPLICE = """
-import ctypes, mmap, os
-f = os.open('map', os.O_RDWR | os.O_CREAT, 0o600)
-os.ftruncate(f, 4096)
-m = mmap.mmap(f, 4096)
-m[0:1] = b'y'
-class Vector(ctypes.Structure):
-    _fields_ = [('base', ctypes.c_char_p), ('length', ctypes.c_size_t)]
-ctypes.CDLL(None).vmsplice(1, ctypes.byref(Vector(b'told\\n', 5)), 1, 0)
-"""
-
 
 class InRecordings(InFolder):
     def setUp(self):
@@ -301,40 +277,6 @@ class Records(InRecordings):
         self.assertEqual(ran.returncode, 1)
         self.assertRegex(ran.stderr, 'log changes nothing below .*/copy: --log-dir is the path')
         self.assertFalse(os.path.exists(self.path('second.trace')))
-
-    @needs_version_3
-    def test_stores_through_a_mapping_are_reported_with_mapped(self):
-        script = self.write('mapped.py', STORE_MAPPED)
-        ran = self.record(f'{sys.executable} {script}', '--mapped')
-        self.assertEqual(ran.returncode, 0, ran.stderr)
-        self.assertEqual(
-            [line.partition(',')[2] for line in self.operations()[1:]],
-            [
-                '"path":"/map","length":8192}',
-                '"path":"/map","offset":5,"text":"hi"}',
-                '"path":"/map","offset":4096,"text":"x"}',
-                '"path":"/map","offset":0,"length":8192}',
-                '"path":"/map","offset":0,"text":"y"}',
-                '"text":"told"}',
-            ],
-        )
-        self.assert_nothing_left()
-
-    @needs_version_3
-    def test_with_mapped_each_call_that_writes_comes_after_the_stores_before_it(self):
-        script = self.write('mapped.py', STORE_AND_SPLICE)
-        ran = self.record(f'{sys.executable} {script}', '--mapped')
-        self.assertEqual(ran.returncode, 0, ran.stderr)
-        self.assertEqual(
-            [line.partition(',')[2] for line in self.operations()[2:]],
-            ['"path":"/map","offset":0,"text":"y"}', '"text":"told"}'],
-        )
-
-    def test_without_mapped_a_mapping_is_a_trouble(self):
-        script = self.write('mapped.py', STORE_MAPPED)
-        ran = self.record(f'{sys.executable} {script}')
-        self.assertEqual(ran.returncode, 3)
-        self.assertIn('/map: mapped for writing', ran.stderr)
 
     def test_an_argument_that_is_not_in_the_directory_is_named(self):
         self.write('save.py', 'raise SystemExit(1)')

@@ -1,7 +1,7 @@
 """What copies of mapped files show, and where it is in the trace."""
 
 import unittest
-from typing import List, Sequence
+from typing import List, Optional, Sequence
 from unittest import mock
 
 from crashfs_tools.common.sparse import PAGE_BYTES
@@ -9,7 +9,12 @@ from crashfs_tools.common.trace import Start
 from crashfs_tools.recorder.arguments import NO_DESCRIPTOR
 from crashfs_tools.recorder.live_tree import Node
 from crashfs_tools.recorder.mapped_files import NO_THREAD, FileCopies, FileCopy
-from crashfs_tools.recorder.mapped_stores import add_stores, copies_by_call, differing_range
+from crashfs_tools.recorder.mapped_stores import (
+    add_stores,
+    copies_by_call,
+    differing_range,
+    unsure_copies,
+)
 from crashfs_tools.recorder.recording import Recording
 from crashfs_tools.recorder.strace_log import Call
 
@@ -49,11 +54,11 @@ def after_copies(copies: List[FileCopy], log: Sequence[str] = tuple(LOG)) -> Rec
 class Differences(unittest.TestCase):
     """The stores that a copy of a mapped file shows."""
 
-    def add(self, node: Node, data: bytes, *, has_one_writer: bool = True) -> mock.Mock:
+    def add(self, node: Node, data: bytes, doubt: Optional[str] = None) -> mock.Mock:
         node.names.add('/f')
         files = mock.Mock()
         files.write_bytes.side_effect = lambda node, offset, data: node.write(offset, data)
-        add_stores(files, node, data, has_one_writer=has_one_writer)
+        add_stores(files, node, data, doubt)
         return files
 
     def test_the_smallest_range_has_all_that_differs(self) -> None:
@@ -71,9 +76,9 @@ class Differences(unittest.TestCase):
         new = bytearray(3 * PAGE_BYTES)
         new[7:9] = b'ab'
         new[2 * PAGE_BYTES + 1] = 1
-        for has_one_writer, reports in ((True, 0), (False, 2)):
+        for doubt, reports in ((None, 0), ('not sure', 2)):
             node = Node.file(0o644, bytes(3 * PAGE_BYTES))
-            files = self.add(node, bytes(new), has_one_writer=has_one_writer)
+            files = self.add(node, bytes(new), doubt)
             self.assertEqual(
                 files.write_bytes.call_args_list,
                 [mock.call(node, 7, b'ab'), mock.call(node, 2 * PAGE_BYTES + 1, b'\1')],
@@ -96,12 +101,16 @@ class Differences(unittest.TestCase):
         node = Node.file(0o644, bytes(2 * PAGE_BYTES))
         files = mock.Mock()
         files.write_bytes.side_effect = lambda node, offset, data: node.drop_bytes()
-        add_stores(files, node, b'1' * 2 * PAGE_BYTES, has_one_writer=True)
+        add_stores(files, node, b'1' * 2 * PAGE_BYTES)
         self.assertEqual(files.write_bytes.call_count, 1)
 
 
-def call(thread: int, line: int, name: str) -> Call:
-    return Call(thread, name, [], 0, NO_DESCRIPTOR, line, line)
+def call(thread: int, line: int, name: str, result: int = 0) -> Call:
+    return Call(thread, name, [], result, NO_DESCRIPTOR, line, line)
+
+
+def interrupted(thread: int, line: int, name: str) -> Call:
+    return Call(thread, name, [], -1, NO_DESCRIPTOR, line, line, is_interrupted=True)
 
 
 class CallsOfCopies(unittest.TestCase):
@@ -139,6 +148,34 @@ class CallsOfCopies(unittest.TestCase):
         calls = [call(1, 1, 'write')]
         copies = [FileCopy(1, 1, True, {}), FileCopy(2, NO_THREAD, True, {0: b'a'})]
         self.assertEqual(copies_by_call(calls, calls, FileCopies(copies)), {})
+
+
+class UnsureCopies(unittest.TestCase):
+    def test_a_call_at_which_no_thread_was_stopped_makes_a_copy_unsure(self) -> None:
+        send, write = call(1, 1, 'sendfile', 5), call(1, 2, 'write', 5)
+        for calls, is_unsure in (
+            ([send, write], True),
+            # Of another process.
+            ([call(2, 1, 'splice', 5), write], True),
+            # The restart of one at which the thread was stopped.
+            ([interrupted(1, 0, 'sendfile'), send, write], False),
+            ([interrupted(2, 0, 'sendfile'), send, write], True),
+            # The thread was stopped at this one.
+            ([send], False),
+            # They did nothing.
+            ([call(1, 1, 'sendfile', 0), call(1, 2, 'copy_file_range', -1), write], False),
+            # At these a thread is always stopped.
+            ([call(1, 1, 'vmsplice', 5), write], False),
+        ):
+            with self.subTest([each.name for each in calls]):
+                copies = [FileCopy(0, 1, True, {}), FileCopy(2, 1, True, {0: b'a'})]
+                wanted = {id(copies[1])} if is_unsure else set()
+                self.assertEqual(unsure_copies(calls, FileCopies(copies)), wanted)
+
+    def test_the_copy_at_the_end_is_unsure_after_such_a_call(self) -> None:
+        copy = FileCopy(2, NO_THREAD, True, {0: b'a'})
+        calls = [call(1, 1, 'sendfile', 5)]
+        self.assertEqual(unsure_copies(calls, FileCopies([copy])), {id(copy)})
 
 
 class Stores(unittest.TestCase):

@@ -20,6 +20,11 @@ STOPPING_CALLS = sorted(
     | call_order.NAME_CHANGES
     | {'mmap', 'mmap2', 'munmap', 'mremap'}
 )
+# Those of STOPPING_CALLS that do nothing while a signal is pending, and start again after it: if
+# SIGSTOP came at each start, they would never end. So a thread is stopped at every second start
+# only, which is never a restart. But if a call doesn't restart, as it writes to a pipe, or as its
+# file system doesn't look for signals, the next one isn't stopped: unsure_copies() finds those.
+RESTARTED_CALLS = ['copy_file_range', 'sendfile', 'sendfile64', 'splice']
 # The thread of a copy for which none was stopped.
 NO_THREAD = 0
 # A call that maps a file as shared: its thread, the descriptor, and the path that strace shows.

@@ -5,19 +5,23 @@ from __future__ import annotations
 
 import bisect
 from dataclasses import dataclass, field
-from typing import Callable, Dict, Iterator, List, Optional, Tuple
+from typing import Callable, Dict, Iterator, List, Optional, Set, Tuple
 
 from crashfs_tools.common.file_bytes import Bytes
 from crashfs_tools.common.sparse import PAGE_BYTES, SparseBytes, pages_to_compare
 
 from .live_files import LiveFiles
 from .live_tree import Node
-from .mapped_files import STOPPING_CALLS, FileCopies, FileCopy
+from .mapped_files import RESTARTED_CALLS, STOPPING_CALLS, FileCopies, FileCopy
 from .strace_log import Call
 
 NOT_ALONE = (
     'stored through its mapping while other threads or processes ran: which of their '
     'calls it came before is not sure'
+)
+NOT_STOPPED = (
+    f'stored through its mapping at about the time of a call ({", ".join(RESTARTED_CALLS)}) at '
+    'which COMMAND was not stopped: which of the two came first is not sure'
 )
 
 
@@ -27,13 +31,14 @@ class MappedStores:
     order in which they were made, by the copy's id: they may be added in another order. A mapped
     file has a number, that of FileCopies. By it, `nodes` has the files whose mmap is translated,
     early_bytes what copies show of other files, and newest_indexes the index of the newest copy of
-    the file that was added."""
+    the file that was added. unsure_copies is what unsure_copies() returns, once it is known."""
 
     files: LiveFiles
     copy_indexes: Dict[int, int]
     nodes: Dict[int, Node] = field(default_factory=dict)
     early_bytes: Dict[int, Bytes] = field(default_factory=dict)
     newest_indexes: Dict[int, int] = field(default_factory=dict)
+    unsure_copies: Set[int] = field(default_factory=set)
 
     def add_node(self, number: int, node: Optional[Node]) -> None:
         """Adds the file with this number, whose mmap is translated, and the stores that were found
@@ -42,7 +47,7 @@ class MappedStores:
             self.nodes[number] = node
             if number in self.early_bytes:
                 data = self.early_bytes.pop(number)
-                add_stores(self.files, node, data, has_one_writer=False)
+                add_stores(self.files, node, data, NOT_ALONE)
 
     def add_copy(self, copy: FileCopy, is_chosen: Callable[[Node], bool]) -> None:
         """Adds the stores that a copy shows to the trace and the live files, of the files for which
@@ -57,8 +62,14 @@ class MappedStores:
             if node is None:
                 self.early_bytes[number] = data
             elif is_chosen(node):
-                has_one_writer = copy.has_one_writer(number)
-                add_stores(self.files, node, data, has_one_writer=has_one_writer)
+                add_stores(self.files, node, data, self.doubt_of_order(copy, number))
+
+    def doubt_of_order(self, copy: FileCopy, number: int) -> Optional[str]:
+        """Why it isn't sure before which call the stores were made that a copy shows to the file
+        with this number; None if it is."""
+        if not copy.has_one_writer(number):
+            return NOT_ALONE
+        return NOT_STOPPED if id(copy) in self.unsure_copies else None
 
 
 def copies_by_call(
@@ -107,11 +118,46 @@ def call_after_stores(
     return min(stopping_calls, key=lambda call: indexes[id(call)])
 
 
-def add_stores(files: LiveFiles, node: Node, data: Bytes, *, has_one_writer: bool) -> None:
+def unsure_copies(calls: List[Call], file_copies: FileCopies) -> Set[int]:
+    """The ids of the copies before which, but after the earlier copy, a call of RESTARTED_CALLS
+    ended that did something, and at which no thread was stopped: what the copy shows may have been
+    stored before or after that call. The calls are in the log's order."""
+    restarts = ids_of_restarts(calls)
+    return {
+        id(copy)
+        for copy, calls_since_copy in copies_with_calls(calls, file_copies)
+        if any(id(call) not in restarts for call in unstopped_calls(copy, calls_since_copy))
+    }
+
+
+def ids_of_restarts(calls: List[Call]) -> Set[int]:
+    """The ids of the calls before which the same call of their thread was interrupted. The calls
+    are in the log's order."""
+    earlier_calls: Dict[int, Call] = {}
+    restarts = set()
+    for call in calls:
+        earlier = earlier_calls.get(call.thread)
+        if earlier is not None and earlier.is_interrupted:
+            restarts.add(id(call))
+        earlier_calls[call.thread] = call
+    return restarts
+
+
+def unstopped_calls(copy: FileCopy, calls_since_copy: List[Call]) -> List[Call]:
+    """The calls of RESTARTED_CALLS that did something, without the one at which the thread of the
+    copy was stopped: its last one."""
+    calls_of_thread = [call for call in calls_since_copy if call.thread == copy.thread]
+    return [
+        call
+        for call in calls_since_copy
+        if call.name in RESTARTED_CALLS and call.result > 0 and call not in calls_of_thread[-1:]
+    ]
+
+
+def add_stores(files: LiveFiles, node: Node, data: Bytes, doubt: Optional[str] = None) -> None:
     """Adds the stores that a copy of a mapped file shows, whose bytes are `data`: a write, for each
-    page that differs, of the range that differs. If has_one_writer is False, other threads may have
-    made the stores, which is reported. A copy whose length isn't the file's is only reported.
-    Nothing if the file's bytes aren't followed."""
+    page that differs, of the range that differs. A doubt of their order is reported. A copy whose
+    length isn't the file's is only reported. Nothing if the file's bytes aren't followed."""
     if node.data is None:
         return
     if len(data) != node.size:
@@ -124,8 +170,8 @@ def add_stores(files: LiveFiles, node: Node, data: Bytes, *, has_one_writer: boo
         start, end = differing_range(node.data[page:page_end], data[page:page_end])
         if start == end:
             continue
-        if not has_one_writer:
-            files.recording.report(NOT_ALONE, node.name)
+        if doubt is not None:
+            files.recording.report(doubt, node.name)
         files.write_bytes(node, page + start, data[page + start : page + end])
         if node.data is None:
             # The trace can't have the write, so the file's bytes aren't followed any more.

@@ -19,6 +19,8 @@ RESUMED = re.compile(r'^(\d+)\s+<\.\.\. (\w+) resumed>(.*)$', re.S)
 ENDED = re.compile(r'^(\d+)\s+\+\+\+ (?:exited with|killed by) ')
 SUPERSEDED = re.compile(r'^(\d+)\s+\+\+\+ superseded by execve in pid (\d+) \+\+\+')
 SHOWN_RESULT = re.compile(r'^<([^>]*)>(\(deleted\))?')
+# What comes after the unknown result of a call that a signal interrupted before it did anything.
+RESTARTED = re.compile(r'^ ERESTART')
 
 # What strace -k has before each frame, after the call's line.
 FRAME = ' > '
@@ -32,11 +34,12 @@ SUPERSEDE = '+supersede'
 
 @dataclass
 class Call:
-    """A call that returned, or was cut by its thread's end (is_cut), or an event (EXIT, SUPERSEDE).
-    thread is the number of the thread that made it. begin and end are the numbers of its first and
-    last line in the log, from 1. result is negative if the call failed or was cut;
-    result_descriptor is the result as a descriptor, with what strace shows for it. frames are the
-    lines of strace -k; note is empty until stacks.note_calls() sets it."""
+    """A call that returned, or was cut by its thread's end (is_cut), or was interrupted by a signal
+    before it did anything (is_interrupted), or an event (EXIT, SUPERSEDE). thread is the number of
+    the thread that made it. begin and end are the numbers of its first and last line in the log,
+    from 1. result is negative if the call failed, was cut, or was interrupted; result_descriptor is
+    the result as a descriptor, with what strace shows for it. frames are the lines of strace -k;
+    note is empty until stacks.note_calls() sets it."""
 
     thread: int
     name: str
@@ -46,6 +49,7 @@ class Call:
     begin: int
     end: int
     is_cut: bool = False
+    is_interrupted: bool = False
     frames: List[str] = field(default_factory=list)
     note: str = ''
 
@@ -167,6 +171,7 @@ class LogReader:
             self.threads.add(int(result))
         shown = SHOWN_RESULT.match(tail)
         number = -1 if result == '?' else arguments.parse_integer(result)
+        is_interrupted = result == '?' and RESTARTED.match(tail) is not None
         shown_text = arguments.parse_shown_text(shown[1]) if shown else None
         self.call_with_frames = Call(
             thread=int(thread),
@@ -176,7 +181,8 @@ class LogReader:
             result_descriptor=Descriptor(number, shown_text, is_deleted=bool(shown and shown[2])),
             begin=begin,
             end=end,
-            is_cut=result == '?',
+            is_cut=result == '?' and not is_interrupted,
+            is_interrupted=is_interrupted,
         )
         self.log.calls.append(self.call_with_frames)
 

@@ -19,7 +19,7 @@ from crashfs_tools.common.streams import flushed_output, poll_for_input
 
 from . import stacks
 from .log_stream import LogStream
-from .mapped_files import STOPPING_CALLS
+from .mapped_files import RESTARTED_CALLS, STOPPING_CALLS
 from .options import NAME, RecordOptions
 from .output_streams import AcknowledgingDescriptors
 from .progress import CallProgress
@@ -57,9 +57,8 @@ def find_strace() -> str:
 
 def strace_command(strace_path: str, log_path: str, options: RecordOptions) -> List[str]:
     """The words that start strace, which is at strace_path, with its log at log_path, and COMMAND
-    under it. Only the calls that the options need are traced. With --mapped SIGSTOP stops COMMAND
-    at each of STOPPING_CALLS; with --stacks the log has stacks, unless COMMAND is a Python
-    program."""
+    under it. Only the calls that the options need are traced. With --mapped the stop_options() are
+    added; with --stacks the log has stacks, unless COMMAND is a Python program."""
     descriptors = options.acknowledging_descriptors
     may_be_sockets = descriptors.has_connections or bool(descriptors.nonstandard_numbers)
     socket_calls = SOCKET_HANDLERS if may_be_sockets else ()
@@ -84,11 +83,21 @@ def strace_command(strace_path: str, log_path: str, options: RecordOptions) -> L
         command.append('-k')
     if options.mapped:
         # Signals that are injected don't arrive together with --seccomp-bpf.
-        stopping_calls = ','.join(f'?{name}' for name in STOPPING_CALLS)
-        command += ['-e', f'inject={stopping_calls}:signal=SIGSTOP']
+        command += stop_options()
     else:
         command.append('--seccomp-bpf')
     return command + options.command
+
+
+def stop_options() -> List[str]:
+    """strace's options by which SIGSTOP stops COMMAND at each of STOPPING_CALLS, but at each second
+    one only of RESTARTED_CALLS."""
+    always = ','.join(f'?{name}' for name in STOPPING_CALLS if name not in RESTARTED_CALLS)
+    alternately = ','.join(f'?{name}' for name in RESTARTED_CALLS)
+    return [
+        *('-e', f'inject={always}:signal=SIGSTOP'),
+        *('-e', f'inject={alternately}:signal=SIGSTOP:when=1+2'),
+    ]
 
 
 class StraceRun:

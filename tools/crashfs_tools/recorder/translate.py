@@ -15,7 +15,7 @@ from .live_files import LiveFiles
 from .live_tree import Node
 from .log_filter import WRITES
 from .mapped_files import FileCopies, FileCopy
-from .mapped_stores import MappedStores, copies_by_call
+from .mapped_stores import MappedStores, copies_by_call, unsure_copies
 from .output_streams import connections_with_lines
 from .processes import Descriptors, PathContext, Process, node_of
 from .strace_log import EXIT, FORKS, SUPERSEDE, Call, Log
@@ -94,6 +94,7 @@ class Translator:
         if self.file_copies.copies:
             calls_by_paths = [call for _, call in CallQueue(self.log.calls).calls_in_order()]
             self.call_copies = copies_by_call(self.log.calls, calls_by_paths, self.file_copies)
+            self.stores.unsure_copies = unsure_copies(self.log.calls, self.file_copies)
         queue = CallQueue(self.log.calls, self.files.are_of_same_file)
         for line, call in queue.calls_in_order():
             self.files.add_ended_syncs(line)
