@@ -1,10 +1,11 @@
 """Recordings of programs that map files, with and without --mapped."""
 
 import os
+import subprocess
 import sys
 import unittest
 
-from .support import needs_strace, needs_version_3
+from .support import TOOLS, needs_strace, needs_version_3
 from .test_record_command import InRecordings
 
 STORE_MAPPED = """
@@ -120,6 +121,24 @@ class Mapped(InRecordings):
         ran = self.record_calls('os.sendfile(1, old, 0, 2)')
         self.assertEqual((ran.returncode, ran.stdout), (3, '1\n' * 3), ran.stderr)
         self.assertIn('/map: stored through its mapping at about the time of a call', ran.stderr)
+
+    def test_what_is_written_to_a_terminal_is_on_it_and_the_session_ends(self):
+        own, terminal = os.openpty()
+        self.addCleanup(os.close, own)
+        script = f'exec timeout -s KILL {SECONDS} sh -c "echo warned >&2; echo told"'
+        words = ['--mapped', 'd', 'out.trace', '--', 'sh', '-c', script]
+        ran = subprocess.run(
+            [sys.executable, '-S', str(TOOLS / 'crashfs-record'), *words],
+            cwd=self.folder,
+            stdin=subprocess.DEVNULL,
+            stdout=subprocess.PIPE,
+            stderr=terminal,
+            check=False,
+        )
+        os.close(terminal)
+        shown = os.read(own, 65_536)
+        self.assertEqual((ran.returncode, ran.stdout), (0, b'told\n'), shown)
+        self.assertIn(b'warned\r\n', shown)
 
 
 if __name__ == '__main__':

@@ -24,6 +24,7 @@ from .options import NAME, RecordOptions
 from .output_streams import AcknowledgingDescriptors
 from .progress import CallProgress
 from .strace_log import FORKS
+from .terminal_errors import errors_copied
 from .translate import HANDLERS, SOCKET_HANDLERS
 
 OLDEST = (5, 18)
@@ -130,7 +131,7 @@ class StraceRun:
             strace = self.start_strace()
             assert strace.stdout is not None
             self.stream.start()
-            with self.progress_lines():
+            with self.progress_lines(), errors_copied(strace.stderr):
                 self.copy_output(strace, strace.stdout.fileno())
                 return self.wait_for_status(strace)
 
@@ -149,7 +150,8 @@ class StraceRun:
 
     def start_strace(self) -> subprocess.Popen[bytes]:
         """Starts strace with COMMAND in the recorded directory, with a pipe as its standard output,
-        and sets strace_process and output_pipe. OSError if it can't be started."""
+        and sets strace_process and output_pipe. With --mapped a standard error that is a terminal
+        becomes a pipe too. OSError if strace can't be started."""
         environment = self.guard.environment
         if self.options.stacks:
             environment = stacks.environment_with_hook(environment)
@@ -157,6 +159,7 @@ class StraceRun:
             self.command_line,
             cwd=self.options.directory,
             stdout=subprocess.PIPE,
+            stderr=subprocess.PIPE if self.options.mapped and sys.stderr.isatty() else None,
             env=environment,
             pass_fds=inherited_descriptors(self.options.acknowledging_descriptors),
         )
