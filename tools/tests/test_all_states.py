@@ -9,9 +9,11 @@ from typing import Any, Dict, List, Set, Tuple
 from unittest import mock
 
 from crashfs_tools.checker.states import planning
-from crashfs_tools.checker.states.plan import Offsets, PlannedTrace, Trial
+from crashfs_tools.checker.states.all_sets import ReadingSets
+from crashfs_tools.checker.states.plan import Needs, Offsets, PlannedTrace, Trial
 from crashfs_tools.checker.states.planning import Planner
 from crashfs_tools.common import limits
+from crashfs_tools.common.command import Refused
 from crashfs_tools.common.program import Crashfs
 from crashfs_tools.reading import ReadingFault, StatePlan, make_plan, parse_trace
 from crashfs_tools.reading.every import every_set
@@ -121,6 +123,12 @@ class AllListed(Listing):
         self.assertIsInstance(copies.program, Crashfs)
         with mock.patch.object(planning, 'is_small', return_value=False):
             self.assertIs(planner.planner_of_copies(plan), planner)
+
+    def test_readings_that_differ_in_what_is_needed_are_refused(self) -> None:
+        other_needs = Needs([0b1, 0b11])
+        with mock.patch.object(ReadingSets, 'needs', other_needs):
+            with self.assertRaisesRegex(Refused, f'a.trace: {planning.OTHER_NEEDS}$'):
+                self.planned(HEADER + creat('/a') + creat('/b'))
 
     def test_picks_are_divided_by_the_room_next_to_prefixes_and_holes(self) -> None:
         for most_states, hole_count, has_only_prefixes, sizes in (

@@ -332,7 +332,7 @@ class Chosen(unittest.TestCase):
         findings = SimpleNamespace(
             plan=plan, results=results, outcomes_by_state=results.outcomes_by_state({})
         )
-        for count in (1, 2, 5, 6, 9, 20):
+        for count in (1, 2, 5, 6, 8, 9, 20):
             nested = SecondCrashTrials(count)
             chosen = [state.number for state in nested.choose_states(findings)]
             self.assertEqual(len(chosen), len(set(chosen)))
@@ -341,6 +341,9 @@ class Chosen(unittest.TestCase):
                 self.assertEqual(nested.seen_features, FEATURES)
             if count == 1:
                 self.assertEqual(chosen, [5])
+            if count == 8:
+                # Of 8, 9 and 10, which have no new features, every second one.
+                self.assertEqual(chosen, [5, 2, 0, 1, 3, 4, 8, 10])
 
 
 if __name__ == '__main__':
