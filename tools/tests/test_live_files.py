@@ -9,7 +9,7 @@ from crashfs_tools.common.trace import Header, Start, StartSymlink
 from crashfs_tools.recorder.arguments import NO_DESCRIPTOR
 from crashfs_tools.recorder.directory import Scan
 from crashfs_tools.recorder.live_files import LiveFiles, StartConditions
-from crashfs_tools.recorder.processes import OpenFile, Process, open_file_of_path
+from crashfs_tools.recorder.processes import OpenFile, PathContext, Process, open_file_of_path
 from crashfs_tools.recorder.recording import Recording, TraceSettings
 from crashfs_tools.recorder.start_tree import files_at_start
 from crashfs_tools.recorder.strace_log import Call
@@ -118,6 +118,17 @@ class Paths(unittest.TestCase):
         second.descriptors.files[5] = OpenFile(nodes['/f'])
         self.files.processes.update({7: first, 8: second})
         return first, second
+
+    def test_a_working_directory_moves_with_it_and_with_those_above_it(self) -> None:
+        for directory, moved in (
+            ('/d/a', '/d/x'),
+            ('/d/a/b', '/d/x/b'),
+            ('/d/ab', '/d/ab'),
+            ('/d', '/d'),
+        ):
+            context = PathContext(directory, 0o22)
+            context.update_directory({'/d/a': '/d/x'})
+            self.assertEqual(context.directory, moved)
 
     def test_a_path_may_mean_a_descriptor(self) -> None:
         first, second = self.open_files()
