@@ -1,6 +1,6 @@
 //! The JSON object of a line, or of a part of a file: the value of each key of the format, not yet
 //! read further. What the values mean is in `values`.
-ghost use Rattle.std.specs.Prelude.{◌≡◌};
+ghost use Rattle.std.specs.Prelude.{◌≡◌, length};
 ghost use Rattle.serde_json.specs.Data.{no_members};
 ghost use Rattle.serde_json.specs.Find.{as_object};
 ghost use Rattle.serde_json.specs.View.{members_view, view};
@@ -124,31 +124,82 @@ impl Fields {
     }
 
     /// Sets the field of a key, in place of an earlier one. A key that the format doesn't have only
-    /// sets `has_others`.
+    /// sets `has_others`. The length of the key is looked at first, which is faster than to compare
+    /// it with each.
     fn put(&mut self, key: &str, field: Field)
+        ensures { field_values self.new
+            ≡ with_field key.now (field_value field) (field_values self.old) }
+    {
+        match key.len() {
+            2 => self.put_two_letters(key, field),
+            4 => self.put_four_letters(key, field),
+            5 => self.put_five_letters(key, field),
+            6 => self.put_six_letters(key, field),
+            _ => match key {
+                "profile" => self.profile = Some(field),
+                _ => self.has_others = true,
+            },
+        }
+    }
+
+    /// As `put`, for a key of 2 bytes.
+    fn put_two_letters(&mut self, key: &str, field: Field)
+        requires { length key.now ≡ 2 }
         ensures { field_values self.new
             ≡ with_field key.now (field_value field) (field_values self.old) }
     {
         match key {
             "op" => self.op = Some(field),
+            "to" => self.to = Some(field),
+            "at" => self.at = Some(field),
+            _ => self.has_others = true,
+        }
+    }
+
+    /// As `put`, for a key of 4 bytes.
+    fn put_four_letters(&mut self, key: &str, field: Field)
+        requires { length key.now ≡ 4 }
+        ensures { field_values self.new
+            ≡ with_field key.now (field_value field) (field_values self.old) }
+    {
+        match key {
             "path" => self.path = Some(field),
+            "mode" => self.mode = Some(field),
+            "from" => self.from = Some(field),
+            "text" => self.text = Some(field),
+            "note" => self.note = Some(field),
+            _ => self.has_others = true,
+        }
+    }
+
+    /// As `put`, for a key of 5 bytes.
+    fn put_five_letters(&mut self, key: &str, field: Field)
+        requires { length key.now ≡ 5 }
+        ensures { field_values self.new
+            ≡ with_field key.now (field_value field) (field_values self.old) }
+    {
+        match key {
+            "bytes" => self.bytes = Some(field),
             "start" => self.start = Some(field),
             "owner" => self.owner = Some(field),
             "group" => self.group = Some(field),
-            "mode" => self.mode = Some(field),
-            "bytes" => self.bytes = Some(field),
-            "offset" => self.offset = Some(field),
-            "to" => self.to = Some(field),
-            "from" => self.from = Some(field),
-            "length" => self.length = Some(field),
-            "text" => self.text = Some(field),
-            "target" => self.target = Some(field),
             "parts" => self.parts = Some(field),
-            "at" => self.at = Some(field),
-            "note" => self.note = Some(field),
             "trace" => self.trace = Some(field),
-            "profile" => self.profile = Some(field),
             "block" => self.block = Some(field),
+            _ => self.has_others = true,
+        }
+    }
+
+    /// As `put`, for a key of 6 bytes.
+    fn put_six_letters(&mut self, key: &str, field: Field)
+        requires { length key.now ≡ 6 }
+        ensures { field_values self.new
+            ≡ with_field key.now (field_value field) (field_values self.old) }
+    {
+        match key {
+            "offset" => self.offset = Some(field),
+            "length" => self.length = Some(field),
+            "target" => self.target = Some(field),
             _ => self.has_others = true,
         }
     }

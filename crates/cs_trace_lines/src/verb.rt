@@ -27,27 +27,28 @@ pub(crate) enum Verb {
 }
 
 impl Verb {
-    /// The verb with this name in any version. None if no version has one.
+    /// The verb with this name in any version. None if no version has one. Frequent names come first,
+    /// since the name is compared with one after another.
     fn of_name(name: &str) -> Option<Verb>
         ensures { result ≡ verb_named name.now }
     {
         Some(match name {
-            "creat" => Verb::Creat,
-            "mkdir" => Verb::Mkdir,
-            "symlink" => Verb::Symlink,
-            "unlink" => Verb::Unlink,
-            "rmdir" => Verb::Rmdir,
-            "rename" => Verb::Rename,
-            "link" => Verb::Link,
             "write" => Verb::Write,
+            "fsync" => Verb::Fsync,
+            "creat" => Verb::Creat,
+            "rename" => Verb::Rename,
+            "unlink" => Verb::Unlink,
+            "say" => Verb::Say,
             "truncate" => Verb::Truncate,
+            "mkdir" => Verb::Mkdir,
+            "rmdir" => Verb::Rmdir,
+            "fdatasync" => Verb::Fdatasync,
+            "link" => Verb::Link,
+            "symlink" => Verb::Symlink,
+            "sync" => Verb::Sync,
+            "fsync_range" => Verb::FsyncRange,
             "chmod" => Verb::Chmod,
             "chown" => Verb::Chown,
-            "fsync" => Verb::Fsync,
-            "fdatasync" => Verb::Fdatasync,
-            "fsync_range" => Verb::FsyncRange,
-            "sync" => Verb::Sync,
-            "say" => Verb::Say,
             _ => return None,
         })
     }
