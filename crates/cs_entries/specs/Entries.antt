@@ -1,6 +1,6 @@
 -- Entries of directories, what they hold, and the operations that change them.
 use Rattle.std.specs.Prelude.{◌≡◌, ◌==◌, ◌&&◌, ◌||◌, ℕ, zero, suc, Bool, true, false, cond}
-use Rattle.std.specs.Prelude.{List, Option, None, Some}
+use Rattle.std.specs.Prelude.{Option, None, Some}
 use Rattle.cs_names.specs.Texts.{same_bytes}
 pub use Rattle.cs_entries.specs.declared.entry.Entry.{Entry}
 use Rattle.cs_entries.specs.declared.node.FileKind.{FileKind}

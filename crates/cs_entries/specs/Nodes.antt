@@ -1,7 +1,6 @@
 -- What an entry holds, as a value of a map.
 use Rattle.std.specs.Prelude.{◌≡◌, ℕ, Bool, true, false, refl}
 use Rattle.std.specs.Coded.{Coded, code_by, coded×, coded_ℕ, coded_bool}
-use Rattle.cs_entries.specs.declared.node.FileKind.{FileKind}
 use Rattle.cs_entries.specs.declared.node.FileKind.TheVariants.{Regular, Symlink}
 use Rattle.cs_entries.specs.declared.node.Node.{Node}
 use Rattle.cs_entries.specs.declared.node.Node.TheVariants.{Directory, File}

@@ -8,13 +8,13 @@ ghost use Rattle.std.specs.String.{string_bytes};
 
 use crate::node::Node;
 use std::alloc::{AllocError, Global};
-use std::collections::BTreeMap;
+use std::collections::HashMap;
 
 /// Adds empty maps at the end until the directory of the number has one. The only error is that
 /// memory runs out; then some of the maps may be there, which hold nothing.
 pub(crate) fn grow(
     alloc: Global,
-    directories: &mut Vec<BTreeMap<String, Node>>,
+    directories: &mut Vec<HashMap<String, Node>>,
     directory: u32,
 ) -> Result<(), AllocError>
     ensures enough { OnOk result (directory < length directories.new.items) }
@@ -22,7 +22,7 @@ pub(crate) fn grow(
         ≡ entries_in directories.old.items e }
 {
     'maps: while directories.len() <= directory as usize {
-        directories.push(BTreeMap::new(alloc))?;
+        directories.push(HashMap::new(alloc))?;
     }
     Ok(())
 }
@@ -31,7 +31,7 @@ pub(crate) fn grow(
 /// the entry held before; None if it held nothing. The only error is that memory runs out; then
 /// everything is as it was.
 pub(crate) fn hold(
-    directories: &mut [BTreeMap<String, Node>],
+    directories: &mut [HashMap<String, Node>],
     directory: u32,
     name: String,
     node: Node,
@@ -51,7 +51,7 @@ pub(crate) fn hold(
 /// Removes the entry of the name from the directory of the number, and returns what it held; None
 /// if there is no such entry. If that was a directory, its own entries stay. It takes no memory.
 pub(crate) fn release(
-    directories: &mut [BTreeMap<String, Node>],
+    directories: &mut [HashMap<String, Node>],
     directory: u32,
     name: &str,
 ) -> Option<Node>

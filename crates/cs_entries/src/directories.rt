@@ -7,12 +7,12 @@ ghost use Rattle.cs_entries.specs.Paths.{at_path, entry_in};
 
 use crate::node::Node;
 use cs_names::Names;
-use std::collections::BTreeMap;
+use std::collections::HashMap;
 
 /// What the entry of the name holds in the directory of the number; None if there is no such entry
 /// or directory. It takes no memory.
 pub(crate) fn node_in(
-    directories: &[BTreeMap<String, Node>],
+    directories: &[HashMap<String, Node>],
     directory: u32,
     name: &str,
 ) -> Option<Node>
@@ -27,7 +27,7 @@ pub(crate) fn node_in(
 /// What is at a path, by its names: each leads from a directory to what its entry holds. The root
 /// is at the path without names. None if a directory has no such entry, or if names follow a file:
 /// nothing is looked up through a file or a symbolic link. It takes no memory.
-pub(crate) fn node_at(directories: &[BTreeMap<String, Node>], names: Names<'_>) -> Option<Node>
+pub(crate) fn node_at(directories: &[HashMap<String, Node>], names: Names<'_>) -> Option<Node>
     ensures { result ≡ at_path (entries_in directories.now) names.entry }
 {
     let mut node = Node::Directory(0);
@@ -45,7 +45,7 @@ pub(crate) fn node_at(directories: &[BTreeMap<String, Node>], names: Names<'_>) 
 
 /// Whether the directory of the number has an entry; false if there is no such directory. It takes
 /// no memory.
-pub(crate) fn has_entries(directories: &[BTreeMap<String, Node>], directory: u32) -> bool
+pub(crate) fn has_entries(directories: &[HashMap<String, Node>], directory: u32) -> bool
     ensures none { result ≡ false → IsEmpty (entries_in directories.now) directory }
     ensures some { result ≡ true → HasEntry (entries_in directories.now) directory }
 {

@@ -10,7 +10,7 @@ use crate::directories::{has_entries, node_at, node_in};
 use crate::node::Node;
 use cs_names::Names;
 use std::alloc::{AllocError, Global};
-use std::collections::BTreeMap;
+use std::collections::HashMap;
 use std::marker::Model;
 
 /// What each entry of each directory holds. Contracts see a finite map of entries, in the order of
@@ -19,7 +19,7 @@ use std::marker::Model;
 pub struct Directories {
     /// At each directory's number, what its entries hold, by their names. The last directories may
     /// have no map here, if they have no entry.
-    by_number: Vec<BTreeMap<String, Node>>,
+    by_number: Vec<HashMap<String, Node>>,
 }
 
 impl Model for Directories {

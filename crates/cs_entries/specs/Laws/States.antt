@@ -1,9 +1,9 @@
 -- The state of every allowed set is a tree: as a table of entries, and as a map of paths.
 use Rattle.std.proofs.Common.{◌≡◌, ℕ, zero, suc, ◌+◌, ◌<◌, ◌≤◌, Bool, true, false, cond, List}
-use Rattle.std.proofs.Common.{◌⊎◌, Some, refl, sym, ap, ◌∙◌, subst, arith, ⊎_elim}
+use Rattle.std.proofs.Common.{◌⊎◌, refl, sym, ap, ◌∙◌, subst, arith, ⊎_elim}
 use Rattle.std.proofs.lemmas.Bool.{cases_Bool}
 use Rattle.std.specs.FinMap.{get}
-use Rattle.cs_entries.specs.Entries.{Entries, Entry, EntryOp, Create, after}
+use Rattle.cs_entries.specs.Entries.{Entries, Entry, EntryOp, after}
 use Rattle.cs_entries.specs.Legal.{IsHeld, IsTree, IsLegal}
 use Rattle.cs_entries.specs.Paths.{at_path}
 use Rattle.cs_entries.specs.Rules.{needs, IsClosed}
@@ -13,7 +13,6 @@ use Rattle.cs_entries.specs.Laws.Allowed.{allowed_has}
 use Rattle.cs_entries.specs.Laws.Depths.{AreBelow}
 use Rattle.cs_entries.specs.Laws.Left.{left, whole, legal_left, tree_left, origin, Made, member_step, other_step}
 use Rattle.cs_entries.specs.Laws.Records.{paths_lead, paths_nested, table_step}
-use Rattle.cs_entries.specs.declared.node.Node.TheVariants.{Directory}
 use Rattle.cs_entries.specs.Tables.{AreNested, table_of}
 use Rattle.cs_entries.specs.Sets.{AreFew}
 

@@ -1,18 +1,16 @@
-use Rattle.std.proofs.Common.{◌<◌, ap, sym, ◌∙◌, None, Some, get_or, length, arith}
+use Rattle.std.proofs.Common.{◌<◌, ap, sym, ◌∙◌, None, get_or, length, arith}
 use Rattle.std.proofs.lemmas.Option.{slice_get-get_or}
-use Rattle.std.specs.FinMap as map
+use Rattle.std.specs.HashMap.{get_by_text}
 use Rattle.std.specs.Prelude.{option_and_then}
-use Rattle.cs_tree_model.specs.Maps.Texts.{get_seen, seen}
-use Rattle.cs_entries.proofs.Changed.{changed, removed}
+use Rattle.cs_entries.proofs.Changed.{changed, updated}
 use Rattle.cs_entries.proofs.changes.release.Goals as goal
 
 pub returns-clause-before : goal.returns-clause-before
 returns-clause-before c =
     let low : c.args.directory < length c.args.directories.now = omega (arith, c.if-directories-directory.false) in
     let name = c.args.name.now in
-    let old = get_or c.args.directories.now c.args.directory c.index-directories-directory.result in
     let there = slice_get-get_or c.args.directories.now c.args.directory c.index-directories-directory.result low in
-    c.remove.ensures.value ∙ sym (get_seen old name) ∙ ap (option_and_then (λ m. map.get (seen m) name)) (sym there)
+    c.remove.ensures.value ∙ ap (option_and_then (λ m. get_by_text m name)) (sym there)
 
 pub returns-clause-state : goal.returns-clause-state
 returns-clause-state c =
@@ -20,4 +18,4 @@ returns-clause-state c =
     let old = get_or c.args.directories.now c.args.directory c.index-directories-directory.result in
     let there = slice_get-get_or c.args.directories.now c.args.directory c.index-directories-directory.result low in
     changed c.args.directories.now c.args.directory old c.remove.new.self low there c.args.name.now None
-    (removed old c.remove.new.self c.args.name.now c.remove.ensures.updates)
+    (updated old c.remove.new.self c.args.name.now None c.remove.ensures.updates)
