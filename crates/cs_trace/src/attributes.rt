@@ -22,17 +22,6 @@ pub(crate) struct Attributes {
     pub(crate) directories: Vec<Shared<Rights>>,
 }
 
-/// The rights inside a shared value; None if there is none.
-fn lend(shared: Option<&Shared<Rights>>) -> Option<&Rights>
-    ensures { option_map (λ rights. rights.now) result
-        ≡ option_map (λ shared. shared.now) shared.entry }
-{
-    match shared {
-        None => None,
-        Some(shared) => Some(shared.get()),
-    }
-}
-
 /// Replaces the rights with this number. If there are none, nothing changes; an operation that was
 /// checked never names such a number. (`set_size` of `state` does the same to a size.)
 fn set_rights(all: &mut [Shared<Rights>], number: u32, rights: Shared<Rights>)
@@ -104,13 +93,13 @@ impl Attributes {
 
     /// The rights of the file, symbolic link or directory, by its number. None if it has none: in
     /// version 1 none are kept, and later everything has some. It takes no memory.
-    pub(crate) fn rights(&self, node: Node) -> Option<&Rights>
+    pub(crate) fn rights(&self, node: Node) -> Option<&Shared<Rights>>
         ensures { option_map (λ rights. rights.now) result
             ≡ rights_at (attributes_of self.now) node }
     {
         match node {
-            Node::Directory(number) => lend(self.directories.get(number as usize)),
-            Node::File(_, file) => lend(self.files.get(file as usize)),
+            Node::Directory(number) => self.directories.get(number as usize),
+            Node::File(_, file) => self.files.get(file as usize),
         }
     }
 
@@ -130,8 +119,8 @@ impl Attributes {
     }
 
     /// Applies an operation. A creat, a symlink and a mkdir add the rights of what they make, a
-    /// chmod and a chown set rights, and any other operation changes none. Rights that are equal to
-    /// `last` share its memory; others become `last`.
+    /// chmod and a chown set rights, which they share, and any other operation changes none. New
+    /// rights that are equal to `last` share its memory; others become `last`.
     pub(crate) fn change(
         &mut self,
         alloc: Global,
@@ -153,10 +142,7 @@ impl Attributes {
                 let rights = shared_rights(alloc, last, rights)?;
                 self.put_directory(*directory, rights)
             }
-            Operation::SetAttr { target, after, .. } => {
-                let after = shared_rights(alloc, last, after)?;
-                self.set(target, after)
-            }
+            Operation::SetAttr { target, after, .. } => self.set(target, after.try_clone()?),
             Operation::Link { .. }
             | Operation::Unlink { .. }
             | Operation::Rmdir { .. }
