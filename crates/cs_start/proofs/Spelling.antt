@@ -15,7 +15,7 @@ use Rattle.cs_names.specs.Pieces.{pieces, put_first}
 use Rattle.cs_names.specs.declared.fault.NameFault.{NameFault}
 use Rattle.cs_names.specs.declared.fault.NameFault.TheVariants.{Forbidden}
 use Rattle.cs_tree_model.specs.Tree.{Path, parent_path}
-use Rattle.cs_start.specs.Names.{below_root, entry_path_of, path_of, spelled_path}
+use Rattle.cs_start.specs.Names.{below_root, entry_path_of, IsFront, path_of, spelled_path}
 
 pieces-plain : (bs : List ℕ) → list_any (λ c. c == 47 || c == 0) bs ≡ false → pieces 47 bs ≡ bs ∷ []
 pieces-plain [] is = refl
@@ -78,11 +78,21 @@ pub record Pushed (text : List ℕ) (p : Path) (name : List ℕ) : Type 0 where
   pub spelled : spelled_path text ≡ p ++ name ∷ []
   pub entry : entry_path_of text ≡ Some (p ++ name ∷ [])
 
-pub pushed : (text above name : List ℕ) (p : Path) → text ≡ above ++ 47 ∷ name → path_of above ≡ Some p → 0 < length p → IsLegalName name
+-- the text of a directory other than the root
+pub front_of : (above : List ℕ) (p : Path) → path_of above ≡ Some p → 0 < length p → IsFront above p
+front_of above p spells some name legal = ap result_ok (path_in-push above name p (ok_by (path_in above) p spells) some legal)
+
+-- the text of the root
+pub front_of_root : IsFront [] []
+front_of_root name legal =
+    ap (λ b. result_ok (if b then Ok [] else names_in (pieces 47 name)))
+    (ne_eqb (length name) 0 (λ none. absurd (omega (arith, none, legal.some))))
+    ∙ ap (λ cut. result_ok (names_in cut)) (pieces-name name legal) ∙ ap result_ok (names_in-push [] name [] legal refl)
+
+pub pushed : (text above name : List ℕ) (p : Path) → text ≡ above ++ 47 ∷ name → IsFront above p → IsLegalName name
     → Pushed text p name
-pushed text above name p is spells some legal =
-    let path : path_of text ≡ Some (p ++ name ∷ []) =
-    ap path_of is ∙ ap result_ok (path_in-push above name p (ok_by (path_in above) p spells) some legal) in
+pushed text above name p is front legal =
+    let path : path_of text ≡ Some (p ++ name ∷ []) = ap path_of is ∙ front name legal in
     record {
       legal = path;
       spelled = ap (λ (q : Option Path). unwrap_or q []) path;
@@ -108,7 +118,7 @@ pub above-push : (text above name : List ℕ) (p q : Path) → text ≡ above ++
     → path_of text ≡ Some p → q ≡ parent_path p
 above-push text above name p q is entry legal spells =
     let part = path_of-entry above q entry in
-    parent_of-snoc p q name (same_Some p (q ++ name ∷ []) (sym spells ∙ (pushed text above name q is part.0 part.1 legal).legal))
+    parent_of-snoc p q name (same_Some p (q ++ name ∷ []) (sym spells ∙ (pushed text above name q is (front_of above q part.0 part.1) legal).legal))
 
 -- what holds of each value that there is
 pub if_some : {A : Type 0} (r : Option A) (P : A → Type 0) → ((x : A) → r ≡ Some x → P x) → IfSome r P

@@ -17,14 +17,15 @@ use std::marker::Model;
 pub struct LastDirectory {
     /// The path.
     path: Path,
-    /// The text that spells the path; empty if the text isn't known, and for the root.
-    text: String,
-    /// How many names the path has; 0 if the text isn't known, and for the root.
+    /// The text that spells the path, empty for the root: with a `/` and a name, it spells a path
+    /// in the directory. None if the text isn't known.
+    text: Option<String>,
+    /// How many names the path has; 0 if the text isn't known.
     count: usize,
 }
 
 impl Model for LastDirectory {
-    ghost use Rattle.std.specs.Prelude.{List, ℕ, string_bytes};
+    ghost use Rattle.std.specs.Prelude.{List, ℕ, option_map, string_bytes};
     ghost use Rattle.cs_start.specs.Names.{MaySpell};
 
     ghost Value = { List (List ℕ) };
@@ -32,7 +33,7 @@ impl Model for LastDirectory {
     ghost view = { λ directory. directory.path };
 
     ghost invariant = { λ directory.
-        MaySpell directory.count (string_bytes directory.text) directory.path };
+        MaySpell directory.count (option_map string_bytes directory.text) directory.path };
 }
 
 /// The parent of the path that the text spells, with the text that spells the parent: the part
@@ -65,9 +66,26 @@ fn name_after<'a>(text: &'a str, above: &str) -> Option<&'a str>
 }
 
 impl LastDirectory {
+    /// The directory with this path, whose text isn't known unless it is the root.
+    fn without_text(alloc: Global, path: Path) -> LastDirectory
+        ensures { result ≡ path }
+    {
+        if path.names().is_empty() {
+            return LastDirectory {
+                path,
+                text: Some(String::new(alloc)),
+                count: 0,
+            };
+        }
+        LastDirectory {
+            path,
+            text: None,
+            count: 0,
+        }
+    }
+
     /// The directory above the path, which `text` spells, too; above the root is the root. The text
-    /// of the directory is known then, unless the directory is the root or its path has too many
-    /// names (`PathText::is_long`).
+    /// of the directory is known then, unless its path has too many names (`PathText::is_long`).
     pub fn parent_of(
         alloc: Global,
         path: &Path,
@@ -80,14 +98,10 @@ impl LastDirectory {
         match text_above(text.text()) {
             Some(spelled) if !spelled.is_long() => Ok(LastDirectory {
                 path: above,
-                text: String::from_str(alloc, spelled.text())?,
+                text: Some(String::from_str(alloc, spelled.text())?),
                 count: spelled.len(),
             }),
-            _ => Ok(LastDirectory {
-                path: above,
-                text: String::new(alloc),
-                count: 0,
-            }),
+            _ => Ok(LastDirectory::without_text(alloc, above)),
         }
     }
 
@@ -102,7 +116,10 @@ impl LastDirectory {
     /// paths in the directory are slow to compare. False if the text isn't known. No clause says
     /// so, since it decides only how entries are kept. (`PathText::is_long` counts names.)
     pub fn has_long_text(&self) -> bool {
-        self.text.len() >= 64
+        match &self.text {
+            Some(text) => text.len() >= 64,
+            None => false,
+        }
     }
 
     /// The path of the name in the directory, as a new Path.
@@ -119,38 +136,41 @@ impl LastDirectory {
     {
         Ok(LastDirectory {
             path: self.path.try_clone(alloc)?,
-            text: self.text.clone()?,
+            text: match &self.text {
+                Some(text) => Some(text.clone()?),
+                None => None,
+            },
             count: self.count,
         })
     }
 
     /// The last name of the path that the text spells, if the text is that of the directory, a `/`
     /// and a legal name; only that name is checked. None for any other text, which may still spell
-    /// a path in the directory; and for every text if the directory is the root, or its own text
-    /// isn't known. It takes no memory.
+    /// a path in the directory; and for every text if that of the directory isn't known. It takes
+    /// no memory.
     pub fn name_in_text<'a>(&self, text: &'a str) -> Option<&'a str>
         ensures entry { IfSome result (λ name.
             entry_path_of text.now ≡ Some (self.now ++ name.now ∷ [])) }
         ensures legal { IfSome result (λ name. IsLegalName name.now) }
     {
-        if self.count == 0 {
-            return None;
+        match &self.text {
+            Some(above) => name_after(text, above.as_str()),
+            None => None,
         }
-        name_after(text, self.text.as_str())
     }
 
-    /// The path that the text spells, if `name_in_text` finds its last name; None for any other
-    /// text, which may still spell a path. It takes no memory.
-    pub fn path_in<'a>(&self, text: &'a str) -> Option<PathText<'a>>
-        ensures path { IfSome result (λ path. entry_path_of text.now ≡ Some path) }
-        ensures above { IfSome result (λ path. parent_path path ≡ self.now) }
+    /// The path that the text spells, with its last name, if `name_in_text` finds that name; None
+    /// for any other text, which may still spell a path. It takes no memory.
+    pub fn path_in<'a>(&self, text: &'a str) -> Option<(PathText<'a>, &'a str)>
+        ensures path { IfSome result (λ parts. entry_path_of text.now ≡ Some parts.0) }
+        ensures named { IfSome result (λ parts. parts.0 ≡ self.now ++ parts.1.now ∷ []) }
     {
-        if self.count == 0 {
+        let Some(above) = &self.text else {
             return None;
-        }
-        match name_after(text, self.text.as_str()) {
-            None => None,
-            Some(_) => Some(PathText::of_checked(text, self.count + 1)),
-        }
+        };
+        let Some(name) = name_after(text, above.as_str()) else {
+            return None;
+        };
+        Some((PathText::of_checked(text, self.count + 1), name))
     }
 }

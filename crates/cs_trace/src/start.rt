@@ -16,29 +16,18 @@ use crate::judge::{are_too_many_names, free_in, is_over_limits};
 use crate::names::entry_path;
 use crate::put_start::{put_link, put_root};
 use crate::rights::shared_claims;
-use crate::start_entries::{add_entry, new_entry};
+use crate::start_entries::{add_entry, add_sibling, new_entry};
 use crate::state::LinesSoFar;
-use crate::tree::Tree;
 use cs_entries::{FileKind, Node};
 use cs_names::Path;
 use cs_start::{PathText, StartEntry, StartMap};
 use cs_trace_lines::{Claims, StartContent, StartLine, Version};
 use std::alloc::Global;
 
-/// The path of a start line, with the faults of `entry_path`: the root, and a text that spells no
-/// path, are BadName. Faster if the path is in the directory of the last start line, whose text was
-/// checked then: only the last name is checked.
-fn start_path<'a>(tree: &Tree, path: &'a str) -> Result<PathText<'a>, TraceFaultKind>
-    ensures { result ≡ or_bad_name (entry_path_of path.now) }
-{
-    match tree.path_in_last_directory(path) {
-        None => entry_path(path),
-        Some(entry) => Ok(entry),
-    }
-}
-
 /// Applies the start line of a file, a symbolic link or a directory: adds it to the start. A path,
 /// an owner or a group that isn't legal is BadName; the other faults are those of `add_entry`.
+/// Faster if the path is in the directory of the last start line, whose text was checked then: only
+/// the last name is checked.
 pub(crate) fn apply_start(
     alloc: Global,
     state: &mut LinesSoFar,
@@ -55,7 +44,11 @@ pub(crate) fn apply_start(
         claims,
         content,
     } = line;
-    let text = start_path(&state.tree, &path)?;
+    if let Some((above, text, name)) = state.tree.take_spelled_directory(&path) {
+        let rights = shared_claims(alloc, &mut state.last_rights, claims)?;
+        return add_sibling(alloc, state, &text, above, name, rights, content);
+    }
+    let text = entry_path(&path)?;
     let rights = shared_claims(alloc, &mut state.last_rights, claims)?;
     add_entry(alloc, state, &text, rights, content)
 }

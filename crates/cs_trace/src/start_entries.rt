@@ -182,7 +182,7 @@ fn add_entry_in(
 /// As `add_entry_in`, for a path that is given as its text: it is that of the directory `above`
 /// with the name. Faster, because the names of the path are copied only if the start must keep them
 /// (`put_spelled`), or if an entry is over a limit.
-fn add_sibling(
+pub(crate) fn add_sibling(
     alloc: Global,
     state: &mut LinesSoFar,
     path: &PathText<'_>,
@@ -218,7 +218,7 @@ fn add_sibling(
 
 /// Adds a file, a symbolic link or a directory with this content at the path that the text spells.
 /// The faults are those of `find_above` (NoParent, NotDir), and then those of `add_entry_in`
-/// (Exists, TooLarge). Faster if the path is in the directory of the last start line.
+/// (Exists, TooLarge).
 pub(crate) fn add_entry(
     alloc: Global,
     state: &mut LinesSoFar,
@@ -233,9 +233,6 @@ pub(crate) fn add_entry(
         (start_at (state_of state.old) text.now (claims_by rights) (content_of content))
         result (state_of state.new) Freely }
 {
-    if let Some((above, name)) = state.tree.take_spelled_directory(text) {
-        return add_sibling(alloc, state, text, above, name, rights, content);
-    }
     let path = text.to_path(alloc)?;
     let above = find_above(alloc, state, &path, text)?;
     add_entry_in(alloc, state, path, text.len(), above, rights, content)

@@ -80,18 +80,6 @@ impl Tree {
         self.directories.has_entries(directory)
     }
 
-    /// The path that the text spells, if it is in the remembered directory of the last start line;
-    /// only the last name is checked (`LastDirectory::path_in`). None for any other text, which may
-    /// still spell a path, and for every text if no directory is remembered.
-    pub(crate) fn path_in_last_directory<'a>(&self, text: &'a str) -> Option<PathText<'a>>
-        ensures { IfSome result (λ path. entry_path_of text.now ≡ Some path) }
-    {
-        match &self.last_directory {
-            Some(above) => above.directory.path_in(text),
-            None => None,
-        }
-    }
-
     /// Forgets the directory of the last start line, which is in the tree, and returns it if it is
     /// the parent of the path. None if the parent is another path, and if no directory was
     /// remembered.
@@ -108,21 +96,22 @@ impl Tree {
         None
     }
 
-    /// As `take_directory`, but by texts, which is faster, with the last name of the path. The
-    /// directory is forgotten and returned only if the text of the path begins with its text
-    /// (`LastDirectory::name_in_text`); otherwise it stays remembered.
+    /// As `take_directory`, but by the text of the path, which is faster, and returns also the path
+    /// and its last name (`LastDirectory::path_in`). None for every other text, which may still
+    /// spell a path in the directory; then the directory stays remembered.
     pub(crate) fn take_spelled_directory<'a>(
         &mut self,
-        path: &PathText<'a>,
-    ) -> Option<(Above, &'a str)>
+        text: &'a str,
+    ) -> Option<(Above, PathText<'a>, &'a str)>
         ensures same { self.new ≡ self.old }
-        ensures named { IfSome result (λ parts. path.now ≡ parts.0.directory ++ parts.1.now ∷ []) }
+        ensures path { IfSome result (λ parts. entry_path_of text.now ≡ Some parts.1) }
+        ensures named { IfSome result (λ parts. parts.1 ≡ parts.0.directory ++ parts.2.now ∷ []) }
         ensures is_there { IfSome result (λ parts.
             at_path (held_in self.old) parts.0.directory ≡ Some (Directory parts.0.number)) }
     {
         let above = self.last_directory.take()?;
-        match above.directory.name_in_text(path.text()) {
-            Some(name) => Some((above, name)),
+        match above.directory.path_in(text) {
+            Some((path, name)) => Some((above, path, name)),
             None => {
                 self.last_directory = Some(above);
                 None
@@ -131,7 +120,7 @@ impl Tree {
     }
 
     /// Remembers the directory of a start line, which must be in the tree, for the next line:
-    /// `path_in_last_directory` and `take_directory` then use it.
+    /// `take_directory` and `take_spelled_directory` then return it.
     pub(crate) fn remember_directory(&mut self, above: Above)
         requires { at_path (held_in self.old) above.directory ≡ Some (Directory above.number) }
         ensures { self.new ≡ self.old }
