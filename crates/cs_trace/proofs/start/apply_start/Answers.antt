@@ -12,9 +12,19 @@ pub returns-in_err-rights : goal.returns-in_err-rights
 returns-in_err-rights c =
     let s = state_of c.args.state.now in
     let said = start_of c.args.line in
-    let spelled = ap (λ text. or_bad_name (entry_path_of text)) (sym c.deref.ensures) in
-    let left = c.from_residual-in_err-rights in
+    let spelled = ap or_bad_name (ap entry_path_of (sym c.deref.ensures) ∙ c.in-Some.ensures.path) in
+    let left = c.from_residual in
     let p = err_from_is_err_and left.result left.ensures.1 in
-    leaves_fault left.result s _ (p.1 ∙ ap Err p.2)
+    leaves_fault left.result _ _ (p.1 ∙ ap Err p.2)
+    (rights_fail (λ p claims. start_at s p claims said.content) said.claims said.path _ _ spelled c.in_err-rights.ensures)
+
+pub returns-in_err-rights-2 : goal.returns-in_err-rights-2
+returns-in_err-rights-2 c =
+    let s = state_of c.args.state.now in
+    let said = start_of c.args.line in
+    let spelled = ap (λ text. or_bad_name (entry_path_of text)) (sym c.deref-2.ensures) in
+    let left = c.from_residual-in_err-rights-2 in
+    let p = err_from_is_err_and left.result left.ensures.1 in
+    leaves_fault left.result _ _ (p.1 ∙ ap Err p.2)
     (rights_fail (λ p claims. start_at s p claims said.content) said.claims said.path _ _ (spelled ∙ sym c.in_ok-text.ensures)
-    c.in_err-rights.ensures)
+    c.in_err-rights-2.ensures)
