@@ -23,7 +23,8 @@ abbrev pub with_directory : ℕ → List (NameBytes × Node) → List (Entry × 
 with_directory d = map_list (λ x. (entry_in d x.0, x.1))
 
 -- what those of all directories hold, the first of which has this number
-abbrev pub entries_from : {Y S : Type 0} → ℕ → List (HashMap (String Y) Node S) → List (Entry × Node)
+abbrev pub entries_from : {Y S : Type 0} → ℕ → List (HashMap (String Y) Node S)
+    → List (Entry × Node)
 entries_from d [] = []
 entries_from d (m ∷ ms) = with_directory d (by_bytes m.entries) ++ entries_from (d + 1) ms
 

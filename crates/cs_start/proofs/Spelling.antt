@@ -118,7 +118,8 @@ pub above-push : (text above name : List ℕ) (p q : Path) → text ≡ above ++
     → path_of text ≡ Some p → q ≡ parent_path p
 above-push text above name p q is entry legal spells =
     let part = path_of-entry above q entry in
-    parent_of-snoc p q name (same_Some p (q ++ name ∷ []) (sym spells ∙ (pushed text above name q is (front_of above q part.0 part.1) legal).legal))
+    parent_of-snoc p q name
+    (same_Some p (q ++ name ∷ []) (sym spells ∙ (pushed text above name q is (front_of above q part.0 part.1) legal).legal))
 
 -- what holds of each value that there is
 pub if_some : {A : Type 0} (r : Option A) (P : A → Type 0) → ((x : A) → r ≡ Some x → P x) → IfSome r P

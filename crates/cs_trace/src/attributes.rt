@@ -1,7 +1,7 @@
 //! The attributes of the files and directories while a trace is read: their owner, group and
 //! permissions, called rights. They are kept in version 2 and later, which have chmod and chown. An
 //! error means out of memory; then the caller drops them, so no clause says what is left.
-ghost use Rattle.std.specs.Prelude.{◌≡◌, ◌∷◌, ◌++◌, [], OnOk, option_map, slice_set};
+ghost use Rattle.std.specs.Prelude.{◌≡◌, OnOk, option_map, slice_set};
 ghost use Rattle.cs_trace.specs.Attributes.{attributes_after, no_attributes, rights_at};
 ghost use Rattle.cs_trace.specs.Attributes.{rights_with, with_directory, with_file, with_set};
 ghost use Rattle.cs_trace.specs.Kept.{attributes_of, with_node};

@@ -2,8 +2,6 @@
 //! so no clause says what is left of it.
 ghost use Rattle.std.specs.Prelude.{◌≡◌, ◌≢◌, [], IfErr, IfOk, Ok, Err};
 ghost use Rattle.std.specs.FinMap as map;
-ghost use Rattle.cs_start.specs.Names.{entry_path_of};
-ghost use Rattle.cs_trace.specs.Judging.{or_bad_name};
 ghost use Rattle.cs_trace.specs.Kept.{Freely, IsBounded, IsStarting, state_of};
 ghost use Rattle.cs_trace.specs.Outcomes.{Leaves};
 ghost use Rattle.cs_trace.specs.States.{first_step, start_file_at, start_link_at, start_link_step};

@@ -27,8 +27,8 @@ pub(crate) enum Verb {
 }
 
 impl Verb {
-    /// The verb with this name in any version. None if no version has one. Frequent names come first,
-    /// since the name is compared with one after another.
+    /// The verb with this name in any version. None if no version has one. Frequent names come
+    /// first, since the name is compared with one after another.
     fn of_name(name: &str) -> Option<Verb>
         ensures { result ≡ verb_named name.now }
     {

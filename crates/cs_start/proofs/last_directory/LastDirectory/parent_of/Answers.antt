@@ -1,4 +1,4 @@
-use Rattle.std.proofs.Common.{◌≡◌, ◌≤◌, Bool, rules, arith, ap, sym, subst, ◌∙◌, length}
+use Rattle.std.proofs.Common.{◌≡◌, ◌≤◌, rules, arith, ap, sym, subst, ◌∙◌, length}
 use Rattle.std.specs.String.{string_bytes}
 use Rattle.cs_tree_model.specs.Tree.{parent_path}
 use Rattle.cs_start.specs.Names.{IsFront}

@@ -1,4 +1,4 @@
-use Rattle.std.proofs.Common.{◌≡◌, [], List, length, sym, ap, subst, arith, rules}
+use Rattle.std.proofs.Common.{◌≡◌, [], length, sym, ap, subst, arith, rules}
 use Rattle.std.proofs.lemmas.List.{nil_from_length}
 use Rattle.std.specs.String.{string_bytes}
 use Rattle.cs_start.specs.Names.{IsFront}
