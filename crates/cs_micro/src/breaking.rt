@@ -108,7 +108,7 @@ fn push_micros(
             target,
             before,
             after,
-        } => push_set_attr(alloc, ops, target, before.get(), after.get()),
+        } => push_set_attr(alloc, ops, target, before, after),
         Operation::Sync(_) => Ok(()),
         Operation::Say => push_say(ops),
     }

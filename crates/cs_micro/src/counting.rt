@@ -143,9 +143,7 @@ pub fn micro_count(version: Version, operation: &Operation) -> usize
             ..
         } => count_of_write(version, *size, *offset, bytes.as_slice()),
         Operation::Truncate { size, length, .. } => count_of_truncate(version, *size, *length),
-        Operation::SetAttr { before, after, .. } => {
-            usize::from(!is_no_change(before.get(), after.get()))
-        }
+        Operation::SetAttr { before, after, .. } => usize::from(!is_no_change(before, after)),
         Operation::Sync(_) => 0,
     }
 }

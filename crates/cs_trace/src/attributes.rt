@@ -1,7 +1,7 @@
 //! The attributes of the files and directories while a trace is read: their owner, group and
 //! permissions, called rights. They are kept in version 2 and later, which have chmod and chown. An
 //! error means out of memory; then the caller drops them, so no clause says what is left.
-ghost use Rattle.std.specs.Prelude.{◌≡◌, OnOk, option_map, slice_set};
+ghost use Rattle.std.specs.Prelude.{◌≡◌, ◌∷◌, ◌++◌, [], OnOk, option_map, slice_set};
 ghost use Rattle.cs_trace.specs.Attributes.{attributes_after, no_attributes, rights_at};
 ghost use Rattle.cs_trace.specs.Attributes.{rights_with, with_directory, with_file, with_set};
 ghost use Rattle.cs_trace.specs.Kept.{attributes_of, with_node};
@@ -20,6 +20,17 @@ pub(crate) struct Attributes {
     /// The rights of each directory, by its number. In versions 2 and 3 several directories of one
     /// path have one number: the last counts.
     pub(crate) directories: Vec<Shared<Rights>>,
+}
+
+/// The rights inside a shared value; None if there is none.
+fn lend(shared: Option<&Shared<Rights>>) -> Option<&Rights>
+    ensures { option_map (λ rights. rights.now) result
+        ≡ option_map (λ shared. shared.now) shared.entry }
+{
+    match shared {
+        None => None,
+        Some(shared) => Some(shared.get()),
+    }
 }
 
 /// Replaces the rights with this number. If there are none, nothing changes; an operation that was
@@ -93,13 +104,13 @@ impl Attributes {
 
     /// The rights of the file, symbolic link or directory, by its number. None if it has none: in
     /// version 1 none are kept, and later everything has some. It takes no memory.
-    pub(crate) fn rights(&self, node: Node) -> Option<&Shared<Rights>>
+    pub(crate) fn rights(&self, node: Node) -> Option<&Rights>
         ensures { option_map (λ rights. rights.now) result
             ≡ rights_at (attributes_of self.now) node }
     {
         match node {
-            Node::Directory(number) => self.directories.get(number as usize),
-            Node::File(_, file) => self.files.get(file as usize),
+            Node::Directory(number) => lend(self.directories.get(number as usize)),
+            Node::File(_, file) => lend(self.files.get(file as usize)),
         }
     }
 
@@ -119,8 +130,8 @@ impl Attributes {
     }
 
     /// Applies an operation. A creat, a symlink and a mkdir add the rights of what they make, a
-    /// chmod and a chown set rights, which they share, and any other operation changes none. New
-    /// rights that are equal to `last` share its memory; others become `last`.
+    /// chmod and a chown set rights, and any other operation changes none. Rights that are equal to
+    /// `last` share its memory; others become `last`.
     pub(crate) fn change(
         &mut self,
         alloc: Global,
@@ -142,7 +153,10 @@ impl Attributes {
                 let rights = shared_rights(alloc, last, rights)?;
                 self.put_directory(*directory, rights)
             }
-            Operation::SetAttr { target, after, .. } => self.set(target, after.try_clone()?),
+            Operation::SetAttr { target, after, .. } => {
+                let after = shared_rights(alloc, last, after)?;
+                self.set(target, after)
+            }
             Operation::Link { .. }
             | Operation::Unlink { .. }
             | Operation::Rmdir { .. }

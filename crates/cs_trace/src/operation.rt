@@ -7,7 +7,7 @@ ghost use Rattle.cs_trace.specs.Attributes.{target_of};
 
 use cs_entries::{DirEntry, FileKind, Node};
 use cs_names::{Bytes, Path};
-use cs_start::{Rights, Shared};
+use cs_start::Rights;
 
 /// What a sync covers: which of the changes before it are on the disk after it. The table in
 /// docs/MODEL.md, "What a sync covers", says more.
@@ -55,7 +55,7 @@ pub enum Target {
 /// An operation of a trace. It names files and directories by their numbers, and an entry by its
 /// directory's number and a name: the last name of the path in the entry, which is that of the
 /// line. `kind` says whether a file is a regular file or a symbolic link.
-#[derive(Debug, Drop)]
+#[derive(Debug, Drop, PartialEq)]
 pub enum Operation {
     /// A new file without a byte, with the next number of a file.
     Creat {
@@ -149,9 +149,9 @@ pub enum Operation {
         /// What it is of.
         target: Target,
         /// Owner, group and permissions before it.
-        before: Shared<Rights>,
+        before: Rights,
         /// Owner, group and permissions after it.
-        after: Shared<Rights>,
+        after: Rights,
     },
     /// A sync of everything, of a file, of its data or a range of it, or of a directory.
     Sync(Covers),

@@ -25,7 +25,7 @@ use crate::state::LinesSoFar;
 use cs_entries::{FileKind, Node};
 use cs_names::limits::SAY_BYTES;
 use cs_names::{Bytes, Path};
-use cs_start::{PathText, Shared};
+use cs_start::PathText;
 use cs_trace_lines::{Change, OperationLine};
 use std::alloc::Global;
 
@@ -159,7 +159,7 @@ fn set_attr(
         return Err(TraceFaultKind::TooLarge);
     }
     let before = rights.try_clone()?;
-    let after = Shared::new(alloc, changed_rights(alloc, rights.get(), change)?)?;
+    let after = changed_rights(alloc, rights, change)?;
     Ok(Operation::SetAttr {
         target: Target::of(node, whole),
         before,
