@@ -24,7 +24,6 @@ from .options import NAME, RecordOptions
 from .output_streams import AcknowledgingDescriptors
 from .progress import CallProgress
 from .strace_log import FORKS
-from .terminal_errors import errors_copied
 from .translate import HANDLERS, SOCKET_HANDLERS
 
 OLDEST = (5, 18)
@@ -101,6 +100,15 @@ def stop_options() -> List[str]:
     ]
 
 
+def errors_copied(strace: subprocess.Popen[bytes]) -> ContextManager[object]:
+    """A context in which COMMAND's standard error is copied to this process's, if it is a pipe."""
+    if strace.stderr is None:
+        return nullcontext()
+    from .terminal_errors import pipe_copied
+
+    return pipe_copied(strace.stderr)
+
+
 class StraceRun:
     """A run of COMMAND under strace; to be used once. SIGINT, SIGTERM and SIGHUP are passed to
     COMMAND, and a second one kills it: what it did before is recorded. `signals` has those that
@@ -131,7 +139,7 @@ class StraceRun:
             strace = self.start_strace()
             assert strace.stdout is not None
             self.stream.start()
-            with self.progress_lines(), errors_copied(strace.stderr):
+            with self.progress_lines(), errors_copied(strace):
                 self.copy_output(strace, strace.stdout.fileno())
                 return self.wait_for_status(strace)
 

@@ -8,7 +8,7 @@ import os
 import sys
 import threading
 from contextlib import contextmanager, suppress
-from typing import IO, Iterator, Optional
+from typing import IO, Iterator
 
 # How many bytes are copied at once.
 READ_BYTES = 65_536
@@ -18,12 +18,9 @@ WAIT_SECONDS = 1.0
 
 
 @contextmanager
-def errors_copied(pipe: Optional[IO[bytes]]) -> Iterator[None]:
+def pipe_copied(pipe: IO[bytes]) -> Iterator[None]:
     """Within this, a thread copies the bytes of a pipe to standard error. At the end it waits until
-    no process has the pipe open, for WAIT_SECONDS at most. Nothing without a pipe."""
-    if pipe is None:
-        yield
-        return
+    no process has the pipe open, for WAIT_SECONDS at most."""
     thread = threading.Thread(target=copy_errors, args=(pipe,), daemon=True)
     thread.start()
     try:
