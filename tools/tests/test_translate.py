@@ -102,12 +102,12 @@ class Calls(unittest.TestCase):
             self.assertEqual(is_private(recording.trace), wanted)
             self.assertEqual(recording.trace.notes, {})
 
-    def test_a_trace_of_the_newest_version_has_the_reason_for_it(self):
+    def test_a_newest_version_that_no_option_asks_for_has_a_reason(self):
         link = ['1 symlink("f", "l") = 0']
         for version, log, wanted in (
             (3, [], ''),
-            (4, [], '--trace-version 4'),
-            (4, link, '--trace-version 4'),
+            (4, [], ''),
+            (4, link, ''),
             (None, [], ''),
             (None, link, '/l is a symbolic link'),
         ):

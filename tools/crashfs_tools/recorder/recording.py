@@ -113,8 +113,9 @@ class Recording:
     current_call is the call that is translated now; None before the first and after the last. What
     is at one of differing_paths at the end may differ from the trace, as at the troubles' paths.
     change_count is how many operations but acknowledgements were added. version_reason says
-    why the trace has the newest version, and is empty if it has another. on_acknowledged is called
-    after each acknowledgement. has_late_start means that --begin-after began the trace again."""
+    why the trace has the newest version, and is empty if it has another or if --trace-version asks
+    for it. on_acknowledged is called after each acknowledgement. has_late_start means that
+    --begin-after began the trace again."""
 
     def __init__(self, header: Header, settings: TraceSettings) -> None:
         """Begins a trace that has only the header, as begin_trace() does, and makes the streams
@@ -137,9 +138,7 @@ class Recording:
         version = self.settings.version or WRITTEN_VERSION
         self.trace = Trace(header, version=version, profile=profile, block=block)
         self.tree = Tree(header.owner, header.group, header.mode, block, version, profile)
-        self.version_reason = (
-            f'--trace-version {NEWEST_VERSION}' if version >= NEWEST_VERSION else ''
-        )
+        self.version_reason = ''
         for trouble in self.troubles.values():
             trouble.lines.clear()
         if profile == JOURNAL:
