@@ -124,15 +124,21 @@ class Tree(InFolder):
             self.assertEqual(programs.commit_of_tree(), f'{commit}-dirty')
 
 
+# What the programs of a release print.
+PROGRAMS = dict(
+    commit_of_tree=lambda: 'c1',
+    kit_version=lambda: 'kit-1',
+    seconds_of_commit=lambda: 5,
+    linker_version=lambda: 'gcc 1',
+)
+
+
 class Origin(InFolder):
     def test_the_time_is_that_of_the_commit_unless_it_is_given(self) -> None:
         log = Path(self.write('log', 'last lines'))
         with mock.patch.multiple(
             command,
-            commit_of_tree=lambda: 'c1',
-            kit_version=lambda: 'kit-1',
-            seconds_of_commit=lambda: 5,
-            linker_version=lambda: 'gcc 1',
+            **PROGRAMS,
             counts_of_passed_gate=lambda *words: ' '.join(words),
         ), mock.patch.dict(os.environ):
             os.environ.pop('SOURCE_DATE_EPOCH', None)
@@ -167,10 +173,7 @@ class Origin(InFolder):
         log.write_bytes(b'ok \xff')
         with mock.patch.multiple(
             command,
-            commit_of_tree=lambda: 'c1',
-            kit_version=lambda: 'kit-1',
-            seconds_of_commit=lambda: 5,
-            linker_version=lambda: 'gcc 1',
+            **PROGRAMS,
             counts_of_passed_gate=lambda text, *_: text,
         ):
             self.assertEqual(
